@@ -1,0 +1,116 @@
+-- What a call asks for, or the refusal that it earns before any walk (document 01, 'Who can cause a refusal').
+use Prim.Native.Nat.{ℕ, zero, suc, _+_}
+use mathlib.Core.Bool.{Bool, true, false}
+use mathlib.Core.Option.{Option, none, some}
+use mathlib.Core.List.{List, [], _∷_}
+use Rattle.format.specs.Refusal.{Refusal, short-buffer, absent-argument}
+use Rattle.format.specs.Lists.{entry}
+use Rattle.terms.specs.Term.{Term, Values}
+use Rattle.terms.specs.Equation.{Equation, Direction, left-right, right-left, direction-of}
+use Rattle.sheet.specs.Sheet.{Task, run, judgement, comparison, Sheet}
+use Rattle.sheet.specs.Reading.{Reading, refused-at, accepted, read}
+use Rattle.solving.specs.Walk.{solved, refused, solve}
+use Rattle.reducing.specs.Test.{given-values}
+
+-- "12, no such equation, direction or task, or the task is of another kind (line 0)."
+unfoldable pub found : {A : Type 0} → Option A → Reading A
+found none = refused-at absent-argument 0
+found (some a) = accepted a
+
+unfoldable pub find : {A : Type 0} → (Sheet → Option A) → Reading Sheet → Reading A
+unfolding found
+find look (refused-at r line) = refused-at r line
+find look (accepted s) = found (look s)
+
+-- "Order: 11; 1; then line by line 2, 3, ...; then 12". `look` finds what the call asks for in the sheet.
+unfoldable pub asked : {A : Type 0} → (long-enough : Bool) → (sheet : List ℕ) → (look : Sheet → Option A) → Reading A
+unfolding find read
+asked false sheet look = refused-at short-buffer 0
+asked true sheet look = find look (read sheet)
+
+-- "11, a lent buffer is too short (line 0)."
+
+-- Compare asks for a task of two terms.
+pub record Pair : Type 0 where
+  pub first : Term
+  pub second : Term
+
+unfoldable pub comparison-in : Option Task → Option Pair
+comparison-in none = none
+comparison-in (some (run k s)) = none
+comparison-in (some (judgement e d ts)) = none
+comparison-in (some (comparison s t)) = some (record { first = s; second = t })
+
+unfoldable pub comparison-task : (task : ℕ) → Sheet → Option Pair
+unfolding comparison-in entry
+comparison-task task s = comparison-in (entry (s .tasks) task)
+
+-- Solve asks for an equation in a direction.
+pub record Side : Type 0 where
+  pub equation : Equation
+  pub direction : Direction
+
+unfoldable pub side-in : Option Equation → Option Direction → Option Side
+side-in none d = none
+side-in (some e) none = none
+side-in (some e) (some d) = some (record { equation = e; direction = d })
+
+unfoldable pub solve-side : (equation direction : ℕ) → Sheet → Option Side
+unfolding side-in entry direction-of
+solve-side e d s = side-in (entry (s .equations) e) (direction-of d)
+
+-- Judge asks for a task of an equation, a direction and values, over all equations of the sheet.
+pub record Judgement : Type 0 where
+  pub equations : List Equation
+  pub equation : Equation
+  pub direction : Direction
+  pub values : Values
+
+unfoldable pub values-in : List Equation → Option Equation → Direction → Values → Option Judgement
+values-in es none d ρ = none
+values-in es (some e) d ρ = some (record { equations = es; equation = e; direction = d; values = ρ })
+
+unfoldable pub judgement-in : List Equation → Option Task → Option Judgement
+unfolding values-in entry given-values
+judgement-in es none = none
+judgement-in es (some (run k s)) = none
+judgement-in es (some (judgement e d ts)) = values-in es (entry es e) d (given-values ts)
+judgement-in es (some (comparison s t)) = none
+
+unfoldable pub judgement-task : (task : ℕ) → Sheet → Option Judgement
+unfolding judgement-in entry
+judgement-task task s = judgement-in (s .equations) (entry (s .tasks) task)
+
+-- Run asks for a task of a step limit and a subject, over all equations of the sheet.
+pub record Reduction : Type 0 where
+  pub equations : List Equation
+  pub limit : ℕ
+  pub subject : Term
+
+unfoldable pub reduction-in : List Equation → Option Task → Option Reduction
+reduction-in es none = none
+reduction-in es (some (run k s)) = some (record { equations = es; limit = k; subject = s })
+reduction-in es (some (judgement e d ts)) = none
+reduction-in es (some (comparison s t)) = none
+
+unfoldable pub reduction-task : (task : ℕ) → Sheet → Option Reduction
+unfolding reduction-in entry
+reduction-task task s = reduction-in (s .equations) (entry (s .tasks) task)
+
+-- "8 to 10 ... The line is the equation's." Frame 01 is line 1, and the equations follow.
+unfoldable pub equation-line : ℕ → ℕ
+equation-line e = e + 2
+
+pub record WalkRefusal : Type 0 where
+  pub refusal : Refusal
+  pub line : ℕ
+
+-- "Judge and run first walk every equation and direction in order": the first refusal of their walks, `e` the number of the first equation.
+unfoldable pub first-refusal : (e : ℕ) → List Equation → Option WalkRefusal
+unfolding solve equation-line
+first-refusal e [] = none
+first-refusal e (q ∷ qs) =
+    elim (solve q left-right) [
+      | refused r ↦ some (record { refusal = r; line = equation-line e })
+      | solved ls n ↦ elim (solve q right-left) [ refused r ↦ some (record { refusal = r; line = equation-line e }) | solved ls′ n′ ↦ first-refusal (suc e) qs ]
+    ]

@@ -1,0 +1,29 @@
+-- Numbers returned and lent buffers (document 01, 'Calls and lent memory').
+use Prim.Native.Nat.{ℕ, _+_, _*_, _^_}
+use mathlib.Core.List.{List, _++_}
+use lib.ListN.{length, drop, replicate}
+use Rattle.format.specs.Limits.{table-bytes, scratch-bytes}
+use Rattle.format.specs.Refusal.{Refusal, number}
+
+-- "Each returns one 64-bit number: lowest byte the refusal, or 0; above it 16-bit fields, lowest first, unused ones 0."
+unfoldable pub fields : (first second third : ℕ) → ℕ
+fields a b c = 2 ^ 8 * a + 2 ^ 24 * b + 2 ^ 40 * c
+
+-- "Refusal: line."
+unfoldable pub refusal : Refusal → (line : ℕ) → ℕ
+unfolding number fields
+refusal r line = number r + fields line 0 0
+
+-- The buffer with `bytes` first and the rest unchanged: "Longer buffers are served and their excess is untouched."
+unfoldable pub written : (bytes buffer : List ℕ) → List ℕ
+written bytes buffer = bytes ++ drop (length bytes) buffer
+
+-- "scratch's first 57,344 bytes are 00"
+unfoldable pub cleared : List ℕ → List ℕ
+unfolding written
+cleared scratch = written (replicate scratch-bytes 0x00) scratch
+
+-- "the table's first 22,695 bytes ff"
+unfoldable pub blanked : List ℕ → List ℕ
+unfolding written
+blanked table = written (replicate table-bytes 0xff) table

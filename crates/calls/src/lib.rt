@@ -1,0 +1,1 @@
+// The five calls. Their outcomes stand in specs/.

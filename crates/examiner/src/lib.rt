@@ -1,0 +1,1 @@
+// What the program prints. The listing stands in specs/.

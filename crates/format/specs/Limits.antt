@@ -1,0 +1,77 @@
+-- The fixed numbers of document 01, each named here and nowhere else.
+use Prim.Native.Nat.{ℕ, _+_, _*_}
+
+-- 'The sheet'.
+-- "A sheet is text of 1 to 16,384 bytes."
+abbrev pub max-text : ℕ
+max-text = 16384
+
+-- "Each line is an even count, 2 to 326, of digits"
+abbrev pub max-line-digits : ℕ
+max-line-digits = 326
+
+-- "count n (1 to 16), then n arities (0 to 4)"
+abbrev pub max-symbols : ℕ
+max-symbols = 16
+
+abbrev pub max-arity : ℕ
+max-arity = 4
+
+-- "80 to 87 variables"
+abbrev pub variable-count : ℕ
+variable-count = 8
+
+abbrev pub first-variable : ℕ
+first-variable = 0x80
+
+-- "then 1 to 16 of 02; then 0 to 32 tasks"
+abbrev pub max-equations : ℕ
+max-equations = 16
+
+abbrev pub max-tasks : ℕ
+max-tasks = 32
+
+-- "An equation side has at most 32 nodes; the terms of one task together at most 160."
+abbrev pub max-side-nodes : ℕ
+max-side-nodes = 32
+
+abbrev pub max-task-nodes : ℕ
+max-task-nodes = 160
+
+-- "step limit k (00 to ff)"
+abbrev pub max-steps : ℕ
+max-steps = 0xff
+
+-- 'The walk that solves s > t'.
+-- "up to 40 elements", "at most 255 lines", "At most 10,000 turns."
+abbrev pub max-elements : ℕ
+max-elements = 40
+
+abbrev pub max-lines : ℕ
+max-lines = 255
+
+abbrev pub max-turns : ℕ
+max-turns = 10000
+
+-- Positions of an equation: those of two sides.
+abbrev pub position-count : ℕ
+position-count = 2 * max-side-nodes
+
+-- "records of 89 bytes: 8 binding positions (ff for none), element count, 40 pairs of positions"
+abbrev pub record-bytes : ℕ
+record-bytes = variable-count + 1 + 2 * max-elements
+
+-- 'Calls and lent memory'.
+-- "table of 22,695 bytes (solve, judge, run), scratch of 57,344 (all but check), term of 160 and log of 765 (run)"
+abbrev pub table-bytes : ℕ
+table-bytes = max-lines * record-bytes
+
+abbrev pub scratch-bytes : ℕ
+scratch-bytes = 57344
+
+abbrev pub term-bytes : ℕ
+term-bytes = max-task-nodes
+
+-- Three bytes for each step, and at most ff steps: "step limit k (00 to ff)".
+abbrev pub log-bytes : ℕ
+log-bytes = 3 * max-steps

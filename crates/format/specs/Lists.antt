@@ -1,0 +1,19 @@
+-- Tests and look-ups on lists.
+use Prim.Native.Nat.{ℕ, zero, suc}
+use mathlib.Core.Bool.{Bool, true, false, _&&_, _||_}
+use mathlib.Core.Option.{Option, none, some}
+use mathlib.Core.List.{List, [], _∷_}
+
+unfoldable pub any : {A : Type 0} → (A → Bool) → List A → Bool
+any f [] = false
+any f (x ∷ xs) = f x || any f xs
+
+unfoldable pub all : {A : Type 0} → (A → Bool) → List A → Bool
+all f [] = true
+all f (x ∷ xs) = f x && all f xs
+
+-- The entry at place `i`, counted from 0.
+unfoldable pub entry : {A : Type 0} → List A → ℕ → Option A
+entry [] i = none
+entry (x ∷ xs) zero = some x
+entry (x ∷ xs) (suc i) = entry xs i

@@ -1,0 +1,1 @@
+// The format's numbers, byte classes and refusals. The definitions stand in specs/.

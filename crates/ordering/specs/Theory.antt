@@ -1,0 +1,8 @@
+-- The laws of the ordering.
+pub mod Subterm
+pub mod Laws
+pub mod Context
+pub mod Decide
+pub mod Total
+pub mod Literal
+pub mod Examples

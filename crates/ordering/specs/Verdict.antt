@@ -1,0 +1,21 @@
+-- The verdict of a comparison (document 01, 'Ground comparison' and 'Calls and lent memory').
+use Prim.Native.Nat.{ℕ}
+use Rattle.terms.specs.Term.{Term, identical?}
+use Rattle.ordering.specs.Theory.Decide.{exceeds?}
+
+-- "Compare: 0 smaller, 1 equal, 2 greater."
+pub data Verdict : Type 0 where
+  smaller : Verdict
+  equal : Verdict
+  greater : Verdict
+
+unfoldable pub verdict-number : Verdict → ℕ
+verdict-number smaller = 0
+verdict-number equal = 1
+verdict-number greater = 2
+
+-- Two ground terms are equal if they are identical; else the first is greater if "s > t" by L1 to L3; else it is smaller.
+-- `verdict-smaller` of Theory/Total says that then "t > s".
+unfoldable pub verdict : Term → Term → Verdict
+unfolding identical? exceeds?
+verdict s t = elim (identical? s t) [ yes e ↦ equal | no n ↦ elim (exceeds? s t) [ yes g ↦ greater | no m ↦ smaller ] ]

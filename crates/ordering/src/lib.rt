@@ -1,0 +1,1 @@
+// The lexicographic path ordering. The definitions and its theory stand in specs/.

@@ -1,0 +1,71 @@
+-- Matching and usable directions (document 01, 'Runs').
+use Prim.Native.Nat.{ℕ, zero, suc}
+use native.Mathlib.Decide.{ℕ-discrete}
+use mathlib.Core.Path.{_≡_}
+use mathlib.Core.Bool.{Bool, true, false, _||_, _&&_}
+use mathlib.Core.Option.{Option, none, some, Option·getD}
+use mathlib.Core.List.{List, [], _∷_}
+use lib.ListN.{getD, set, replicate}
+use lib.Dec.{eqb}
+use Rattle.format.specs.Limits.{variable-count}
+use Rattle.terms.specs.Term.{Term, Terms, var, app, nil, cons, identical?, Values}
+use Rattle.terms.specs.Equation.{Equation, Direction, source, target}
+
+-- The terms that the variables met so far: a slot for each variable.
+abbrev pub Match : Type 0
+Match = List (Option Term)
+
+unfoldable pub no-match : Match
+no-match = replicate variable-count none
+
+-- A variable meets a term: "a repeated variable meets identical terms".
+unfoldable pub meet : Match → ℕ → Term → Option Term → Option Match
+unfolding identical?
+meet m v t none = some (set m v (some t))
+meet m v t (some u) = elim (identical? u t) [ yes e ↦ some m | no n ↦ none ]
+
+-- The match of a pattern with a term, if there is one, beyond what the variables met before.
+unfoldable mutual
+  unfolding meet ℕ-discrete
+
+  pub match : Term → Term → Match → Option Match
+  match (var v) t m = meet m v t (getD m v none)
+  match (app f ss) (var w) m = none
+  match (app f ss) (app g ts) m = elim (ℕ-discrete f g) [ yes e ↦ match-each ss ts m | no n ↦ none ]
+
+  pub match-each : Terms → Terms → Match → Option Match
+  match-each nil nil m = some m
+  match-each nil (cons t ts) m = none
+  match-each (cons s ss) nil m = none
+  match-each (cons s ss) (cons t ts) m = elim (match s t m) [ none ↦ none | some n ↦ match-each ss ts n ]
+
+-- The values that a match gives the variables; one that was not met stands for itself.
+unfoldable pub values-of : Match → Values
+values-of m v = Option·getD (getD m v none) (var v)
+
+-- Does the variable `v` occur in a term?
+unfoldable mutual
+  pub has-variable : ℕ → Term → Bool
+  has-variable v (var w) = eqb v w
+  has-variable v (app f ts) = have-variable v ts
+
+  pub have-variable : ℕ → Terms → Bool
+  have-variable v nil = false
+  have-variable v (cons t ts) = has-variable v t || have-variable v ts
+
+-- Does every variable of the first term occur in the second?
+unfoldable mutual
+  unfolding has-variable
+
+  pub covered : Term → Term → Bool
+  covered (var v) s = has-variable v s
+  covered (app f ts) s = all-covered ts s
+
+  pub all-covered : Terms → Term → Bool
+  all-covered nil s = true
+  all-covered (cons t ts) s = covered t s && all-covered ts s
+
+-- "A direction is usable if every variable of its target side occurs in its source side."
+unfoldable pub usable : Equation → Direction → Bool
+unfolding covered source target
+usable e d = covered (target e d) (source e d)

@@ -1,0 +1,98 @@
+-- Runs (document 01, 'Runs'), over the test that a match has to pass.
+use Prim.Native.Nat.{ℕ, zero, suc}
+use mathlib.Core.Bool.{Bool, true, false, _&&_}
+use mathlib.Core.Option.{Option, none, some}
+use mathlib.Core.List.{List, [], _∷_, map}
+use lib.ListN.{length}
+use lib.Dec.{ltb}
+use Rattle.format.specs.Limits.{max-task-nodes}
+use Rattle.terms.specs.Term.{Term, size, Values, inst}
+use Rattle.terms.specs.Position.{subterms, replace}
+use Rattle.terms.specs.Equation.{Equation, Direction, left-right, right-left, source, target}
+use Rattle.reducing.specs.Match.{Match, no-match, match, values-of, usable}
+
+-- "The steps (equation, direction, position)", each with the term that it gives.
+pub record Step : Type 0 where
+  pub equation : ℕ
+  pub direction : Direction
+  pub position : ℕ
+  pub result : Term
+
+pub data Ending : Type 0 where
+  -- "none found, ending 00; k steps done, ending 01; result above 160 nodes, ending 02"
+  none-found : Ending
+  limit-reached : Ending
+  result-too-large : Ending
+
+unfoldable pub ending-number : Ending → ℕ
+ending-number none-found = 0
+ending-number limit-reached = 1
+ending-number result-too-large = 2
+
+pub record Run : Type 0 where
+  pub steps : List Step
+  pub ending : Ending
+
+unfoldable pub after-step : Step → Run → Run
+after-step s r = record { steps = s ∷ r .steps; ending = r .ending }
+
+module _ (test : Equation → Direction → Values → Bool) where
+  -- One direction at one position of the subject: "usable, whose source side matches (a repeated variable meets identical terms)" and whose match passes the test.
+  -- "The matched part becomes the target's instance."
+  unfoldable pub try : (subject : Term) → (p : ℕ) → (part : Term) → (n : ℕ) → Equation → Direction → Option Step
+  unfolding usable match no-match values-of replace inst source target
+  try subject p part n e d =
+      elim (usable e d) [
+        | false ↦ none
+        | true ↦ elim (match (source e d) part no-match) [
+          | none ↦ none
+          | some m ↦ elim (test e d (values-of m)) [
+            | false ↦ none
+            | true ↦ some (record { equation = n; direction = d; position = p; result = replace subject p (inst (values-of m) (target e d)) })
+          ]
+        ]
+      ]
+
+  -- "equations ascending, direction 00 before 01", the first of them number `n`.
+  unfoldable pub try-equations : Term → ℕ → Term → (n : ℕ) → List Equation → Option Step
+  unfolding try
+  try-equations subject p part n [] = none
+  try-equations subject p part n (e ∷ es) =
+      elim (try subject p part n e left-right) [
+        | some s ↦ some s
+        | none ↦ elim (try subject p part n e right-left) [ some s ↦ some s | none ↦ try-equations subject p part (suc n) es ]
+      ]
+
+  -- "positions of the subject ascending", the first of these parts at `p`.
+  unfoldable pub try-positions : List Equation → Term → (p : ℕ) → (parts : List Term) → Option Step
+  unfolding try-equations
+  try-positions es subject p [] = none
+  try-positions es subject p (part ∷ parts) = elim (try-equations subject p part 0 es) [ some s ↦ some s | none ↦ try-positions es subject (suc p) parts ]
+
+  -- "One step"
+  unfoldable pub step : List Equation → Term → Option Step
+  unfolding try-positions subterms
+  step es subject = try-positions es subject 0 (subterms subject)
+
+  -- "Before each step: none found, ending 00; k steps done, ending 01; result above 160 nodes, ending 02; else the step."
+  unfoldable pub run : List Equation → (k : ℕ) → (subject : Term) → Run
+  unfolding step after-step size
+  run es zero subject = elim (step es subject) [ none ↦ record { steps = []; ending = none-found } | some s ↦ record { steps = []; ending = limit-reached } ]
+  run es (suc k) subject =
+      elim (step es subject) [
+        | none ↦ record { steps = []; ending = none-found }
+        | some s ↦ elim (ltb max-task-nodes (size (s .result))) [
+          | true ↦ record { steps = []; ending = result-too-large }
+          | false ↦ after-step s (run es k (s .result))
+        ]
+      ]
+
+-- "The terms of a run are its frame's term and then the result of each step."
+unfoldable pub terms-of-run : Term → List Step → List Term
+terms-of-run subject [] = subject ∷ []
+terms-of-run subject (s ∷ steps) = subject ∷ terms-of-run (s .result) steps
+
+-- The last of them: "Ending 02 keeps the term before it."
+unfoldable pub last-term : Term → List Step → Term
+last-term subject [] = subject
+last-term subject (s ∷ steps) = last-term (s .result) steps

@@ -1,0 +1,47 @@
+-- The two tests of document 01, 'Runs': that of a run and that of the reference run.
+use Prim.Native.Nat.{ℕ, zero, suc}
+use mathlib.Core.Bool.{Bool, true, false}
+use mathlib.Core.List.{List}
+use lib.Dec.{ltb}
+use Rattle.terms.specs.Term.{Term, Terms, var, nth, Values, inst}
+use Rattle.terms.specs.Equation.{Equation, Direction, source, target, value}
+use Rattle.ordering.specs.Theory.Decide.{exceeds?}
+use Rattle.solving.specs.Line.{Line}
+use Rattle.solving.specs.Walk.{Walked, solved, refused, solve}
+use Rattle.solving.specs.Judge.{first-holding}
+use Rattle.reducing.specs.Run.{Run, run}
+
+-- The first line of a direction's table that holds at values, counted from 1; 0 where none holds.
+unfoldable pub holding-in : Equation → Values → Walked → ℕ
+unfolding first-holding value
+holding-in e ρ (solved table n) = first-holding ρ (value e ρ) table
+holding-in e ρ (refused r) = 0
+
+unfoldable pub holding-line : Equation → Direction → Values → ℕ
+unfolding holding-in solve
+holding-line e d ρ = holding-in e ρ (solve e d)
+
+-- "one of whose lines holds at the match"
+unfoldable pub line-test : Equation → Direction → Values → Bool
+unfolding holding-line
+line-test e d ρ = ltb 0 (holding-line e d ρ)
+
+-- "whose source instance exceeds its target instance by L1 to L3"
+unfoldable pub reference-test : Equation → Direction → Values → Bool
+unfolding exceeds? inst source target
+reference-test e d ρ = elim (exceeds? (inst ρ (source e d)) (inst ρ (target e d))) [ yes g ↦ true | no n ↦ false ]
+
+-- "the run is the one that this section defines over these tables"
+unfoldable pub line-run : List Equation → (k : ℕ) → (subject : Term) → Run
+unfolding run line-test
+line-run = run line-test
+
+-- "The reference run is this text with 'one of whose lines holds' replaced by 'whose source instance exceeds its target instance by L1 to L3'."
+unfoldable pub reference-run : List Equation → (k : ℕ) → (subject : Term) → Run
+unfolding run reference-test
+reference-run = run reference-test
+
+-- The values of a judgement: those of the frame, from variable 80 upward.
+unfoldable pub given-values : Terms → Values
+unfolding nth
+given-values ts v = nth ts v (var v)

@@ -1,0 +1,1 @@
+// Matching, judging and runs. The definitions and their theory stand in specs/.

@@ -1,0 +1,164 @@
+-- The frames of a sheet and the refusals 3 to 7 that they earn (document 01, 'The sheet' and 'Who can cause a refusal').
+use Prim.Native.Nat.{ℕ, zero, suc, _+_}
+use mathlib.Core.Bool.{Bool, true, false, _&&_, not}
+use mathlib.Core.Option.{Option, none, some}
+use mathlib.Core.List.{List, [], _∷_, _++_}
+use lib.ListN.{length}
+use lib.Dec.{leb, ltb, eqb}
+use Rattle.format.specs.Limits.{max-symbols, max-arity, max-equations, max-tasks, max-side-nodes, max-task-nodes}
+use Rattle.format.specs.Refusal.{Refusal, frame-order, symbol-frame, frame-bytes, not-ground, absent-direction, Result, refuse, give, Result·map}
+use Rattle.format.specs.Byte.{Class, symbol, variable, foreign, class-of}
+use Rattle.format.specs.Lists.{any, all, entry}
+use Rattle.terms.specs.Term.{Term, Terms, var, nth, arity}
+use Rattle.terms.specs.Equation.{Equation, Direction, direction-of}
+use Rattle.terms.specs.Prefix.{terms-of}
+use Rattle.sheet.specs.Sheet.{Task, run, judgement, comparison, Sheet, equation-width}
+
+-- What the reader knows: nothing before the first line, then the sheet so far.
+pub data State : Type 0 where
+  start : State
+  within : Sheet → State
+
+-- "its first byte is the kind"
+pub data Kind : Type 0 where
+  symbols-kind : Kind
+  equation-kind : Kind
+  run-kind : Kind
+  judgement-kind : Kind
+  comparison-kind : Kind
+  unknown-kind : Kind
+
+unfoldable pub kind-of : ℕ → Kind
+kind-of zero = unknown-kind
+kind-of (suc zero) = symbols-kind
+kind-of (suc (suc zero)) = equation-kind
+kind-of (suc (suc (suc zero))) = run-kind
+kind-of (suc (suc (suc (suc zero)))) = judgement-kind
+kind-of (suc (suc (suc (suc (suc zero))))) = comparison-kind
+kind-of (suc (suc (suc (suc (suc (suc n)))))) = unknown-kind
+
+-- "Frame 01 comes first, once; then 1 to 16 of 02; then 0 to 32 tasks (03, 04, 05 in any order)."
+unfoldable pub takes-equation : Sheet → Bool
+takes-equation s = eqb (length (s .tasks)) 0 && ltb (length (s .equations)) max-equations
+
+unfoldable pub takes-task : Sheet → Bool
+takes-task s = leb 1 (length (s .equations)) && ltb (length (s .tasks)) max-tasks
+
+unfoldable pub in-order : State → Kind → Bool
+unfolding takes-equation takes-task
+in-order start symbols-kind = true
+in-order start equation-kind = false
+in-order start run-kind = false
+in-order start judgement-kind = false
+in-order start comparison-kind = false
+in-order start unknown-kind = false
+in-order (within s) symbols-kind = false
+in-order (within s) equation-kind = takes-equation s
+in-order (within s) run-kind = takes-task s
+in-order (within s) judgement-kind = takes-task s
+in-order (within s) comparison-kind = takes-task s
+in-order (within s) unknown-kind = false
+
+-- "01: count n (1 to 16), then n arities (0 to 4). ... At least one arity is 0."
+unfoldable pub symbols-right : ℕ → List ℕ → Bool
+unfolding all any
+symbols-right n arities = leb 1 n && leb n max-symbols && eqb (length arities) n && all (λ a. leb a max-arity) arities && any (λ a. eqb a 0) arities
+
+unfoldable pub symbols-body : List ℕ → Result State
+unfolding symbols-right
+symbols-body [] = refuse symbol-frame
+symbols-body (n ∷ arities) = elim (symbols-right n arities) [ true ↦ give (within (record { arities = arities; equations = []; tasks = [] })) | false ↦ refuse symbol-frame ]
+
+-- How many terms are still to come after a node, where `need` were to come behind it.
+unfoldable pub after-node : (arities : List ℕ) → (ground : Bool) → Class → (need : ℕ) → Result ℕ
+unfolding arity
+after-node arities ground (symbol f) need = elim (ltb f (length arities)) [ true ↦ give (arity arities f + need) | false ↦ refuse frame-bytes ]
+after-node arities true (variable v) need = refuse not-ground
+after-node arities false (variable v) need = give need
+after-node arities ground foreign need = refuse frame-bytes
+
+-- `need` terms in a row that may have `room` nodes together, byte by byte: the bytes behind them, or "the first of 5 and 6 by byte (5 where one byte earns both)".
+unfoldable pub scan : (arities : List ℕ) → (ground : Bool) → List ℕ → (need room : ℕ) → Result (List ℕ)
+unfolding after-node class-of
+scan arities ground [] zero room = give []
+scan arities ground [] (suc need) room = refuse frame-bytes
+scan arities ground (b ∷ bs) zero room = give (b ∷ bs)
+scan arities ground (b ∷ bs) (suc need) zero = refuse frame-bytes
+scan arities ground (b ∷ bs) (suc need) (suc room) = elim (after-node arities ground (class-of b) need) [ refuse r ↦ refuse r | give n ↦ scan arities ground bs n room ]
+
+-- "bytes left over"
+unfoldable pub all-read : Terms → Result (List ℕ) → Result Terms
+all-read ts (refuse r) = refuse r
+all-read ts (give []) = give ts
+all-read ts (give (b ∷ bs)) = refuse frame-bytes
+
+-- "the terms of one task together at most 160"
+unfoldable pub ground-terms : (arities : List ℕ) → ℕ → List ℕ → Result Terms
+unfolding all-read scan terms-of
+ground-terms arities n bs = all-read (terms-of arities bs) (scan arities true bs n max-task-nodes)
+
+-- "An equation side has at most 32 nodes"
+unfoldable pub scan-sides : (arities : List ℕ) → List ℕ → Result (List ℕ)
+unfolding scan
+scan-sides arities bs = elim (scan arities false bs 1 max-side-nodes) [ refuse r ↦ refuse r | give rest ↦ scan arities false rest 1 max-side-nodes ]
+
+unfoldable pub first-term : Terms → Term
+unfolding nth
+first-term ts = nth ts 0 (var 0)
+
+unfoldable pub second-term : Terms → Term
+unfolding nth
+second-term ts = nth ts 1 (var 0)
+
+-- "02: an equation, left term then right term."
+unfoldable pub equation-body : (arities : List ℕ) → List ℕ → Result Equation
+unfolding all-read scan-sides terms-of first-term second-term Result·map
+equation-body arities bs = Result·map (λ ts. record { left = first-term ts; right = second-term ts }) (all-read (terms-of arities bs) (scan-sides arities bs))
+
+-- "03: a run: step limit k (00 to ff), a ground term."
+unfoldable pub run-body : Sheet → List ℕ → Result Task
+unfolding ground-terms first-term Result·map
+run-body s [] = refuse frame-bytes
+run-body s (k ∷ bs) = Result·map (λ ts. run k (first-term ts)) (ground-terms (s .arities) 1 bs)
+
+-- "04: a judgement: equation number, direction (00 or 01), then ground values for variables 80 up to the highest of that equation, one each".
+-- "7 and then the first of 5 and 6", "except that a 04 frame too short for equation and direction is 5 before 7".
+unfoldable pub values-body : Sheet → ℕ → Option Equation → Option Direction → List ℕ → Result Task
+unfolding ground-terms equation-width Result·map
+values-body s e none d bs = refuse absent-direction
+values-body s e (some q) none bs = refuse absent-direction
+values-body s e (some q) (some d) bs = Result·map (λ ts. judgement e d ts) (ground-terms (s .arities) (equation-width q) bs)
+
+unfoldable pub judgement-body : Sheet → List ℕ → Result Task
+unfolding values-body entry direction-of
+judgement-body s [] = refuse frame-bytes
+judgement-body s (e ∷ []) = refuse frame-bytes
+judgement-body s (e ∷ d ∷ bs) = values-body s e (entry (s .equations) e) (direction-of d) bs
+
+-- "05: two ground terms to compare."
+unfoldable pub comparison-body : Sheet → List ℕ → Result Task
+unfolding ground-terms first-term second-term Result·map
+comparison-body s bs = Result·map (λ ts. comparison (first-term ts) (second-term ts)) (ground-terms (s .arities) 2 bs)
+
+unfoldable pub with-equation : Sheet → Equation → State
+with-equation s e = within (record { arities = s .arities; equations = s .equations ++ (e ∷ []); tasks = s .tasks })
+
+unfoldable pub with-task : Sheet → Task → State
+with-task s t = within (record { arities = s .arities; equations = s .equations; tasks = s .tasks ++ (t ∷ []) })
+
+-- The body of a frame whose kind is in order.
+unfoldable pub read-body : State → Kind → List ℕ → Result State
+unfolding symbols-body equation-body run-body judgement-body comparison-body with-equation with-task Result·map
+read-body start kind bs = symbols-body bs
+read-body (within s) symbols-kind bs = refuse frame-order
+read-body (within s) equation-kind bs = Result·map (with-equation s) (equation-body (s .arities) bs)
+read-body (within s) run-kind bs = Result·map (with-task s) (run-body s bs)
+read-body (within s) judgement-kind bs = Result·map (with-task s) (judgement-body s bs)
+read-body (within s) comparison-kind bs = Result·map (with-task s) (comparison-body s bs)
+read-body (within s) unknown-kind bs = refuse frame-order
+
+-- One frame: "3, and 4, or 7 and then the first of 5 and 6".
+unfoldable pub read-frame : State → List ℕ → Result State
+unfolding kind-of in-order read-body
+read-frame state [] = refuse frame-order
+read-frame state (kind ∷ body) = elim (in-order state (kind-of kind)) [ true ↦ read-body state (kind-of kind) body | false ↦ refuse frame-order ]

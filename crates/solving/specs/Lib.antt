@@ -1,0 +1,4 @@
+pub mod Line
+pub mod Walk
+pub mod Holds
+pub mod Judge

@@ -1,0 +1,48 @@
+-- Lines of a table (document 01, 'The walk that solves s > t').
+use Prim.Native.Nat.{ℕ, zero, suc, _-_, _*_}
+use mathlib.Core.Option.{Option, none, some}
+use mathlib.Core.List.{List, [], _∷_, _++_, map}
+use lib.ListN.{length, getD, set, replicate}
+use Rattle.format.specs.Limits.{variable-count, max-elements}
+
+-- "bindings (variable to position)": a slot for each variable.
+abbrev pub Bindings : Type 0
+Bindings = List (Option ℕ)
+
+unfoldable pub no-bindings : Bindings
+no-bindings = replicate variable-count none
+
+abbrev pub lookup : Bindings → ℕ → Option ℕ
+lookup θ v = getD θ v none
+
+abbrev pub bind : Bindings → ℕ → ℕ → Bindings
+bind θ v p = set θ v (some p)
+
+-- "An element is an equality or an inequality, each between two positions."
+pub data Element : Type 0 where
+  equal : ℕ → ℕ → Element
+  greater : ℕ → ℕ → Element
+
+-- "A line has bindings (variable to position) and up to 40 elements."
+pub data Line : Type 0 where
+  line : Bindings → List Element → Line
+
+-- "records of 89 bytes: 8 binding positions (ff for none), element count, 40 pairs of positions (ff after the last)"
+unfoldable pub binding-byte : Option ℕ → ℕ
+binding-byte none = 0xff
+binding-byte (some p) = p
+
+unfoldable pub element-bytes : List Element → List ℕ
+element-bytes [] = []
+element-bytes (equal p q ∷ es) = p ∷ q ∷ element-bytes es
+element-bytes (greater p q ∷ es) = p ∷ q ∷ element-bytes es
+
+unfoldable pub record-of : Line → List ℕ
+unfolding binding-byte element-bytes
+record-of (line θ es) = map binding-byte θ ++ length es ∷ element-bytes es ++ replicate (2 * (max-elements - length es)) 0xff
+
+-- "The table is written as records"
+unfoldable pub records : List Line → List ℕ
+unfolding record-of
+records [] = []
+records (l ∷ ls) = record-of l ++ records ls

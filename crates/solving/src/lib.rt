@@ -1,0 +1,1 @@
+// The walk that solves s > t. The definitions and its theory stand in specs/.

@@ -1,0 +1,5 @@
+pub mod Term
+pub mod Position
+pub mod Equation
+pub mod Prefix
+pub mod Theory

@@ -1,0 +1,3 @@
+-- Laws of terms and positions.
+pub mod Induction
+pub mod Position

@@ -1,0 +1,1 @@
+// Terms, their prefix form and their positions. The definitions stand in specs/.
