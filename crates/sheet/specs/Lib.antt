@@ -2,3 +2,4 @@ pub mod Text
 pub mod Sheet
 pub mod Frame
 pub mod Reading
+pub mod Theory

@@ -1,3 +1,5 @@
 -- Laws of terms and positions.
 pub mod Induction
 pub mod Position
+pub mod Limits
+pub mod Prefix

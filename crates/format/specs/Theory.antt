@@ -1,0 +1,3 @@
+-- Laws of byte classes and of tests on lists.
+pub mod Byte
+pub mod Lists

@@ -1,0 +1,60 @@
+-- Laws of the classes of node bytes: which bytes are in a class, and which class a byte is in.
+use Prim.Native.Nat.{ℕ, _+_, _-_, _≤_, _<_}
+use mathlib.Core.Path.{_≡_, refl, ap}
+use mathlib.Core.Bool.{Bool, true, false, _&&_}
+use lib.Dec.{leb, ltb}
+use borrow.Author.Tests.{ltb-true, ltb-false, leb-true, leb-false, lt-ltb, le-ltb, le-leb}
+use native.Mathlib.Omega.{arith}
+use Rattle.format.specs.Limits.{max-symbols, variable-count, first-variable}
+use Rattle.format.specs.Byte.{Class, symbol, variable, foreign, is-variable, class-of}
+
+pub symbol-class : (f : ℕ) → f < max-symbols → class-of f ≡ symbol f
+unfolding class-of
+symbol-class f h = rw (lt-ltb f max-symbols h, class-of)
+
+pub variable-class : (v : ℕ) → v < variable-count → class-of (first-variable + v) ≡ variable v
+unfolding class-of
+variable-class v h = go (ltb b max-symbols) (leb first-variable b) (ltb b (first-variable + variable-count)) (le-ltb b max-symbols (omega arith)) (le-leb first-variable b (omega arith)) (lt-ltb b (first-variable + variable-count) (omega arith))
+  where
+    b : ℕ
+    b = first-variable + v
+
+    less : b - first-variable ≡ v
+    less = omega arith
+
+    go : (r s t : Bool) → r ≡ false → s ≡ true → t ≡ true
+        → elim r as (λ t. Class) [ true ↦ symbol b | false ↦ elim (s && t) as (λ t. Class) [ true ↦ variable (b - first-variable) | false ↦ foreign ] ] ≡ variable v
+    go true s t c d e = let z : _≡_ {A = ℕ} 0 1 = cc in absurd (omega arith)
+    go false false t c d e = let z : _≡_ {A = ℕ} 0 1 = cc in absurd (omega arith)
+    go false true false c d e = let z : _≡_ {A = ℕ} 0 1 = cc in absurd (omega arith)
+    go false true true c d e = ap variable less
+
+pub class-symbol : (b f : ℕ) → class-of b ≡ symbol f → (b ≡ f) × (f < max-symbols)
+unfolding class-of
+class-symbol b f e = go (ltb b max-symbols) refl e
+  where
+    other : (t : Bool) → elim t as (λ t. Class) [ true ↦ variable (b - first-variable) | false ↦ foreign ] ≡ symbol f → (b ≡ f) × (f < max-symbols)
+    other true e = let z : _≡_ {A = ℕ} 0 1 = cc in absurd (omega arith)
+    other false e = let z : _≡_ {A = ℕ} 0 1 = cc in absurd (omega arith)
+
+    go : (t : Bool) → ltb b max-symbols ≡ t
+        → elim t as (λ t. Class) [ true ↦ symbol b | false ↦ elim (is-variable b) as (λ t. Class) [ true ↦ variable (b - first-variable) | false ↦ foreign ] ] ≡ symbol f
+        → (b ≡ f) × (f < max-symbols)
+    go true d e = let x : b ≡ f = cc in (x, omega (arith, ltb-true b max-symbols d))
+    go false d e = other (is-variable b) e
+
+pub class-variable : (b v : ℕ) → class-of b ≡ variable v → (b ≡ first-variable + v) × (v < variable-count)
+unfolding class-of
+class-variable b v e = go (ltb b max-symbols) e
+  where
+    inside : (s t : Bool) → leb first-variable b ≡ s → ltb b (first-variable + variable-count) ≡ t
+        → elim (s && t) as (λ t. Class) [ true ↦ variable (b - first-variable) | false ↦ foreign ] ≡ variable v
+        → (b ≡ first-variable + v) × (v < variable-count)
+    inside true true c d e = let x : b - first-variable ≡ v = cc in (omega (arith, leb-true first-variable b c), omega (arith, leb-true first-variable b c, ltb-true b (first-variable + variable-count) d))
+    inside true false c d e = let z : _≡_ {A = ℕ} 0 1 = cc in absurd (omega arith)
+    inside false t c d e = let z : _≡_ {A = ℕ} 0 1 = cc in absurd (omega arith)
+
+    go : (t : Bool) → elim t as (λ t. Class) [ true ↦ symbol b | false ↦ elim (is-variable b) as (λ t. Class) [ true ↦ variable (b - first-variable) | false ↦ foreign ] ] ≡ variable v
+        → (b ≡ first-variable + v) × (v < variable-count)
+    go true e = let z : _≡_ {A = ℕ} 0 1 = cc in absurd (omega arith)
+    go false e = inside (leb first-variable b) (ltb b (first-variable + variable-count)) refl refl e

@@ -1,0 +1,61 @@
+-- Laws of tests and look-ups on lists.
+use Prim.Native.Nat.{ℕ, zero, suc, _≤_, _<_}
+use mathlib.Core.Path.{_≡_, refl}
+use mathlib.Core.Bool.{Bool, true, false, _&&_, _||_}
+use mathlib.Core.Option.{Option, none, some}
+use mathlib.Core.List.{List, [], _∷_, _++_}
+use lib.ListN.{length}
+use native.Mathlib.Omega.{arith}
+use Rattle.format.specs.Lists.{any, all, entry}
+
+-- `P` holds of every entry of a list.
+abbrev pub Every : {A : Type 0} → (A → Type 0) → List A → Type 0
+Every P [] = Unit {0}
+Every P (x ∷ xs) = P x × Every P xs
+
+pub every-append : {A : Type 0} (P : A → Type 0) (xs ys : List A) → Every P xs → Every P ys → Every P (xs ++ ys)
+every-append P [] ys h k = k
+every-append P (x ∷ xs) ys h k = (h .0, every-append P xs ys (h .1) k)
+
+pub every-map : {A : Type 0} {P Q : A → Type 0} → ((x : A) → P x → Q x) → (xs : List A) → Every P xs → Every Q xs
+every-map k [] h = tt
+every-map k (x ∷ xs) h = (k x (h .0), every-map k xs (h .1))
+
+pub every-entry : {A : Type 0} (P : A → Type 0) (xs : List A) (i : ℕ) {x : A} → Every P xs → entry xs i ≡ some x → P x
+unfolding entry
+every-entry P [] i h e = let z : _≡_ {A = ℕ} 0 1 = cc in absurd (omega arith)
+every-entry P (y ∷ xs) zero {x} h e = let d : y ≡ x = cc in rw (← d) (h .0)
+every-entry P (y ∷ xs) (suc i) h e = every-entry P xs i (h .1) e
+
+pub entry-length : {A : Type 0} (xs : List A) (i : ℕ) {x : A} → entry xs i ≡ some x → i < length xs
+unfolding entry
+entry-length [] i e = let z : _≡_ {A = ℕ} 0 1 = cc in absurd (omega arith)
+entry-length (y ∷ xs) zero e = omega arith
+entry-length (y ∷ xs) (suc i) e = omega (arith, entry-length xs i e)
+
+pub entry-found : {A : Type 0} (xs : List A) (i : ℕ) → i < length xs → (x : A) × (entry xs i ≡ some x)
+unfolding entry
+entry-found [] i h = absurd (omega arith)
+entry-found (y ∷ xs) zero h = (y, refl)
+entry-found (y ∷ xs) (suc i) h = entry-found xs i (omega arith)
+
+-- A conjunction that is true, taken apart.
+pub and-true : (a b : Bool) → (a && b) ≡ true → (a ≡ true) × (b ≡ true)
+and-true true true e = (refl, refl)
+and-true true false e = let z : _≡_ {A = ℕ} 0 1 = cc in absurd (omega arith)
+and-true false b e = let z : _≡_ {A = ℕ} 0 1 = cc in absurd (omega arith)
+
+pub all-true : {A : Type 0} (f : A → Bool) (xs : List A) → all f xs ≡ true → Every (λ x. f x ≡ true) xs
+unfolding all
+all-true f [] e = tt
+all-true f (x ∷ xs) e = let (a, b) = and-true (f x) (all f xs) e in (a, all-true f xs b)
+
+pub any-true : {A : Type 0} (f : A → Bool) (xs : List A) → any f xs ≡ true → (i : ℕ) × (x : A) × (entry xs i ≡ some x) × (f x ≡ true)
+unfolding any entry
+any-true f [] e = let z : _≡_ {A = ℕ} 0 1 = cc in absurd (omega arith)
+any-true f (x ∷ xs) e = go (any-true f xs) (f x) refl e
+  where
+    go : (any f xs ≡ true → (i : ℕ) × (y : _) × (entry xs i ≡ some y) × (f y ≡ true)) → (t : Bool) → f x ≡ t → (t || any f xs) ≡ true
+        → (i : ℕ) × (y : _) × (entry (x ∷ xs) i ≡ some y) × (f y ≡ true)
+    go ih true d e = (0, x, refl, d)
+    go ih false d e = let (i, y, a, b) = ih e in (suc i, y, a, b)

@@ -1,0 +1,6 @@
+-- Laws of the sheet: what an accepted text says.
+pub mod Text
+pub mod Scan
+pub mod Valid
+pub mod Frame
+pub mod Accepted
