@@ -1,5 +1,5 @@
 -- Numbers returned and lent buffers (document 01, 'Calls and lent memory').
-use Prim.Native.Nat.{ℕ, _+_, _*_, _^_}
+use Prim.Native.Nat.{ℕ, _+_, _*_, _%_, _^_}
 use mathlib.Core.List.{List, _++_}
 use lib.ListN.{length, drop, replicate}
 use Rattle.format.specs.Limits.{table-bytes, scratch-bytes}
@@ -13,6 +13,10 @@ fields a b c = 2 ^ 8 * a + 2 ^ 24 * b + 2 ^ 40 * c
 unfoldable pub refusal : Refusal → (line : ℕ) → ℕ
 unfolding number fields
 refusal r line = number r + fields line 0 0
+
+-- "lowest byte the refusal, or 0"
+unfoldable pub refusal-byte : ℕ → ℕ
+refusal-byte n = n % 256
 
 -- The buffer with `bytes` first and the rest unchanged: "Longer buffers are served and their excess is untouched."
 unfoldable pub written : (bytes buffer : List ℕ) → List ℕ

@@ -1,3 +1,4 @@
 pub mod Buffer
 pub mod Asked
 pub mod Outcome
+pub mod Theory

@@ -1,3 +1,4 @@
 pub mod Match
 pub mod Run
 pub mod Test
+pub mod Theory

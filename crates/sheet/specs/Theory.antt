@@ -1,6 +1,8 @@
 -- Laws of the sheet: what an accepted text says.
 pub mod Text
+pub mod Rows
 pub mod Scan
 pub mod Valid
 pub mod Frame
 pub mod Accepted
+pub mod Frames

@@ -2,3 +2,4 @@ pub mod Line
 pub mod Walk
 pub mod Holds
 pub mod Judge
+pub mod Theory

@@ -9,7 +9,7 @@ use lib.Dec.{ltb}
 use native.Mathlib.Decide.{ℕ-discrete, decLt}
 use Rattle.format.specs.Limits.{variable-count, position-count, max-elements, max-lines, max-turns}
 use Rattle.format.specs.Refusal.{Refusal, too-many-turns, too-many-elements, too-many-lines}
-pub use Rattle.format.specs.Lists.{any}
+use Rattle.format.specs.Lists.{any}
 use Rattle.terms.specs.Position.{Node, var-node, app-node}
 use Rattle.terms.specs.Equation.{Equation, Direction, view, source-position, target-position}
 use Rattle.solving.specs.Line.{Bindings, no-bindings, lookup, bind, Element, equal, greater, Line, line}

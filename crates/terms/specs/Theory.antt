@@ -2,4 +2,6 @@
 pub mod Induction
 pub mod Position
 pub mod Limits
+pub mod Positions
+pub mod View
 pub mod Prefix

@@ -23,21 +23,36 @@ use Rattle.sheet.specs.Theory.Valid.{ValidEquation, ValidTask, ValidSymb
 use Rattle.sheet.specs.Theory.Frame.{mapped, GroundTerms, ground-terms-given, one-term, two-terms, EquationRead, equation-given}
 
 -- 1. The symbols.
-symbols-valid : (n : ℕ) (arities : List ℕ) → symbols-right n arities ≡ true → ValidSymbols arities
+-- The tests of a symbol frame, one by one.
+record SymbolsRight (n : ℕ) (arities : List ℕ) : Type 0 where
+  at-least : leb 1 n ≡ true
+  at-most : leb n max-symbols ≡ true
+  as-many : eqb (length arities) n ≡ true
+  each-low : all (λ a. leb a max-arity) arities ≡ true
+  some-zero : any (λ a. eqb a 0) arities ≡ true
+
+symbols-tests : (n : ℕ) (arities : List ℕ) → symbols-right n arities ≡ true → SymbolsRight n arities
 unfolding symbols-right
-symbols-valid n arities e =
+symbols-tests n arities e =
     let low : Bool = all (λ a. leb a max-arity) arities in
-    let constant : Bool = any (λ a. eqb a 0) arities in
-    let (abcd, has) = and-true (leb 1 n && leb n max-symbols && eqb (length arities) n && low) constant e in
+    let (abcd, has) = and-true (leb 1 n && leb n max-symbols && eqb (length arities) n && low) (any (λ a. eqb a 0) arities) e in
     let (abc, each) = and-true (leb 1 n && leb n max-symbols && eqb (length arities) n) low abcd in
     let (ab, same) = and-true (leb 1 n && leb n max-symbols) (eqb (length arities) n) abc in
     let (a, b) = and-true (leb 1 n) (leb n max-symbols) ab in
-    let (i, x, at, is-zero) = any-true (λ a. eqb a 0) arities has in
-    let len : length arities ≡ n = eqb-true (length arities) n same in
+    record { at-least = a; at-most = b; as-many = same; each-low = each; some-zero = has }
+
+pub symbols-counted : (n : ℕ) (arities : List ℕ) → symbols-right n arities ≡ true → length arities ≡ n
+symbols-counted n arities e = eqb-true (length arities) n (symbols-tests n arities e .as-many)
+
+symbols-valid : (n : ℕ) (arities : List ℕ) → symbols-right n arities ≡ true → ValidSymbols arities
+symbols-valid n arities e =
+    let t = symbols-tests n arities e in
+    let (i, x, at, is-zero) = any-true (λ a. eqb a 0) arities (t .some-zero) in
+    let len : length arities ≡ n = symbols-counted n arities e in
     record {
-      some-symbol = omega (arith, leb-true 1 n a);
-      few-symbols = omega (arith, leb-true n max-symbols b);
-      low-arities = every-map (λ a h. leb-true a max-arity h) arities (all-true (λ a. leb a max-arity) arities each);
+      some-symbol = omega (arith, leb-true 1 n (t .at-least));
+      few-symbols = omega (arith, leb-true n max-symbols (t .at-most));
+      low-arities = every-map (λ a h. leb-true a max-arity h) arities (all-true (λ a. leb a max-arity) arities (t .each-low));
       constant = i;
       a-constant = at ∙ ap some (eqb-true x 0 is-zero);
     }

@@ -1,0 +1,5 @@
+-- The theorems about the calls' outcomes.
+pub mod Number
+pub mod Solve
+pub mod Walks
+pub mod Run

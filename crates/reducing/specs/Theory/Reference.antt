@@ -1,0 +1,138 @@
+-- The run is the reference run wherever every direction solves, and the terms of both descend (document 01, 'Runs').
+use Prim.Native.Nat.{ℕ, _<_}
+use mathlib.Core.Path.{_≡_, refl, sym, ap, _∙_}
+use mathlib.Core.Logic.{_↔_}
+use mathlib.Core.Bool.{Bool, true, false}
+use mathlib.Core.List.{List, [], _∷_}
+use native.Mathlib.Omega.{arith}
+use lib.ListN.{getD}
+use lib.Dec.{T, ltb, ltb→lt, lt→ltb}
+use Rattle.format.specs.Limits.{variable-count}
+use Rattle.format.specs.Theory.Lists.{Every, every-entry}
+use Rattle.terms.specs.Term.{Term, var, Values, inst}
+use Rattle.terms.specs.Position.{subterms}
+use Rattle.terms.specs.Equation.{Equation, Direction, left-right, right-left, source, target, value}
+use Rattle.terms.specs.Theory.Limits.{VariablesBelow, WithinLimits}
+use Rattle.ordering.specs.Order.{_≻_}
+use Rattle.ordering.specs.Theory.Decide.{exceeds?}
+use Rattle.ordering.specs.Theory.Context.{replace-exceeds}
+use Rattle.solving.specs.Line.{Line}
+use Rattle.solving.specs.Holds.{SomeLineHolds}
+use Rattle.solving.specs.Walk.{solved, solve}
+use Rattle.solving.specs.Judge.{first-holding}
+use Rattle.solving.specs.Theory.Judge.{first-holding-pos}
+use Rattle.solving.specs.Theory.Solve.{solve-exact}
+use Rattle.reducing.specs.Match.{values-of}
+use Rattle.reducing.specs.Run.{Step}
+use Rattle.reducing.specs.Test.{holding-in, line-test, reference-test, line-run, reference-run}
+use Rattle.reducing.specs.Theory.Match.{match-sound}
+use Rattle.reducing.specs.Theory.Step.{Taken}
+use Rattle.reducing.specs.Theory.Runs.{AllTaken, run-taken, Agree, run-same}
+
+-- "a direction solves if its walk earns none of 8 to 10"
+pub record Solves (e : Equation) (d : Direction) : Type 0 where
+  pub table : List Line
+  pub turns : ℕ
+  pub walked : solve e d ≡ solved table turns
+
+-- "where every direction solves"
+abbrev pub EverySolves : List Equation → Type 0
+EverySolves = Every (λ e. (d : Direction) → Solves e d)
+
+-- Some line of a solved direction's table holds exactly if the source's instance exceeds the target's.
+abbrev pub Exact : Equation → Type 0
+Exact e =
+    (d : Direction) (table : List Line) (n : ℕ) → solve e d ≡ solved table n → (ρ : Values)
+    → (inst ρ (source e d) ≻ inst ρ (target e d)) ↔ SomeLineHolds ρ (value e ρ) table
+
+-- The reference test passes exactly if the source's instance exceeds the target's.
+pub reference-test-is : (e : Equation) (d : Direction) (ρ : Values) → (reference-test e d ρ ≡ true) ↔ (inst ρ (source e d) ≻ inst ρ (target e d))
+unfolding reference-test
+reference-test-is e d ρ = go (exceeds? (inst ρ (source e d)) (inst ρ (target e d)))
+  where
+    go : (x : Dec (inst ρ (source e d) ≻ inst ρ (target e d)))
+        → (elim x as (λ x. Bool) [ yes g ↦ true | no n ↦ false ] ≡ true) ↔ (inst ρ (source e d) ≻ inst ρ (target e d))
+    go (yes g) = (λ h. g, λ h. refl)
+    go (no n) = (λ h. let z : _≡_ {A = ℕ} 0 1 = cc in absurd (omega arith), λ g. absurd (n g))
+
+-- The run's test passes exactly if some line of the direction's table holds.
+ltb-pos : (n : ℕ) → (ltb 0 n ≡ true) ↔ (0 < n)
+ltb-pos n = (λ h. ltb→lt 0 n (rw h tt), λ l. go (ltb 0 n) (lt→ltb 0 n l))
+  where
+    go : (b : Bool) → T b → b ≡ true
+    go true h = refl
+
+pub line-test-is : (e : Equation) (d : Direction) (s : Solves e d) (ρ : Values) → (line-test e d ρ ≡ true) ↔ SomeLineHolds ρ (value e ρ) (s .table)
+unfolding line-test
+line-test-is e d s ρ =
+    let holding = first-holding ρ (value e ρ) (s .table) in
+    let z : line-test e d ρ ≡ ltb 0 holding = ap (λ w. ltb 0 (holding-in e ρ w)) (s .walked) in
+    let pos = first-holding-pos ρ (value e ρ) (s .table) in
+    (λ h. pos .0 (ltb-pos holding .0 (sym z ∙ h)), λ h. z ∙ ltb-pos holding .1 (pos .1 h))
+
+-- Where the tables are exact the two tests agree.
+same-truth : (a b : Bool) → (a ≡ true → b ≡ true) → (b ≡ true → a ≡ true) → a ≡ b
+same-truth true true f g = refl
+same-truth true false f g = sym (f refl)
+same-truth false true f g = g refl
+same-truth false false f g = refl
+
+pub tests-agree : (e : Equation) → Exact e → ((d : Direction) → Solves e d) → Agree line-test reference-test e
+tests-agree e exact solves d ρ =
+    let s = solves d in
+    let x = exact d (s .table) (s .turns) (s .walked) ρ in
+    let (a, b) = line-test-is e d s ρ in
+    let (f, g) = reference-test-is e d ρ in
+    same-truth _ _ (λ h. g (x .1 (a h))) (λ h. b (x .0 (f h)))
+
+all-agree : (es : List Equation) → Every Exact es → EverySolves es → Every (Agree line-test reference-test) es
+all-agree [] x s = tt
+all-agree (e ∷ es) x s = (tests-agree e (x .0) (s .0), all-agree es (x .1) (s .1))
+
+-- Where every direction solves, and the tables are exact, the run is the reference run: the same steps, ending and last term.
+pub exact-run-is-reference-run : (es : List Equation) → Every Exact es → EverySolves es → (k : ℕ) (subject : Term) → line-run es k subject ≡ reference-run es k subject
+unfolding line-run reference-run
+exact-run-is-reference-run es x s k subject = run-same line-test reference-test es (all-agree es x s) k subject
+
+-- Each term of a run exceeds the next.
+abbrev pub Descending : Term → List Step → Type 0
+Descending subject [] = Unit {0}
+Descending subject (s ∷ steps) = (subject ≻ s .result) × Descending (s .result) steps
+
+source-variables : {e : Equation} → WithinLimits e → (d : Direction) → VariablesBelow variable-count (source e d)
+unfolding source
+source-variables w left-right = w .left-variables
+source-variables w right-left = w .right-variables
+
+module _ (es : List Equation) (within : Every WithinLimits es) where
+  pub step-exceeds : (subject : Term) (s : Step) → Taken reference-test es subject s → subject ≻ s .result
+  step-exceeds subject s t =
+      let r = t .rewrites in
+      let d = s .direction in
+      let e = t .chosen in
+      let ρ = values-of (r .found) in
+      let w : WithinLimits e = every-entry WithinLimits es (s .equation) within (t .numbered) in
+      let m : inst ρ (source e d) ≡ getD (subterms subject) (s .position) (var 0) = match-sound _ _ (r .found) (source-variables w d) (r .matches) in
+      let g : inst ρ (source e d) ≻ inst ρ (target e d) = reference-test-is e d ρ .0 (r .passes) in
+      rw (r .gives) (replace-exceeds subject (s .position) (var 0) _ (t .inside) (rw m at g))
+
+  all-taken-descending : (subject : Term) (steps : List Step) → AllTaken reference-test es subject steps → Descending subject steps
+  all-taken-descending subject [] a = tt
+  all-taken-descending subject (s ∷ steps) a = (step-exceeds subject s (a .0), all-taken-descending (s .result) steps (a .1))
+
+  pub reference-run-descending : (k : ℕ) (subject : Term) → Descending subject (reference-run es k subject .steps)
+  unfolding reference-run
+  reference-run-descending k subject = all-taken-descending subject (reference-run es k subject .steps) (run-taken reference-test es k subject)
+
+-- On equations within the limits the tables are exact.
+all-exact : (es : List Equation) → Every WithinLimits es → Every Exact es
+all-exact [] w = tt
+all-exact (e ∷ es) w = (solve-exact e (w .0), all-exact es (w .1))
+
+module _ (es : List Equation) (within : Every WithinLimits es) (solves : EverySolves es) (k : ℕ) (subject : Term) where
+  -- So there the run is the reference run wherever every direction solves, and each of its terms exceeds the next.
+  pub run-is-reference-run : line-run es k subject ≡ reference-run es k subject
+  run-is-reference-run = exact-run-is-reference-run es (all-exact es within) solves k subject
+
+  pub run-descending : Descending subject (line-run es k subject .steps)
+  run-descending = rw run-is-reference-run (reference-run-descending es within k subject)

@@ -1,0 +1,113 @@
+-- Laws of the lines of a text: where a line ends, and which lines are no frame.
+use Prim.Native.Nat.{ℕ, suc, _+_, _≤_, _<_}
+use mathlib.Core.Path.{_≡_, refl, sym, ap, _∙_}
+use mathlib.Core.Bool.{Bool, true, false, _&&_}
+use mathlib.Core.Option.{Option, none, some}
+use mathlib.Core.List.{List, [], _∷_, _++_, append-assoc}
+use lib.ListN.{length, length-append}
+use lib.Dec.{leb, eqb}
+use borrow.Author.Tests.{ne-eqb, eq-eqb, leb-true, lt-leb, le-leb}
+use native.Mathlib.Omega.{arith}
+use Rattle.format.specs.Limits.{max-line-digits}
+use Rattle.format.specs.Theory.Lists.{Every}
+use Rattle.sheet.specs.Text.{LF, Row, ended, unended, put-byte, rows, digit, byte-of, put-first, bytes-of, frame-of}
+
+-- No byte of a part is LF.
+abbrev pub NoLF : List ℕ → Type 0
+NoLF = Every (λ b. b ≡ LF → ⊥)
+
+unfoldable pub content : Row → List ℕ
+content (ended bs) = bs
+content (unended bs) = bs
+
+pub rows-byte : (b : ℕ) (text : List ℕ) → (b ≡ LF → ⊥) → rows (b ∷ text) ≡ put-byte b (rows text)
+unfolding rows
+rows-byte b text n = rw (ne-eqb b LF n, rows)
+
+pub rows-LF : (text : List ℕ) → rows (LF ∷ text) ≡ ended [] ∷ rows text
+unfolding rows
+rows-LF text = refl
+
+-- A part without LF and then LF is a line.
+pub rows-ended : (xs text : List ℕ) → NoLF xs → rows (xs ++ LF ∷ text) ≡ ended xs ∷ rows text
+unfolding put-byte
+rows-ended [] text h = rows-LF text
+rows-ended (b ∷ xs) text h = rows-byte b (xs ++ LF ∷ text) (h .0) ∙ ap (put-byte b) (rows-ended xs text (h .1))
+
+-- The first line of a text that begins with `b` and bytes other than LF begins with them.
+pub record Begins (xs text : List ℕ) : Type 0 where
+  pub row : Row
+  pub rest : List Row
+  pub more : List ℕ
+  pub split : rows text ≡ row ∷ rest
+  pub starts : content row ≡ xs ++ more
+
+put-begins : (b : ℕ) (xs text : List ℕ) → (b ≡ LF → ⊥) → Begins xs text → Begins (b ∷ xs) (b ∷ text)
+unfolding put-byte content
+put-begins b xs text n g = go (g .row) (g .split) (g .starts)
+  where
+    go : (r : Row) → rows text ≡ r ∷ g .rest → content r ≡ xs ++ g .more → Begins (b ∷ xs) (b ∷ text)
+    go (ended bs) e c = record { row = ended (b ∷ bs); rest = g .rest; more = g .more; split = rows-byte b text n ∙ ap (put-byte b) e; starts = ap (b ∷_) c }
+    go (unended bs) e c = record { row = unended (b ∷ bs); rest = g .rest; more = g .more; split = rows-byte b text n ∙ ap (put-byte b) e; starts = ap (b ∷_) c }
+
+one-begins : (b : ℕ) (text : List ℕ) → (b ≡ LF → ⊥) → Begins (b ∷ []) (b ∷ text)
+unfolding put-byte content
+one-begins b text n = go (rows text) refl
+  where
+    go : (rs : List Row) → rows text ≡ rs → Begins (b ∷ []) (b ∷ text)
+    go [] e = record { row = unended (b ∷ []); rest = []; more = []; split = rows-byte b text n ∙ ap (put-byte b) e; starts = refl }
+    go (ended bs ∷ rs) e = record { row = ended (b ∷ bs); rest = rs; more = bs; split = rows-byte b text n ∙ ap (put-byte b) e; starts = refl }
+    go (unended bs ∷ rs) e = record { row = unended (b ∷ bs); rest = rs; more = bs; split = rows-byte b text n ∙ ap (put-byte b) e; starts = refl }
+
+pub rows-begin : (b : ℕ) (xs text : List ℕ) → NoLF (b ∷ xs) → Begins (b ∷ xs) (b ∷ xs ++ text)
+rows-begin b [] text h = one-begins b text (h .0)
+rows-begin b (c ∷ xs) text h = put-begins b (c ∷ xs) (c ∷ xs ++ text) (h .0) (rows-begin c xs text (h .1))
+
+-- What is left of a text without LF is a line that does not end.
+pub rows-unended : (b : ℕ) (xs : List ℕ) → NoLF (b ∷ xs) → rows (b ∷ xs) ≡ unended (b ∷ xs) ∷ []
+unfolding rows put-byte
+rows-unended b [] h = rows-byte b [] (h .0)
+rows-unended b (c ∷ xs) h = rows-byte b (c ∷ xs) (h .0) ∙ ap (put-byte b) (rows-unended c xs (h .1))
+
+-- A line that is too long, or has another character than a digit, is no frame.
+put-first-none : (x : Option ℕ) → put-first x none ≡ none
+unfolding put-first
+put-first-none none = refl
+put-first-none (some b) = refl
+
+byte-none : (c d : ℕ) → digit d ≡ none → byte-of (digit c) (digit d) ≡ none
+unfolding byte-of
+byte-none c d e = rw e (go (digit c))
+  where
+    go : (x : Option ℕ) → byte-of x none ≡ none
+    go none = refl
+    go (some n) = refl
+
+pub bytes-none : (xs : List ℕ) (c : ℕ) (more : List ℕ) → digit c ≡ none → bytes-of (xs ++ c ∷ more) ≡ none
+unfolding bytes-of byte-of put-first
+bytes-none [] c [] e = refl
+bytes-none [] c (d ∷ more) e = rw e
+bytes-none (a ∷ []) c more e = rw (byte-none a c e)
+bytes-none (a ∷ b ∷ xs) c more e = rw (bytes-none xs c more e) (put-first-none (byte-of (digit a) (digit b)))
+
+frame-none-inside : (row : Row) → bytes-of (content row) ≡ none → frame-of row ≡ none
+unfolding frame-of content
+frame-none-inside (ended cs) e = go (leb 2 (length cs) && leb (length cs) max-line-digits)
+  where
+    go : (t : Bool) → _≡_ {A = Option (List ℕ)} (elim t [ true ↦ bytes-of cs | false ↦ none ]) none
+    go true = e
+    go false = refl
+frame-none-inside (unended cs) e = refl
+
+pub frame-none-digit : (row : Row) (xs : List ℕ) (c : ℕ) (more : List ℕ) → content row ≡ xs ++ c ∷ more → digit c ≡ none → frame-of row ≡ none
+frame-none-digit row xs c more e d = frame-none-inside row (ap bytes-of e ∙ bytes-none xs c more d)
+
+pub frame-none-long : (row : Row) → max-line-digits < length (content row) → frame-of row ≡ none
+unfolding frame-of content
+frame-none-long (ended cs) h = go (leb 2 (length cs)) (leb (length cs) max-line-digits) (lt-leb (length cs) max-line-digits h)
+  where
+    go : (s t : Bool) → t ≡ false → _≡_ {A = Option (List ℕ)} (elim (s && t) [ true ↦ bytes-of cs | false ↦ none ]) none
+    go true true e = let z : _≡_ {A = ℕ} 0 1 = cc in absurd (omega arith)
+    go true false e = refl
+    go false t e = refl
+frame-none-long (unended cs) h = refl

@@ -1,0 +1,21 @@
+-- The laws of the walk.
+pub mod Seen
+pub mod Rank
+pub mod Reach
+pub mod Bind
+pub mod Unified
+pub mod Table
+pub mod Fuel
+pub mod Values
+pub mod Complete
+pub mod Choices
+pub mod Lines
+pub mod Exact
+pub mod Invariant
+pub mod Reduced
+pub mod Written
+pub mod Records
+pub mod Whole
+pub mod Solve
+pub mod Examples
+pub mod Judge

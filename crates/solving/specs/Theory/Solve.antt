@@ -1,0 +1,84 @@
+-- The laws of `solve`: what its table says at values of the variables, that fuel is no limit, and what its table looks like.
+use Prim.Native.Nat.{ℕ, _*_, _≤_}
+use mathlib.Core.Path.{_≡_}
+use mathlib.Core.Logic.{_↔_}
+use mathlib.Core.List.{List}
+use lib.ListN.{length}
+use native.Mathlib.Omega.{arith}
+use Rattle.format.specs.Limits.{max-lines, max-turns, record-bytes, table-bytes}
+use Rattle.terms.specs.Term.{Values, inst}
+use Rattle.terms.specs.Equation.{Equation, Direction, source, target, source-position, target-position, view, value}
+use Rattle.terms.specs.Theory.Limits.{WithinLimits, positions, positions-few}
+use Rattle.terms.specs.Theory.Positions.{source-at, target-at, source-within, target-within}
+use Rattle.terms.specs.Theory.View.{layout, model}
+use Rattle.ordering.specs.Order.{_≻_}
+use Rattle.solving.specs.Line.{Line, records}
+use Rattle.solving.specs.Walk.{Fuel, enough, solved, turn, walk, solve}
+use Rattle.solving.specs.Holds.{SomeLineHolds}
+use Rattle.solving.specs.Theory.Reach.{Sufficient, enough-suffices}
+use Rattle.solving.specs.Theory.Table.{ProperTable}
+use Rattle.solving.specs.Theory.Fuel.{turn-fuel}
+use Rattle.solving.specs.Theory.Invariant.{Ended}
+use Rattle.solving.specs.Theory.Reduced.{Finished, turn-none}
+use Rattle.solving.specs.Theory.Written.{WrittenLines, written-lines}
+use Rattle.solving.specs.Theory.Records.{length-records, records-fit, AllBelow, records-are-bytes}
+use Rattle.solving.specs.Theory.Whole.{Kept, walk-kept, walk-exact, walk-fuel}
+
+-- At least as much fuel.
+pub record AtLeast (least fuel : Fuel) : Type 0 where
+  pub more-hops : least .hops ≤ fuel .hops
+  pub deeper-occurs : least .occurs-depth ≤ fuel .occurs-depth
+  pub deeper-unify : least .unify-depth ≤ fuel .unify-depth
+
+module _ (e : Equation) (w : WithinLimits e) where
+  enough-here : Sufficient (positions e) enough
+  enough-here = enough-suffices (positions-few w)
+
+  more-here : (fuel : Fuel) → AtLeast enough fuel → Sufficient (positions e) fuel
+  more-here fuel a =
+      let few = positions-few w in
+      record { hops-suffice = a .more-hops; occurs-suffices = omega (arith, a .deeper-occurs); unify-suffices = omega (arith, a .deeper-unify) }
+
+  -- More fuel changes no turn, and not the walk.
+  pub more-fuel-turn : (fuel : Fuel) → AtLeast enough fuel → (table : List Line) → ProperTable (view e) (positions e) table → turn fuel (view e) table ≡ turn enough (view e) table
+  more-fuel-turn fuel a table h = turn-fuel (layout e w) (more-here fuel a) enough-here table h
+
+  module _ (d : Direction) where
+    pub solve-fuel : (fuel : Fuel) → AtLeast enough fuel → walk fuel (view e) (source-position e d) (target-position e d) ≡ solve e d
+    unfolding solve
+    solve-fuel fuel a = walk-fuel (layout e w) (more-here fuel a) enough-here (source-position e d) (target-position e d) (source-within e d) (target-within e d)
+
+    module _ (table : List Line) (n : ℕ) (done : solve e d ≡ solved table n) where
+      -- The source's instance exceeds the target's exactly if some line of the table holds.
+      pub solve-exact : (ρ : Values) → (inst ρ (source e d) ≻ inst ρ (target e d)) ↔ SomeLineHolds ρ (value e ρ) table
+      unfolding solve value
+      solve-exact ρ = rw (source-at e d, target-at e d) at
+          (walk-exact (layout e w) enough-here (source-position e d) (target-position e d) (source-within e d) (target-within e d) (model e ρ) table n done)
+
+      ended : Ended enough (view e) (Kept (layout e w) enough-here (source-position e d) (target-position e d) (source-within e d) (target-within e d)) table n max-turns
+      unfolding solve
+      ended = walk-kept (layout e w) enough-here (source-position e d) (target-position e d) (source-within e d) (target-within e d) table n done
+
+      -- Every line is finished: its elements are fully reduced inequalities, seen through its bindings.
+      pub solved-reduced : Finished (view e) table
+      solved-reduced = turn-none (layout e w) enough-here table (ended .has .proper) (ended .finished)
+
+      -- "up to 40 elements", "at most 255 lines", "At most 10,000 turns."
+      pub solved-lines : WrittenLines (positions e) table
+      solved-lines = written-lines (view e) (positions e) table (ended .has .proper) solved-reduced (ended .has .limits .short-lines)
+
+      pub solved-line-count : length table ≤ max-lines
+      solved-line-count = ended .has .limits .few-lines
+
+      pub solved-turn-count : n ≤ max-turns
+      solved-turn-count = ended .turns-within
+
+      -- The records: their length, and that they are bytes.
+      pub solved-records-length : length (records table) ≡ length table * record-bytes
+      solved-records-length = length-records (positions e) table solved-lines
+
+      pub solved-records-fit : length (records table) ≤ table-bytes
+      solved-records-fit = records-fit (positions e) table solved-lines solved-line-count
+
+      pub solved-records-bytes : AllBelow 256 (records table)
+      solved-records-bytes = records-are-bytes (omega (arith, positions-few w)) table solved-lines
