@@ -3,7 +3,8 @@ use Prim.Native.Nat.{ℕ, zero, suc, _+_}
 use mathlib.Core.Bool.{Bool, true, false}
 use mathlib.Core.Option.{Option, none, some}
 use mathlib.Core.List.{List, [], _∷_}
-use Rattle.format.specs.Refusal.{Refusal, short-buffer, absent-argument}
+use Rattle.format.specs.declared.refusal.Refusal.{Refusal}
+use Rattle.format.specs.declared.refusal.Refusal.the-variants.{ShortBuffer as short-buffer, AbsentArgument as absent-argument}
 use Rattle.format.specs.Lists.{entry}
 use Rattle.terms.specs.Term.{Term, Values}
 use Rattle.terms.specs.Equation.{Equation, Direction, left-right, right-left, direction-of}

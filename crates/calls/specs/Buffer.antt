@@ -3,7 +3,8 @@ use Prim.Native.Nat.{ℕ, _+_, _*_, _%_, _^_}
 use mathlib.Core.List.{List, _++_}
 use lib.ListN.{length, drop, replicate}
 use Rattle.format.specs.Limits.{table-bytes, scratch-bytes}
-use Rattle.format.specs.Refusal.{Refusal, number}
+use Rattle.format.specs.Refusal.{number}
+use Rattle.format.specs.declared.refusal.Refusal.{Refusal}
 
 -- "Each returns one 64-bit number: lowest byte the refusal, or 0; above it 16-bit fields, lowest first, unused ones 0."
 unfoldable pub fields : (first second third : ℕ) → ℕ
@@ -11,7 +12,7 @@ fields a b c = 2 ^ 8 * a + 2 ^ 24 * b + 2 ^ 40 * c
 
 -- "Refusal: line."
 unfoldable pub refusal : Refusal → (line : ℕ) → ℕ
-unfolding number fields
+unfolding fields
 refusal r line = number r + fields line 0 0
 
 -- "lowest byte the refusal, or 0"

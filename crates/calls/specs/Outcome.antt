@@ -7,7 +7,7 @@ use mathlib.Core.List.{List, [], _∷_, _++_}
 use lib.ListN.{length}
 use lib.Dec.{leb}
 use Rattle.format.specs.Limits.{table-bytes, scratch-bytes, term-bytes, log-bytes}
-use Rattle.format.specs.Refusal.{Refusal}
+use Rattle.format.specs.declared.refusal.Refusal.{Refusal}
 use Rattle.terms.specs.Term.{Term, size}
 use Rattle.terms.specs.Equation.{direction-number}
 use Rattle.terms.specs.Prefix.{prefix}

@@ -6,7 +6,8 @@ use mathlib.Core.List.{List, [], _∷_, _++_, map, flatMap}
 use lib.ListN.{length}
 use lib.Dec.{ltb}
 use Rattle.format.specs.Limits.{first-variable}
-use Rattle.format.specs.Refusal.{Refusal, number}
+use Rattle.format.specs.Refusal.{number}
+use Rattle.format.specs.declared.refusal.Refusal.{Refusal}
 use Rattle.format.specs.Lists.{entry}
 use Rattle.terms.specs.Term.{Term}
 use Rattle.terms.specs.Equation.{Equation, Direction, left-right, right-left, direction-number, term-at}
@@ -41,7 +42,7 @@ two-bytes n = n / 256 ∷ n % 256 ∷ []
 
 -- "Refused (8 to 10 included): only 'ff', number, line in two bytes."
 unfoldable pub refusal-frame : Refusal → (line : ℕ) → List ℕ
-unfolding number two-bytes
+unfolding two-bytes
 refusal-frame r n = 0xff ∷ number r ∷ two-bytes n
 
 -- "each variable with its term", "bindings by ascending variable, terms as in the equation": the slots of the variables from `v` upward.

@@ -2,12 +2,9 @@
 use Prim.Native.Nat.{ℕ, _+_, _-_}
 use mathlib.Core.Bool.{Bool, true, false, _&&_}
 use lib.Dec.{leb, ltb}
+pub use Rattle.format.specs.declared.byte.Class.{Class}
+pub use Rattle.format.specs.declared.byte.Class.the-variants.{Symbol as symbol, Variable as variable, Foreign as foreign}
 use Rattle.format.specs.Limits.{max-symbols, variable-count, first-variable}
-
-pub data Class : Type 0 where
-  symbol : ℕ → Class
-  variable : ℕ → Class
-  foreign : Class
 
 unfoldable pub is-variable : ℕ → Bool
 is-variable b = leb first-variable b && ltb b (first-variable + variable-count)

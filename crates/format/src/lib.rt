@@ -1,1 +1,4 @@
-// The format's numbers, byte classes and refusals. The definitions stand in specs/.
+// The numbers of the format, the refusals, and the classes of node bytes.
+pub mod byte;
+pub mod limits;
+pub mod refusal;

@@ -6,8 +6,12 @@ use mathlib.Core.List.{List, [], _∷_, _++_}
 use lib.ListN.{length}
 use lib.Dec.{leb, ltb, eqb}
 use Rattle.format.specs.Limits.{max-symbols, max-arity, max-equations, max-tasks, max-side-nodes, max-task-nodes}
-use Rattle.format.specs.Refusal.{Refusal, frame-order, symbol-frame, frame-bytes, not-ground, absent-direction, Result, refuse, give, Result·map}
-use Rattle.format.specs.Byte.{Class, symbol, variable, foreign, class-of}
+use Rattle.format.specs.Refusal.{Result, refuse, give, Result·map}
+use Rattle.format.specs.declared.refusal.Refusal.{Refusal}
+use Rattle.format.specs.declared.refusal.Refusal.the-variants.{FrameOrder as frame-order, SymbolFrame as symbol-frame, FrameBytes as frame-bytes, NotGround as not-ground, AbsentDirection as absent-direction}
+use Rattle.format.specs.Byte.{class-of}
+use Rattle.format.specs.declared.byte.Class.{Class}
+use Rattle.format.specs.declared.byte.Class.the-variants.{Symbol as symbol, Variable as variable, Foreign as foreign}
 use Rattle.format.specs.Lists.{any, all, entry}
 use Rattle.terms.specs.Term.{Term, Terms, var, nth, arity}
 use Rattle.terms.specs.Equation.{Equation, Direction, direction-of}

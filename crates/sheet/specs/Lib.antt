@@ -2,5 +2,6 @@ pub mod Text
 pub mod Sheet
 pub mod Frame
 pub mod Frames
+pub mod Cursor
 pub mod Reading
 pub mod Theory

@@ -6,7 +6,9 @@ use mathlib.Core.List.{List, [], _∷_}
 use lib.ListN.{length}
 use lib.Dec.{leb}
 use Rattle.format.specs.Limits.{max-text}
-use Rattle.format.specs.Refusal.{Refusal, text-length, digits, frame-order, Result, refuse, give}
+use Rattle.format.specs.Refusal.{Result, refuse, give}
+use Rattle.format.specs.declared.refusal.Refusal.{Refusal}
+use Rattle.format.specs.declared.refusal.Refusal.the-variants.{TextLength as text-length, Digits as digits, FrameOrder as frame-order}
 use Rattle.sheet.specs.Text.{Row, rows, frame-of}
 use Rattle.sheet.specs.Sheet.{Sheet}
 use Rattle.sheet.specs.Frame.{State, start, within, read-frame}

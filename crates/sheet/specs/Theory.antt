@@ -1,6 +1,7 @@
 -- Laws of the sheet: what an accepted text says.
 pub mod Text
 pub mod Rows
+pub mod Cursor
 pub mod Scan
 pub mod Valid
 pub mod Frame

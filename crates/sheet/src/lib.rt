@@ -1,1 +1,2 @@
-// The sheet: what every text earns. The definitions and their laws stand in specs/.
+// Reading a sheet: what every text earns, line by line, and where a frame stands.
+pub mod text;

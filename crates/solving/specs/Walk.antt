@@ -8,7 +8,8 @@ use lib.ListN.{length}
 use lib.Dec.{ltb}
 use native.Mathlib.Decide.{ℕ-discrete, decLt}
 use Rattle.format.specs.Limits.{variable-count, position-count, max-elements, max-lines, max-turns}
-use Rattle.format.specs.Refusal.{Refusal, too-many-turns, too-many-elements, too-many-lines}
+use Rattle.format.specs.declared.refusal.Refusal.{Refusal}
+use Rattle.format.specs.declared.refusal.Refusal.the-variants.{TooManyTurns as too-many-turns, TooManyElements as too-many-elements, TooManyLines as too-many-lines}
 use Rattle.format.specs.Lists.{any}
 use Rattle.terms.specs.Position.{Node, var-node, app-node}
 use Rattle.terms.specs.Equation.{Equation, Direction, view, source-position, target-position}

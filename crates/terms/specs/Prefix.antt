@@ -2,7 +2,9 @@
 use Prim.Native.Nat.{ℕ, zero, suc, _+_}
 use mathlib.Core.List.{List, [], _∷_, _++_}
 use Rattle.format.specs.Limits.{first-variable}
-use Rattle.format.specs.Byte.{Class, symbol, variable, foreign, class-of}
+use Rattle.format.specs.Byte.{class-of}
+use Rattle.format.specs.declared.byte.Class.{Class}
+use Rattle.format.specs.declared.byte.Class.the-variants.{Symbol as symbol, Variable as variable, Foreign as foreign}
 use Rattle.terms.specs.Term.{Term, Terms, var, app, nil, cons, arity}
 
 -- "A term is in prefix form: a symbol byte followed by its arguments, or a variable."

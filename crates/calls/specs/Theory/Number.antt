@@ -2,11 +2,12 @@
 use Prim.Native.Nat.{ℕ, _+_, _*_, _^_, _%_, _≤_, _<_}
 use mathlib.Core.Path.{_≡_, refl}
 use native.Mathlib.Omega.{arith}
-use Rattle.format.specs.Refusal.{Refusal, text-length, digits, frame-order, symbol-frame, frame-bytes, not-ground, absent-direction, too-many-turns, too-many-elements, too-many-lines, short-buffer, absent-argument, number}
+use Rattle.format.specs.Refusal.{number}
+use Rattle.format.specs.declared.refusal.Refusal.{Refusal}
+use Rattle.format.specs.declared.refusal.Refusal.the-variants.{TextLength as text-length, Digits as digits, FrameOrder as frame-order, SymbolFrame as symbol-frame, FrameBytes as frame-bytes, NotGround as not-ground, AbsentDirection as absent-direction, TooManyTurns as too-many-turns, TooManyElements as too-many-elements, TooManyLines as too-many-lines, ShortBuffer as short-buffer, AbsentArgument as absent-argument}
 use Rattle.calls.specs.Buffer.{fields, refusal, refusal-byte}
 
 number-range : (r : Refusal) → (1 ≤ number r) × (number r ≤ 12)
-unfolding number
 number-range text-length = omega arith
 number-range digits = omega arith
 number-range frame-order = omega arith

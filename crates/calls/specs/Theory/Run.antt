@@ -7,7 +7,9 @@ use mathlib.Core.Option.{Option, none, some}
 use mathlib.Core.List.{List}
 use lib.ListN.{length}
 use native.Mathlib.Omega.{arith}
-use Rattle.format.specs.Refusal.{Refusal, number, short-buffer, absent-argument}
+use Rattle.format.specs.Refusal.{number}
+use Rattle.format.specs.declared.refusal.Refusal.{Refusal}
+use Rattle.format.specs.declared.refusal.Refusal.the-variants.{ShortBuffer as short-buffer, AbsentArgument as absent-argument}
 use Rattle.format.specs.Lists.{entry}
 use Rattle.terms.specs.Term.{Term, size}
 use Rattle.terms.specs.Equation.{Equation}

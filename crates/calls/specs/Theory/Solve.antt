@@ -8,7 +8,9 @@ use mathlib.Core.List.{List, _++_}
 use lib.ListN.{length, drop}
 use native.Mathlib.Omega.{arith}
 use Rattle.format.specs.Limits.{table-bytes, scratch-bytes}
-use Rattle.format.specs.Refusal.{Refusal, number, short-buffer, absent-argument}
+use Rattle.format.specs.Refusal.{number}
+use Rattle.format.specs.declared.refusal.Refusal.{Refusal}
+use Rattle.format.specs.declared.refusal.Refusal.the-variants.{ShortBuffer as short-buffer, AbsentArgument as absent-argument}
 use Rattle.format.specs.Lists.{entry}
 use Rattle.format.specs.Theory.Lists.{every-entry}
 use Rattle.terms.specs.Term.{Term, Values, inst}

@@ -4,7 +4,7 @@ use mathlib.Core.Path.{_≡_, refl, ap, _∙_}
 use mathlib.Core.Option.{Option, none, some}
 use mathlib.Core.List.{List, [], _∷_}
 use native.Mathlib.Omega.{arith}
-use Rattle.format.specs.Refusal.{Refusal}
+use Rattle.format.specs.declared.refusal.Refusal.{Refusal}
 use Rattle.format.specs.Theory.Lists.{Every, every-map}
 use Rattle.terms.specs.Equation.{Equation, Direction, left-right, right-left}
 use Rattle.terms.specs.Theory.Limits.{WithinLimits}

@@ -1,9 +1,9 @@
 -- Laws of the classes of node bytes: which bytes are in a class, and which class a byte is in.
 use Prim.Native.Nat.{ℕ, _+_, _-_, _≤_, _<_}
-use mathlib.Core.Path.{_≡_, refl, ap}
+use mathlib.Core.Path.{_≡_, refl, sym, ap, _∙_}
 use mathlib.Core.Bool.{Bool, true, false, _&&_}
 use lib.Dec.{leb, ltb}
-use borrow.Author.Tests.{ltb-true, ltb-false, leb-true, leb-false, lt-ltb, le-ltb, le-leb}
+use borrow.Author.Tests.{ltb-true, leb-true, lt-ltb, le-ltb, le-leb, lt-leb}
 use native.Mathlib.Omega.{arith}
 use Rattle.format.specs.Limits.{max-symbols, variable-count, first-variable}
 use Rattle.format.specs.Byte.{Class, symbol, variable, foreign, is-variable, class-of}
@@ -58,3 +58,26 @@ class-variable b v e = go (ltb b max-symbols) e
         → (b ≡ first-variable + v) × (v < variable-count)
     go true e = let z : _≡_ {A = ℕ} 0 1 = cc in absurd (omega arith)
     go false e = inside (leb first-variable b) (ltb b (first-variable + variable-count)) refl refl e
+
+pub class-is-variable : (b : ℕ) → first-variable ≤ b → b < first-variable + variable-count → class-of b ≡ variable (b - first-variable)
+class-is-variable b h i = let e : first-variable + (b - first-variable) ≡ b = omega arith in ap class-of (sym e) ∙ variable-class (b - first-variable) (omega arith)
+
+pub class-is-foreign : (b : ℕ) → max-symbols ≤ b → (leb first-variable b && ltb b (first-variable + variable-count)) ≡ false → class-of b ≡ foreign
+unfolding class-of
+class-is-foreign b h i = go (ltb b max-symbols) (leb first-variable b && ltb b (first-variable + variable-count)) (le-ltb b max-symbols h) i
+  where
+    go : (s t : Bool) → s ≡ false → t ≡ false → elim s as (λ t. Class) [ true ↦ symbol b | false ↦ elim t as (λ t. Class) [ true ↦ variable (b - first-variable) | false ↦ foreign ] ] ≡ foreign
+    go true t d e = let z : _≡_ {A = ℕ} 0 1 = cc in absurd (omega arith)
+    go false true d e = let z : _≡_ {A = ℕ} 0 1 = cc in absurd (omega arith)
+    go false false d e = refl
+
+-- A byte between the symbols and the variables, and one behind the variables.
+pub class-between : (b : ℕ) → max-symbols ≤ b → b < first-variable → class-of b ≡ foreign
+class-between b h i = class-is-foreign b h (ap (_&& ltb b (first-variable + variable-count)) (lt-leb first-variable b i))
+
+pub class-behind : (b : ℕ) → first-variable + variable-count ≤ b → class-of b ≡ foreign
+class-behind b h = class-is-foreign b (omega arith) (ap (leb first-variable b &&_) (le-ltb b (first-variable + variable-count) h) ∙ none (leb first-variable b))
+  where
+    none : (t : Bool) → (t && false) ≡ false
+    none true = refl
+    none false = refl

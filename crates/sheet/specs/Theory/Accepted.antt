@@ -9,7 +9,9 @@ use lib.Dec.{ltb, leb, eqb}
 use borrow.Author.Tests.{ltb-true, leb-true, eqb-true}
 use native.Mathlib.Omega.{arith}
 use Rattle.format.specs.Limits.{max-symbols, max-arity, max-equations, max-tasks, max-task-nodes, max-steps, max-text}
-use Rattle.format.specs.Refusal.{Refusal, symbol-frame, frame-order, digits, text-length, Result, refuse, give, Result·map}
+use Rattle.format.specs.Refusal.{Result, refuse, give, Result·map}
+use Rattle.format.specs.declared.refusal.Refusal.{Refusal}
+use Rattle.format.specs.declared.refusal.Refusal.the-variants.{SymbolFrame as symbol-frame, FrameOrder as frame-order, Digits as digits, TextLength as text-length}
 use Rattle.format.specs.Lists.{entry, any, all}
 use Rattle.format.specs.Theory.Lists.{Every, every-append, every-map, and-true, all-true, any-true}
 use Rattle.terms.specs.Term.{Term, Terms, nil, cons, size, sizes, count, Ground, Grounds}

@@ -6,7 +6,8 @@ use mathlib.Core.List.{List, [], _∷_, _++_, append-nil}
 use lib.ListN.{length}
 use native.Mathlib.Omega.{arith}
 use Rattle.format.specs.Limits.{max-symbols, max-side-nodes, max-task-nodes}
-use Rattle.format.specs.Refusal.{Refusal, Result, refuse, give, Result·map}
+use Rattle.format.specs.Refusal.{Result, refuse, give, Result·map}
+use Rattle.format.specs.declared.refusal.Refusal.{Refusal}
 use Rattle.terms.specs.Term.{Term, Terms, nil, cons, nth, size, sizes, count, Grounds}
 use Rattle.terms.specs.Equation.{Equation}
 use Rattle.terms.specs.Prefix.{prefix, prefixes, terms-of}

@@ -8,8 +8,12 @@ use lib.Dec.{ltb}
 use borrow.Author.Tests.{ltb-true}
 use native.Mathlib.Omega.{arith}
 use Rattle.format.specs.Limits.{max-symbols, variable-count, max-side-nodes, max-task-nodes}
-use Rattle.format.specs.Refusal.{Refusal, frame-bytes, not-ground, Result, refuse, give}
-use Rattle.format.specs.Byte.{Class, symbol, variable, foreign, class-of}
+use Rattle.format.specs.Refusal.{Result, refuse, give}
+use Rattle.format.specs.declared.refusal.Refusal.{Refusal}
+use Rattle.format.specs.declared.refusal.Refusal.the-variants.{FrameBytes as frame-bytes, NotGround as not-ground}
+use Rattle.format.specs.Byte.{class-of}
+use Rattle.format.specs.declared.byte.Class.{Class}
+use Rattle.format.specs.declared.byte.Class.the-variants.{Symbol as symbol, Variable as variable, Foreign as foreign}
 use Rattle.format.specs.Theory.Byte.{class-symbol, class-variable}
 use Rattle.terms.specs.Term.{Term, Terms, var, app, nil, cons, size, sizes, count, arity, Ground, Grounds}
 use Rattle.terms.specs.Prefix.{prefix, prefixes, take-terms, drop-terms, terms-of}

@@ -15,7 +15,7 @@ use Rattle.sheet.specs.Text.{Row, ended, unended, digit, byte-of, put-fi
 abbrev pub Bytes : List ℕ → Type 0
 Bytes bs = Every (λ b. b ≤ 0xff) bs
 
-digit-small : (c n : ℕ) → digit c ≡ some n → n < 16
+pub digit-small : (c n : ℕ) → digit c ≡ some n → n < 16
 unfolding digit
 digit-small c n e = go (leb 0x30 c) (leb c 0x39) (leb 0x61 c) (leb c 0x66) refl refl refl refl e
   where

@@ -9,7 +9,7 @@ use native.Mathlib.Omega.{arith}
 use Rattle.terms.specs.Position.{Node, var-node, app-node}
 use Rattle.terms.specs.Theory.View.{In, head, tail, Layout}
 use Rattle.solving.specs.Line.{Bindings, bind, Element, equal, greater, Line, line}
-use Rattle.format.specs.Refusal.{Refusal}
+use Rattle.format.specs.declared.refusal.Refusal.{Refusal}
 use Rattle.solving.specs.Walk.{Fuel, reach, occurs, bind-unless, unify-variables, unify-each, unify-nodes, unify, Treatment, fully-reduced, becomes, in-front, behind, treat-greater, treat, treat-leftmost, treat-line, turn, over-limit, Walked, solved, refused, walk-from}
 use Rattle.solving.specs.Theory.Seen.{Occurs, bound-variable, variable-bound}
 use Rattle.solving.specs.Theory.Rank.{Measure, rank, rank-le, rank-down}

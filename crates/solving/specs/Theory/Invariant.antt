@@ -4,7 +4,7 @@ use mathlib.Core.Path.{_≡_, refl}
 use mathlib.Core.Option.{Option, none, some}
 use mathlib.Core.List.{List}
 use native.Mathlib.Omega.{arith}
-use Rattle.format.specs.Refusal.{Refusal}
+use Rattle.format.specs.declared.refusal.Refusal.{Refusal}
 use Rattle.terms.specs.Position.{Node}
 use Rattle.solving.specs.Line.{Line}
 use Rattle.solving.specs.Walk.{Fuel, Walked, solved, refused, over-limit, turn, walk-from}
@@ -21,7 +21,7 @@ module _ (fuel : Fuel) (view : ℕ → Node) (P : List Line → Type 0)
   unfolding walk-from
   walk-keeps zero taken table final turns h d = go (turn fuel view table) refl d
     where
-      go : (o : Option (List Line)) → turn fuel view table ≡ o → (elim o as (λ x. Walked) [ none ↦ solved table taken | some new ↦ refused Refusal.too-many-turns ]) ≡ solved final turns
+      go : (o : Option (List Line)) → turn fuel view table ≡ o → (elim o as (λ x. Walked) [ none ↦ solved table taken | some new ↦ refused Refusal.TooManyTurns ]) ≡ solved final turns
           → Ended fuel view P final turns (taken + 0)
       go none e d = let x : final ≡ table = cc in let y : turns ≡ taken = cc in rw (x, y) (record { has = h; finished = e; turns-within = omega arith })
       go (some new) e d = let z : _≡_ {A = ℕ} 0 1 = cc in absurd (omega arith)

@@ -9,7 +9,8 @@ use lib.Dec.{ltb, nltb→le}
 use native.Mathlib.Omega.{arith}
 use Rattle.format.specs.Lists.{any}
 use Rattle.format.specs.Limits.{variable-count, max-elements, max-lines}
-use Rattle.format.specs.Refusal.{Refusal, too-many-elements, too-many-lines}
+use Rattle.format.specs.declared.refusal.Refusal.{Refusal}
+use Rattle.format.specs.declared.refusal.Refusal.the-variants.{TooManyElements as too-many-elements, TooManyLines as too-many-lines}
 use Rattle.terms.specs.Position.{Node}
 use Rattle.solving.specs.Line.{Bindings, lookup, Element, equal, greater, Line, line}
 use Rattle.solving.specs.Walk.{crowded, over-limit}

@@ -1,0 +1,20 @@
+// The classes of node bytes.
+ghost use mathlib.Core.Path.{_≡_};
+ghost use Rattle.format.specs.Byte.{class-of};
+
+// A symbol or a variable, each with its number, or a byte that stands for neither.
+pub enum Class {
+    Symbol(u8),
+    Variable(u8),
+    Foreign,
+}
+
+pub fn classify(b: u8) -> Class
+    ensures { λ r. ⌜ r ≡ class-of b ⌝ }
+{
+    match b {
+        0..=15 => Class::Symbol(b),
+        128..=135 => Class::Variable(b - 128),
+        _ => Class::Foreign,
+    }
+}

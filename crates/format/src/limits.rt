@@ -1,0 +1,44 @@
+// The fixed numbers that belong to the sheet, the walk and the calls.
+ghost use mathlib.Core.Path.{_≡_};
+ghost use Rattle.format.specs.Limits.{max-text, max-line-digits, max-symbols, max-arity, variable-count, max-equations, max-tasks, max-side-nodes, max-task-nodes, table-bytes, scratch-bytes, term-bytes, log-bytes};
+
+pub struct Limits {
+    pub nothing: (),
+}
+
+impl Limits {
+    // A text's bytes, and a line's digits.
+    pub const TEXT: usize = 16384;
+
+    pub const LINE_DIGITS: usize = 326;
+
+    // Symbols and their arities, variables, equations and tasks.
+    pub const SYMBOLS: usize = 16;
+
+    pub const ARITY: u8 = 4;
+
+    pub const VARIABLES: usize = 8;
+
+    pub const EQUATIONS: usize = 16;
+
+    pub const TASKS: usize = 32;
+
+    // The nodes of an equation's side, and those of a task's terms together.
+    pub const SIDE_NODES: usize = 32;
+
+    pub const TASK_NODES: usize = 160;
+
+    // Each number is the one of the definitions.
+    pub fn stated()
+        ensures { λ _. do ⌜ (← ⟦Limits::TEXT⟧ .entry) ≡ max-text ⌝ }
+        ensures { λ _. do ⌜ (← ⟦Limits::LINE_DIGITS⟧ .entry) ≡ max-line-digits ⌝ }
+        ensures { λ _. do ⌜ (← ⟦Limits::SYMBOLS⟧ .entry) ≡ max-symbols ⌝ }
+        ensures { λ _. do ⌜ (← ⟦Limits::ARITY⟧ .entry) ≡ max-arity ⌝ }
+        ensures { λ _. do ⌜ (← ⟦Limits::VARIABLES⟧ .entry) ≡ variable-count ⌝ }
+        ensures { λ _. do ⌜ (← ⟦Limits::EQUATIONS⟧ .entry) ≡ max-equations ⌝ }
+        ensures { λ _. do ⌜ (← ⟦Limits::TASKS⟧ .entry) ≡ max-tasks ⌝ }
+        ensures { λ _. do ⌜ (← ⟦Limits::SIDE_NODES⟧ .entry) ≡ max-side-nodes ⌝ }
+        ensures { λ _. do ⌜ (← ⟦Limits::TASK_NODES⟧ .entry) ≡ max-task-nodes ⌝ }
+    {
+    }
+}

@@ -1,0 +1,69 @@
+// The text of a sheet: digits, bytes of two digits, and where a line ends.
+use format::limits::Limits;
+ghost use mathlib.Core.Path.{_≡_};
+ghost use Prim.Native.Nat.{_+_, _≤_, _<_};
+ghost use lib.ListN.{length, getD};
+ghost use Rattle.sheet.specs.Cursor.{digit-number, pair-at, RowRead, CountRead};
+
+// The value of a digit, or 16 for any other character.
+pub fn digit_value(c: u8) -> usize
+    ensures { λ r. ⌜ r ≡ digit-number c ⌝ }
+{
+    match c {
+        48..=57 => (c - 48) as usize,
+        97..=102 => (c - 87) as usize,
+        _ => 16,
+    }
+}
+
+// The byte that the two digits at `at` write.
+pub fn byte_at(s: &[u8], at: usize) -> usize
+    requires { ⌜ at + 1 < length (now s) ⌝ }
+    ensures { λ r. ⌜ r ≡ pair-at (now (s .entry)) at ⌝ }
+{
+    let high = digit_value(s[at]);
+    let low = digit_value(s[at + 1]);
+    16 * high + low
+}
+
+// Where the digits of a line end, if it is a line of the stated digits and LF.
+pub enum RowEnd {
+    At(usize),
+    Broken,
+}
+
+pub fn row_end(s: &[u8], at: usize) -> RowEnd
+    requires { ⌜ at < length (now s) ⌝ }
+    ensures { λ r. ⌜ RowRead (now (s .entry)) at r ⌝ }
+{
+    let mut i = at;
+    while i < s.len() {
+        let c = s[i];
+        if c == 10 {
+            return ended_at(at, i);
+        }
+        if 15 < digit_value(c) {
+            return RowEnd::Broken;
+        }
+        if i - at == Limits::LINE_DIGITS {
+            return RowEnd::Broken;
+        }
+        i = i + 1;
+    }
+    RowEnd::Broken
+}
+
+// An even count, not zero.
+fn ended_at(at: usize, end: usize) -> RowEnd
+    requires { ⌜ at ≤ end ⌝ }
+    ensures { λ r. ⌜ CountRead at end r ⌝ }
+{
+    let count = end - at;
+    if count == 0 {
+        return RowEnd::Broken;
+    }
+    if count % 2 == 1 {
+        return RowEnd::Broken;
+    }
+    RowEnd::At(end)
+}
