@@ -1,6 +1,15 @@
 // The classes of node bytes.
 ghost use mathlib.Core.Path.{_≡_};
+ghost use Prim.Native.Nat.{_≤_};
 ghost use Rattle.format.specs.Byte.{class-of};
+
+// A byte as a number of any use.
+pub fn wide(x: u8) -> usize
+    ensures { λ r. ⌜ r ≡ x ⌝ }
+    ensures { λ r. ⌜ r ≤ 255 ⌝ }
+{
+    x as usize
+}
 
 // A symbol or a variable, each with its number, or a byte that stands for neither.
 pub enum Class {

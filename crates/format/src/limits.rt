@@ -39,6 +39,5 @@ impl Limits {
         ensures { λ _. do ⌜ (← ⟦Limits::TASKS⟧ .entry) ≡ max-tasks ⌝ }
         ensures { λ _. do ⌜ (← ⟦Limits::SIDE_NODES⟧ .entry) ≡ max-side-nodes ⌝ }
         ensures { λ _. do ⌜ (← ⟦Limits::TASK_NODES⟧ .entry) ≡ max-task-nodes ⌝ }
-    {
-    }
+    {}
 }

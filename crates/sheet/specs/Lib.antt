@@ -3,5 +3,6 @@ pub mod Sheet
 pub mod Frame
 pub mod Frames
 pub mod Cursor
+pub mod Scan
 pub mod Reading
 pub mod Theory

@@ -2,6 +2,8 @@
 pub mod Text
 pub mod Rows
 pub mod Cursor
+pub mod Listed
+pub mod Between
 pub mod Scan
 pub mod Valid
 pub mod Frame

@@ -1,2 +1,4 @@
 // Reading a sheet: what every text earns, line by line, and where a frame stands.
+pub mod known;
+pub mod scan;
 pub mod text;

@@ -248,7 +248,7 @@ passed-next s at i p h d n =
     let e : i + 1 - at ≡ suc (i - at) = omega (arith, p .begun) in
     let same : getD (drop at s) (i - at) 0 ≡ getD s i 0 = getD-drop at s (i - at) 0 ∙ ap (λ j. getD s j 0) (omega (arith, p .begun)) in
     let more : take (i + 1 - at) (drop at s) ≡ take (i - at) (drop at s) ++ (getD s i 0 ∷ []) =
-        ap (λ m. take m (drop at s)) e ∙ take-suc (drop at s) (i - at) 0 (omega (arith, length-drop at s, p .begun)) ∙ ap (λ x. take (i - at) (drop at s) ++ (x ∷ [])) same in
+    ap (λ m. take m (drop at s)) e ∙ take-suc (drop at s) (i - at) 0 (omega (arith, length-drop at s, p .begun)) ∙ ap (λ x. take (i - at) (drop at s) ++ (x ∷ [])) same in
     record {
       begun = omega (arith, p .begun);
       inside = omega arith;
