@@ -1,10 +1,10 @@
 -- What the contracts of the code that reads terms cite.
 use Prim.Native.Nat.{ℕ, zero, suc, _+_, _*_, _≤_, _<_, max}
 use mathlib.Core.Path.{_≡_}
-use mathlib.Core.Bool.{Bool}
+use mathlib.Core.Bool.{Bool, false}
 use mathlib.Core.List.{List, [], _∷_}
 use lib.ListN.{length}
-use Rattle.format.specs.Limits.{max-symbols, variable-count, max-task-nodes}
+use Rattle.format.specs.Limits.{max-symbols, variable-count, max-side-nodes, max-task-nodes}
 use Rattle.format.specs.Refusal.{Result, refuse, give}
 use Rattle.format.specs.Theory.Lists.{Every}
 use Rattle.format.specs.declared.byte.Class.{Class}
@@ -16,7 +16,10 @@ use Rattle.sheet.specs.declared.scan.After.the-variants.{Need, Refused a
 use Rattle.sheet.specs.declared.scan.Outcome.{Outcome}
 use Rattle.sheet.specs.declared.scan.Outcome.the-variants.{Done, Refused}
 use Rattle.sheet.specs.declared.scan.Scanned.{Scanned}
-use Rattle.sheet.specs.Frame.{scan}
+use Rattle.terms.specs.Term.{Terms}
+use Rattle.terms.specs.Equation.{Equation}
+use Rattle.sheet.specs.Sheet.{equation-width}
+use Rattle.sheet.specs.Frame.{scan, all-read, equation-body}
 use Rattle.sheet.specs.Cursor.{bytes-between}
 
 -- The first `n` entries of an array.
@@ -69,5 +72,28 @@ pub record ScanRead (text : List ℕ) (from end : ℕ) (arities : List ℕ) (gro
   pub given : scan arities ground (bytes-between text from end) terms nodes ≡ outcome-result (bytes-between text (r .at) end) (r .outcome)
   pub pairs : ℕ
   pub even : end ≡ r .at + 2 * pairs
+  pub are-bytes : Every (λ b. b ≤ 0xff) (bytes-between text (r .at) end)
   pub widths : max width (widest (bytes-between text from end)) ≡ max (r .width) (widest (bytes-between text (r .at) end))
   pub low-width : r .width ≤ variable-count
+
+-- The digits from `from` to `end` are the bytes of a frame's body.
+pub record FrameReady (text : List ℕ) (from end : ℕ) (k : Known) : Type 0 where
+  pub pairs : ℕ
+  pub even : end ≡ from + 2 * pairs
+  pub inside : end ≤ length text
+  pub are-bytes : Every (λ b. b ≤ 0xff) (bytes-between text from end)
+  pub few-symbols : k .symbols ≤ max-symbols
+
+-- The outcome is that of the definition's result.
+abbrev pub Matches : {A : Type 0} → Result A → Outcome → Type 0
+Matches {A} r Done = (a : A) × (r ≡ give a)
+Matches r (Refused x) = r ≡ refuse x
+
+-- A side and nothing behind it, and the highest variable so far.
+abbrev pub LastSide : List ℕ → List ℕ → (width highest : ℕ) → Outcome → Type 0
+LastSide arities bs width highest Done = (scan arities false bs 1 max-side-nodes ≡ give []) × (max width (widest bs) ≡ highest)
+LastSide arities bs width highest (Refused x) = (ts : Terms) → all-read ts (scan arities false bs 1 max-side-nodes) ≡ refuse x
+
+abbrev pub EquationGiven : List ℕ → List ℕ → (width : ℕ) → Outcome → Type 0
+EquationGiven arities bs width Done = (e : Equation) × (equation-body arities bs ≡ give e) × (equation-width e ≡ width)
+EquationGiven arities bs width (Refused x) = equation-body arities bs ≡ refuse x

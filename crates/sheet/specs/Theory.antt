@@ -7,5 +7,6 @@ pub mod Between
 pub mod Scan
 pub mod Valid
 pub mod Frame
+pub mod Body
 pub mod Accepted
 pub mod Frames

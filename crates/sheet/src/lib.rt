@@ -1,4 +1,5 @@
 // Reading a sheet: what every text earns, line by line, and where a frame stands.
+pub mod frame;
 pub mod known;
 pub mod scan;
 pub mod text;

@@ -123,7 +123,7 @@ module _ (text : List ℕ) (from end : ℕ) (arities : List ℕ) (ground : Bool)
     -- It stops with what the rest gives.
     pub scanning-stop : (o : Outcome) → scan arities ground (bytes-between text at end) need room ≡ outcome-result (bytes-between text at end) o
         → ScanRead text from end arities ground terms nodes width (record { outcome = o; at = at; width = w })
-    scanning-stop o e = record { given = g .same ∙ e; pairs = g .pairs; even = g .even; widths = g .widths; low-width = g .low }
+    scanning-stop o e = record { given = g .same ∙ e; pairs = g .pairs; even = g .even; are-bytes = g .are-bytes; widths = g .widths; low-width = g .low }
 
     pub stop-done : need ≤ 0 → ScanRead text from end arities ground terms nodes width (record { outcome = Done; at = at; width = w })
     stop-done h = let e : need ≡ 0 = omega arith in scanning-stop Done (ap (λ n. scan arities ground (bytes-between text at end) n room) e ∙ scan-none arities ground (bytes-between text at end) room)
