@@ -4,5 +4,6 @@ pub mod Frame
 pub mod Frames
 pub mod Cursor
 pub mod Scan
+pub mod Reader
 pub mod Reading
 pub mod Theory

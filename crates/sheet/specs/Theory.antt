@@ -8,5 +8,6 @@ pub mod Scan
 pub mod Valid
 pub mod Frame
 pub mod Body
+pub mod Symbols
 pub mod Accepted
 pub mod Frames

@@ -1,11 +1,11 @@
 // The bodies of frames: what each kind's bytes earn.
-use format::byte::wide;
-use format::limits::Limits;
-use format::refusal::Refusal;
 use crate::known::Known;
 use crate::scan::Outcome;
 use crate::scan::scan;
 use crate::text::byte_at;
+use format::byte::wide;
+use format::limits::Limits;
+use format::refusal::Refusal;
 ghost use mathlib.Core.Path.{_≡_};
 ghost use Prim.Native.Nat.{_+_, _*_, _≤_, _<_};
 ghost use lib.ListN.{length};

@@ -1,4 +1,5 @@
 // What the reader remembers of the lines it has passed.
+ghost use Rattle.sheet.specs.Reader.{none-known};
 
 // The symbols' arities and their count; for each equation how many variables there are up to its highest; how many equations and tasks.
 // No symbols: no line is passed yet.
@@ -11,7 +12,9 @@ pub struct Known {
 }
 
 impl Known {
-    pub fn nothing() -> Known {
+    pub fn nothing() -> Known
+        ensures { λ k. ⌜ none-known k ⌝ }
+    {
         Known {
             symbols: 0,
             arities: [0u8; 16],

@@ -2,4 +2,6 @@
 pub mod frame;
 pub mod known;
 pub mod scan;
+pub mod symbols;
+pub mod task;
 pub mod text;

@@ -94,7 +94,6 @@ width-low b = go (class-of b) refl
     go (variable v) e = omega (arith, class-variable b v e .1)
     go foreign e = omega arith
 
-
 -- 4. The loop of a scan: what is left to read decides, and the numbers stay small.
 pub record Scanning (text : List ℕ) (from end : ℕ) (arities : List ℕ) (ground : Bool) (terms nodes width at need room w : ℕ) : Type 0 where
   pub pairs : ℕ

@@ -59,8 +59,8 @@ loop-again c =
     let n = c .before .before .before .n .given in
     let most = subst (Rattle.sheet.specs.Scan.NeedAtMost _) (n .1) (call .terms-after .ensures .1) in
     let next =
-        scanning-next _ _ _ _ _ _ _ _ (loop .at) (loop .need) (loop .room) (loop .widest) (loop .inv) (call .before .before .before .before .if1 .left) (call .before .before .before .before .before .loop-test .taken)
-        (call .before .before .before .if2 .left) (n .0 .0) (told-after _ _ _ (call .before .before .byte-at .ensures) (call .before .classify .ensures) (call .terms-after .ensures .0) (n .1)) most in
+    scanning-next _ _ _ _ _ _ _ _ (loop .at) (loop .need) (loop .room) (loop .widest) (loop .inv) (call .before .before .before .before .if1 .left) (call .before .before .before .before .before .loop-test .taken)
+    (call .before .before .before .if2 .left) (n .0 .0) (told-after _ _ _ (call .before .before .byte-at .ensures) (call .before .classify .ensures) (call .terms-after .ensures .0) (n .1)) most in
     subst (Scanning _ _ _ _ _ _ _ _ _ _ _) (told-width (loop .widest) (call .before .before .byte-at .ensures) (call .before .classify .ensures) (c .before .node-width .ensures) (c .greater .ensures)) next
 
 returns-4 : tie.Need-returns-4 Inv-loop μ-loop
