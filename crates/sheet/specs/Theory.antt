@@ -9,5 +9,6 @@ pub mod Valid
 pub mod Frame
 pub mod Body
 pub mod Symbols
+pub mod Task
 pub mod Accepted
 pub mod Frames

@@ -1,25 +1,18 @@
+-- `sheet::task::run_task` is the definition's `run-body`.
+use native.Mathlib.Omega.{arith}
 use borrow.Author.Needs.{needs}
+use Rattle.sheet.specs.Theory.Task.{frame-next, run-early, run-read}
 use Rattle.sheet.proofs.task.run_task.Statement.{statement}
 use Rattle.sheet.proofs.task.run_task.Tie as tie
-use Rattle.sheet.proofs.task.run_task.Reads as reads
-use Rattle.sheet.proofs.task.run_task.Lts as lts
-use Rattle.sheet.proofs.frame.ground_terms.Reads as ground-terms-reads
 
--- src/task.rt:21:9
 returns : tie.Need-returns
-returns c = search needs
+returns c = λ sheet knows. run-early _ sheet knows _ _ _ (c .if1 .taken)
 
--- src/task.rt:23:28
-add-ground-terms : tie.Need-add-ground-terms
-add-ground-terms c = search needs
-
--- src/task.rt:23:5
 ground-terms-requires : tie.Need-ground-terms-requires
-ground-terms-requires c κs = search needs
+ground-terms-requires c κs = (frame-next _ _ _ _ (c .before .before .pre) (c .if1 .left), omega arith)
 
--- src/task.rt:16:1
 returns-2 : tie.Need-returns-2
-returns-2 c = search needs
+returns-2 c = λ sheet knows. run-read _ sheet knows _ _ _ (c .before .before .before .pre) (c .before .if1 .left) (c .ground-terms .result) (c .ground-terms .ensures)
 
 pub run-task-spec : {M : Type 1} → statement M
-run-task-spec = tie.close (tie.spec returns add-ground-terms ground-terms-requires returns-2)
+run-task-spec = tie.close (tie.spec returns (λ c. search needs) ground-terms-requires returns-2)

@@ -1,48 +1,21 @@
+-- `sheet::task::task_body` reads a task's body by its kind.
+use native.Mathlib.Omega.{arith}
 use borrow.Author.Needs.{needs}
+use Rattle.sheet.specs.Theory.Task.{comparison-read, run-kind-is, judgement-kind-is, comparison-kind-is, other-kind}
 use Rattle.sheet.proofs.task.task_body.Statement.{statement}
 use Rattle.sheet.proofs.task.task_body.Tie as tie
-use Rattle.sheet.proofs.task.task_body.Reads as reads
-use Rattle.sheet.proofs.task.task_body.Lts as lts
-use Rattle.sheet.proofs.frame.ground_terms.Reads as ground-terms-reads
-use Rattle.sheet.proofs.task.judgement_task.Reads as judgement-task-reads
-use Rattle.sheet.proofs.task.run_task.Reads as run-task-reads
 
--- src/task.rt:50:14
-run-task-requires : tie.Need-run-task-requires
-run-task-requires c κs = search needs
-
--- src/task.rt:51:14
-judgement-task-requires : tie.Need-judgement-task-requires
-judgement-task-requires c κs = search needs
-
--- src/task.rt:52:14
-ground-terms-requires : tie.Need-ground-terms-requires
-ground-terms-requires c κs = search needs
-
--- src/task.rt:45:1
 returns : tie.Need-returns
-returns c = search needs
+returns c = λ sheet knows. run-kind-is sheet _ (c .run-task .result) (c .before .match .keys1) (c .run-task .ensures sheet knows)
 
--- src/task.rt:45:1
 returns-2 : tie.Need-returns-2
-returns-2 c = search needs
+returns-2 c = λ sheet knows. judgement-kind-is sheet _ (c .judgement-task .result) (c .before .match .keys2) (c .judgement-task .ensures sheet knows)
 
--- src/task.rt:45:1
 returns-3 : tie.Need-returns-3
-returns-3 c = search needs
+returns-3 c = λ sheet knows. comparison-kind-is sheet _ (c .ground-terms .result) (c .before .match .keys3) (comparison-read _ sheet knows _ (c .ground-terms .result) (c .ground-terms .ensures))
 
--- src/task.rt:45:1
 returns-4 : tie.Need-returns-4
-returns-4 c = search needs
+returns-4 c = λ sheet knows. other-kind sheet _ _ (c .match .rest .0 .0 .1) (c .match .rest .0 .1) (c .match .rest .1)
 
 pub task-body-spec : {M : Type 1} → statement M
-task-body-spec =
-    tie.close
-    (tie.spec
-    run-task-requires
-    judgement-task-requires
-    ground-terms-requires
-    returns
-    returns-2
-    returns-3
-    returns-4)
+task-body-spec = tie.close (tie.spec (λ c κs. search needs) (λ c κs. search needs) (λ c κs. search needs) returns returns-2 returns-3 returns-4)
