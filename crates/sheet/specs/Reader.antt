@@ -5,7 +5,7 @@ use mathlib.Core.Bool.{Bool, true, false}
 use mathlib.Core.List.{List, [], _∷_, map}
 use lib.ListN.{length, getD}
 use lib.Dec.{eqb}
-use Rattle.format.specs.Limits.{max-symbols, max-equations}
+use Rattle.format.specs.Limits.{max-symbols, max-equations, max-text}
 use Rattle.format.specs.Lists.{any}
 use Rattle.format.specs.Refusal.{Result, refuse, give}
 use Rattle.format.specs.declared.refusal.Refusal.the-variants.{FrameOrder, SymbolFrame}
@@ -13,6 +13,9 @@ use Rattle.format.specs.Theory.Lists.{Every}
 use Rattle.sheet.specs.declared.known.Known.{Known}
 use Rattle.sheet.specs.declared.scan.Outcome.{Outcome}
 use Rattle.sheet.specs.declared.scan.Outcome.the-variants.{Done, Refused}
+use Rattle.sheet.specs.declared.read.Reading.{Reading}
+use Rattle.sheet.specs.declared.read.Reading.the-variants.{Accepted, Refused as Refused-at}
+use Rattle.sheet.specs.Reading.{refused-at, accepted, read}
 use Rattle.sheet.specs.Sheet.{Task, Sheet, equation-width}
 use Rattle.sheet.specs.Frame.{State, start, within, Kind, symbols-kind, equation-kind, run-kind, judgement-kind, comparison-kind, unknown-kind, symbols-right, symbols-body, run-body, judgement-body, comparison-body, read-frame}
 use Rattle.sheet.specs.Cursor.{bytes-between}
@@ -83,3 +86,8 @@ task-result s unknown-kind bs = refuse FrameOrder
 abbrev pub StepRead : State → List ℕ → Known → Outcome → Type 0
 StepRead state frame k Done = (next : State) × (read-frame state frame ≡ give next) × Knows k next
 StepRead state frame k (Refused x) = read-frame state frame ≡ refuse x
+
+-- What every text earns: a refusal with its line, which is no greater than the text is long, or a sheet that is known.
+abbrev pub SheetRead : List ℕ → Known → Reading → Type 0
+SheetRead text k Accepted = (s : Sheet) × (read text ≡ accepted s) × KnowsSheet k s
+SheetRead text k (Refused-at x line) = (read text ≡ refused-at x line) × (line ≤ max-text)

@@ -11,4 +11,5 @@ pub mod Body
 pub mod Symbols
 pub mod Task
 pub mod Accepted
+pub mod Step
 pub mod Frames

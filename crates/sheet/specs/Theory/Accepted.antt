@@ -168,7 +168,7 @@ body-kept (within s) next judgement-kind bs small v o e = let (t, x, y) = mapped
 body-kept (within s) next comparison-kind bs small v o e = let (t, x, y) = mapped (with-task s) (comparison-body s bs) next e in subst ValidState y (task-kept s t v o (comparison-given s v bs t x))
 body-kept (within s) next unknown-kind bs small v o e = let z : _≡_ {A = ℕ} 0 1 = cc in absurd (omega arith)
 
-frame-kept : (state next : State) (bs : List ℕ) → Bytes bs → ValidState state → read-frame state bs ≡ give next → ValidState next
+pub frame-kept : (state next : State) (bs : List ℕ) → Bytes bs → ValidState state → read-frame state bs ≡ give next → ValidState next
 unfolding read-frame
 frame-kept state next [] small v e = let z : _≡_ {A = ℕ} 0 1 = cc in absurd (omega arith)
 frame-kept state next (k ∷ bs) small v e = go (in-order state (kind-of k)) refl e

@@ -71,7 +71,7 @@ mutual
   widths-low n nil h = omega arith
   widths-low n (cons t ts) h = omega (arith, width-low n t (h .0), widths-low n ts (h .1))
 
-equation-width-low : (e : Equation) → WithinLimits e → equation-width e ≤ variable-count
+pub equation-width-low : (e : Equation) → WithinLimits e → equation-width e ≤ variable-count
 unfolding equation-width
 equation-width-low e w = omega (arith, width-low variable-count (e .left) (w .left-variables), width-low variable-count (e .right) (w .right-variables))
 

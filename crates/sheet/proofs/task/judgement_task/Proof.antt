@@ -19,8 +19,7 @@ returns-3 c = λ sheet knows.
 ground-terms-requires : tie.Need-ground-terms-requires
 ground-terms-requires c κs =
     let start = c .before .before .before .before .before .before .before .before in
-    let (sheet, knows) = start .pre .1 in
-    (
+    let (sheet, knows) = start .pre .1 in (
       frame-behind-two _ sheet knows _ _ _ (start .pre .0) (c .before .before .before .before .before .before .if1 .left),
       omega (
         arith,

@@ -1,0 +1,164 @@
+// Frames in order, and a whole sheet line by line.
+use crate::frame::equation_body;
+use crate::known::Known;
+use crate::scan::Outcome;
+use crate::symbols::Step;
+use crate::symbols::refused;
+use crate::symbols::symbols_body;
+use crate::task::task_body;
+use crate::text::RowEnd;
+use crate::text::byte_at;
+use crate::text::row_end;
+use format::limits::Limits;
+use format::refusal::Refusal;
+ghost use mathlib.Core.Path.{_≡_};
+ghost use mathlib.Core.List.{_∷_};
+ghost use Prim.Native.Nat.{_+_, _≤_, _<_};
+ghost use lib.ListN.{set};
+ghost use Rattle.sheet.specs.Sheet.{Sheet};
+ghost use Rattle.sheet.specs.Frame.{State, within};
+ghost use Rattle.sheet.specs.Cursor.{bytes-between};
+ghost use Rattle.sheet.specs.Scan.{FrameReady};
+ghost use Rattle.sheet.specs.Reader.{KnowsSheet, Knows, StepRead, BodyReady, SheetRead};
+
+// One more equation, with as many variables up to its highest.
+fn with_equation(known: Known, width: usize) -> Known
+    requires { ⌜ (known .equations < 16) × (width ≤ 8) ⌝ }
+    ensures { λ r. ⌜ r ≡ record { symbols = known .symbols; arities = known .arities; equations = known .equations + 1; widths = set (known .widths) (known .equations) width; tasks = known .tasks } ⌝ }
+{
+    let mut more = known;
+    let n = known.equations;
+    more.widths[n] = width as u8;
+    more.equations = n + 1;
+    more
+}
+
+fn with_task(known: Known) -> Known
+    requires { ⌜ known .tasks < 32 ⌝ }
+    ensures { λ r. ⌜ r ≡ record { symbols = known .symbols; arities = known .arities; equations = known .equations; widths = known .widths; tasks = known .tasks + 1 } ⌝ }
+{
+    let mut more = known;
+    more.tasks = known.tasks + 1;
+    more
+}
+
+// An equation's frame, behind its kind.
+fn equation_frame(known: Known, s: &[u8], from: usize, end: usize) -> Step
+    requires { ⌜ FrameReady (now s) from end known × ((sheet : Sheet) × KnowsSheet known sheet) ⌝ }
+    ensures { λ r. ⌜ ((sheet : Sheet) → KnowsSheet known sheet → StepRead (within sheet) (2 ∷ bytes-between (now (s .entry)) from end) (r .known) (r .outcome)) ⌝ }
+{
+    if 0 < known.tasks {
+        return refused(known, Refusal::FrameOrder);
+    }
+    if Limits::EQUATIONS <= known.equations {
+        return refused(known, Refusal::FrameOrder);
+    }
+    let sides = equation_body(known, s, from, end);
+    let outcome = sides.outcome;
+    match outcome {
+        Outcome::Refused(x) => refused(known, x),
+        Outcome::Done => Step {
+            outcome: Outcome::Done,
+            known: with_equation(known, sides.width),
+        },
+    }
+}
+
+// A frame of any other kind, behind the symbols'.
+fn task_frame(known: Known, s: &[u8], from: usize, end: usize, kind: usize) -> Step
+    requires { ⌜ FrameReady (now s) from end known × ((sheet : Sheet) × KnowsSheet known sheet) × (kind ≡ 2 → ⊥) × (kind ≤ 255) ⌝ }
+    ensures { λ r. ⌜ ((sheet : Sheet) → KnowsSheet known sheet → StepRead (within sheet) (kind ∷ bytes-between (now (s .entry)) from end) (r .known) (r .outcome)) ⌝ }
+{
+    if known.equations == 0 {
+        return refused(known, Refusal::FrameOrder);
+    }
+    if Limits::TASKS <= known.tasks {
+        return refused(known, Refusal::FrameOrder);
+    }
+    let outcome = task_body(known, s, from, end, kind);
+    match outcome {
+        Outcome::Refused(x) => refused(known, x),
+        Outcome::Done => Step {
+            outcome: Outcome::Done,
+            known: with_task(known),
+        },
+    }
+}
+
+// One frame, of the digits from `from` to `end`.
+pub fn read_frame(known: Known, s: &[u8], from: usize, end: usize) -> Step
+    requires { ⌜ BodyReady (now s) from end × (from < end) × ((state : State) × Knows known state) ⌝ }
+    ensures { λ r. ⌜ ((state : State) → Knows known state → StepRead state (bytes-between (now (s .entry)) from end) (r .known) (r .outcome)) ⌝ }
+{
+    let kind = byte_at(s, from);
+    let body = from + 2;
+    if known.symbols == 0 {
+        if kind == 1 {
+            return symbols_body(s, body, end);
+        }
+        return refused(known, Refusal::FrameOrder);
+    }
+    if kind == 2 {
+        return equation_frame(known, s, body, end);
+    }
+    task_frame(known, s, body, end, kind)
+}
+
+// A sheet: accepted, or refused with a line.
+pub enum Reading {
+    Accepted,
+    Refused(Refusal, usize),
+}
+
+pub struct SheetReading {
+    pub reading: Reading,
+    pub known: Known,
+}
+
+fn refused_at(why: Refusal, line: usize) -> SheetReading
+    ensures { λ r. ⌜ r .reading ≡ Reading.Refused why line ⌝ }
+{
+    SheetReading {
+        reading: Reading::Refused(why, line),
+        known: Known::nothing(),
+    }
+}
+
+pub fn read_sheet(s: &[u8]) -> SheetReading
+    ensures { λ r. ⌜ SheetRead (now (s .entry)) (r .known) (r .reading) ⌝ }
+{
+    let n = s.len();
+    if n == 0 {
+        return refused_at(Refusal::TextLength, 0);
+    }
+    if Limits::TEXT < n {
+        return refused_at(Refusal::TextLength, 0);
+    }
+    let mut known = Known::nothing();
+    let mut at: usize = 0;
+    let mut line: usize = 0;
+    while at < n {
+        match row_end(s, at) {
+            RowEnd::Broken => {
+                return refused_at(Refusal::Digits, line + 1);
+            }
+            RowEnd::At(end) => {
+                let step = read_frame(known, s, at, end);
+                let outcome = step.outcome;
+                if let Outcome::Refused(x) = outcome {
+                    return refused_at(x, line + 1);
+                }
+                known = step.known;
+                at = end + 1;
+                line = line + 1;
+            }
+        }
+    }
+    if known.equations == 0 {
+        return refused_at(Refusal::FrameOrder, line);
+    }
+    SheetReading {
+        reading: Reading::Accepted,
+        known: known,
+    }
+}
