@@ -12,4 +12,5 @@ pub mod Symbols
 pub mod Task
 pub mod Accepted
 pub mod Step
+pub mod Lines
 pub mod Frames
