@@ -1,5 +1,6 @@
 -- The theorems about the calls' outcomes.
 pub mod Number
+pub mod Check
 pub mod Solve
 pub mod Walks
 pub mod Run

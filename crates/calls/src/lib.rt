@@ -1,1 +1,3 @@
-// The five calls. Their outcomes stand in specs/.
+// The calls for a marking host written in C. Each is lent the whole sheet and reads it afresh; nothing is kept between calls.
+pub mod check;
+pub mod number;

@@ -7,7 +7,7 @@ use Rattle.format.specs.declared.refusal.Refusal.{Refusal}
 use Rattle.format.specs.declared.refusal.Refusal.the-variants.{TextLength as text-length, Digits as digits, FrameOrder as frame-order, SymbolFrame as symbol-frame, FrameBytes as frame-bytes, NotGround as not-ground, AbsentDirection as absent-direction, TooManyTurns as too-many-turns, TooManyElements as too-many-elements, TooManyLines as too-many-lines, ShortBuffer as short-buffer, AbsentArgument as absent-argument}
 use Rattle.calls.specs.Buffer.{fields, refusal, refusal-byte}
 
-number-range : (r : Refusal) → (1 ≤ number r) × (number r ≤ 12)
+pub number-range : (r : Refusal) → (1 ≤ number r) × (number r ≤ 12)
 number-range text-length = omega arith
 number-range digits = omega arith
 number-range frame-order = omega arith

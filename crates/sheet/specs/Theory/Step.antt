@@ -101,7 +101,7 @@ module _ (k : Known) (s : Sheet) (knows : KnowsSheet k s) where
       where
         known : (e : Equation) → read-frame (within s) (2 ∷ bs) ≡ give (with-equation s e) → equation-width e ≡ w
             → KnowsSheet (record { symbols = k .symbols; arities = k .arities; equations = k .equations + 1; widths = set (k .widths) (k .equations) w; tasks = k .tasks })
-                (record { arities = s .arities; equations = s .equations ++ (e ∷ []); tasks = s .tasks })
+            (record { arities = s .arities; equations = s .equations ++ (e ∷ []); tasks = s .tasks })
         known e r y = record {
           arities-are = knows .arities-are;
           equations-are = omega (arith, knows .equations-are, length-append (s .equations) (e ∷ []));
@@ -164,15 +164,18 @@ module _ (k : Known) (s : Sheet) (knows : KnowsSheet k s) where
     unfolding Result·map with-task
     task-done bs small g d =
         let (t, x) = g in
-        let r : read-frame (within s) (kind ∷ bs) ≡ give (with-task s t) = task-is bs ∙ ap (Result·map (with-task s)) x in
-        (with-task s t, r, subst (λ m. Knows m (with-task s t)) (sym d) (record {
-          arities-are = knows .arities-are;
-          equations-are = knows .equations-are;
-          widths-are = knows .widths-are;
-          tasks-are = omega (arith, knows .tasks-are, length-append (s .tasks) (t ∷ []));
-          valid = frame-kept (within s) (with-task s t) (kind ∷ bs) small (knows .valid) r;
-          roomy = record { arities-room = knows .roomy .arities-room; widths-room = knows .roomy .widths-room };
-        }))
+        let r : read-frame (within s) (kind ∷ bs) ≡ give (with-task s t) = task-is bs ∙ ap (Result·map (with-task s)) x in (
+          with-task s t,
+          r,
+          subst (λ m. Knows m (with-task s t)) (sym d) (record {
+            arities-are = knows .arities-are;
+            equations-are = knows .equations-are;
+            widths-are = knows .widths-are;
+            tasks-are = omega (arith, knows .tasks-are, length-append (s .tasks) (t ∷ []));
+            valid = frame-kept (within s) (with-task s t) (kind ∷ bs) small (knows .valid) r;
+            roomy = record { arities-room = knows .roomy .arities-room; widths-room = knows .roomy .widths-room };
+          }),
+        )
 
 -- 3. The first frame.
 first-other : (kind : ℕ) → (kind ≡ 1 → ⊥) → in-order start (kind-of kind) ≡ false
@@ -192,15 +195,18 @@ no-entries xs = refl
 first-symbols : (bs : List ℕ) → Bytes bs → (k : Known) (o : Outcome) → SymbolsRead bs k o → StepRead start (1 ∷ bs) k o
 unfolding in-order kind-of read-body
 first-symbols bs small k Done h =
-    let r : read-frame start (1 ∷ bs) ≡ give (symbols-only (known-arities k)) = ordered start 1 bs refl ∙ h .0 in
-    (symbols-only (known-arities k), r, record {
-      arities-are = refl;
-      equations-are = h .1;
-      widths-are = ap (λ n. listed n (k .widths)) (h .1) ∙ no-entries (k .widths);
-      tasks-are = h .2;
-      valid = frame-kept start (symbols-only (known-arities k)) (1 ∷ bs) (omega arith, small) tt r;
-      roomy = record { arities-room = h .3 .arities-room; widths-room = h .3 .widths-room };
-    })
+    let r : read-frame start (1 ∷ bs) ≡ give (symbols-only (known-arities k)) = ordered start 1 bs refl ∙ h .0 in (
+      symbols-only (known-arities k),
+      r,
+      record {
+        arities-are = refl;
+        equations-are = h .1;
+        widths-are = ap (λ n. listed n (k .widths)) (h .1) ∙ no-entries (k .widths);
+        tasks-are = h .2;
+        valid = frame-kept start (symbols-only (known-arities k)) (1 ∷ bs) (omega arith, small) tt r;
+        roomy = record { arities-room = h .3 .arities-room; widths-room = h .3 .widths-room };
+      },
+    )
 first-symbols bs small k (Refused x) h = ordered start 1 bs refl ∙ h
 
 -- 4. A frame of digits.

@@ -1,0 +1,24 @@
+-- Laws for the call check: what the reading code says is the defined outcome.
+use Prim.Native.Nat.{ℕ, _≤_}
+use mathlib.Core.Path.{_≡_, refl, sym, ap, subst, _∙_}
+use mathlib.Core.List.{List}
+use Rattle.format.specs.Limits.{max-text}
+use Rattle.format.specs.declared.refusal.Refusal.{Refusal}
+use Rattle.sheet.specs.declared.known.Known.{Known}
+use Rattle.sheet.specs.declared.read.Reading.{Reading}
+use Rattle.sheet.specs.declared.read.Reading.the-variants.{Accepted, Refused}
+use Rattle.sheet.specs.Reader.{SheetRead}
+use Rattle.calls.specs.Buffer.{refusal}
+use Rattle.calls.specs.Outcome.{check, check-answer}
+
+module _ (text : List ℕ) (k : Known) (r : Reading) (h : SheetRead text k r) where
+  pub check-accepted : r ≡ Accepted → check text ≡ 0
+  unfolding check check-answer
+  check-accepted e = let (s, x, y) = subst (SheetRead text k) e h in ap check-answer x
+
+  pub check-refused : {x : Refusal} {line : ℕ} → r ≡ Refused x line → check text ≡ refusal x line
+  unfolding check check-answer
+  check-refused e = ap check-answer (subst (SheetRead text k) e h .0)
+
+  pub refused-line : {x : Refusal} {line : ℕ} → r ≡ Refused x line → line ≤ max-text
+  refused-line e = subst (SheetRead text k) e h .1
