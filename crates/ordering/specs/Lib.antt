@@ -1,3 +1,6 @@
 pub mod Order
 pub mod Theory
 pub mod Verdict
+pub mod Nodes
+pub mod Comparing
+pub mod Sizes

@@ -4,5 +4,9 @@ pub mod Laws
 pub mod Context
 pub mod Decide
 pub mod Total
+pub mod Verdict
+pub mod Nodes
+pub mod Sizes
+pub mod Stored
 pub mod Literal
 pub mod Examples
