@@ -26,10 +26,9 @@ find look (accepted s) = found (look s)
 -- "Order: 11; 1; then line by line 2, 3, ...; then 12". `look` finds what the call asks for in the sheet.
 unfoldable pub asked : {A : Type 0} → (long-enough : Bool) → (sheet : List ℕ) → (look : Sheet → Option A) → Reading A
 unfolding find read
+-- "11, a lent buffer is too short (line 0)."
 asked false sheet look = refused-at short-buffer 0
 asked true sheet look = find look (read sheet)
-
--- "11, a lent buffer is too short (line 0)."
 
 -- Compare asks for a task of two terms.
 pub record Pair : Type 0 where
@@ -47,18 +46,18 @@ unfolding comparison-in entry
 comparison-task task s = comparison-in (entry (s .tasks) task)
 
 -- Solve asks for an equation in a direction.
-pub record Side : Type 0 where
+pub record Directed : Type 0 where
   pub equation : Equation
   pub direction : Direction
 
-unfoldable pub side-in : Option Equation → Option Direction → Option Side
-side-in none d = none
-side-in (some e) none = none
-side-in (some e) (some d) = some (record { equation = e; direction = d })
+unfoldable pub directed-in : Option Equation → Option Direction → Option Directed
+directed-in none d = none
+directed-in (some e) none = none
+directed-in (some e) (some d) = some (record { equation = e; direction = d })
 
-unfoldable pub solve-side : (equation direction : ℕ) → Sheet → Option Side
-unfolding side-in entry direction-of
-solve-side e d s = side-in (entry (s .equations) e) (direction-of d)
+unfoldable pub solve-directed : (equation direction : ℕ) → Sheet → Option Directed
+unfolding directed-in entry direction-of
+solve-directed e d s = directed-in (entry (s .equations) e) (direction-of d)
 
 -- Judge asks for a task of an equation, a direction and values, over all equations of the sheet.
 pub record Judgement : Type 0 where
@@ -98,7 +97,7 @@ unfoldable pub reduction-task : (task : ℕ) → Sheet → Option Reduction
 unfolding reduction-in entry
 reduction-task task s = reduction-in (s .equations) (entry (s .tasks) task)
 
--- "8 to 10 ... The line is the equation's." Frame 01 is line 1, and the equations follow.
+-- 8 to 10: "The line is the equation's." Frame 01 is line 1, and the equations follow.
 unfoldable pub equation-line : ℕ → ℕ
 equation-line e = e + 2
 

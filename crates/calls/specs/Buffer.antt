@@ -11,9 +11,9 @@ unfoldable pub fields : (first second third : ℕ) → ℕ
 fields a b c = 2 ^ 8 * a + 2 ^ 24 * b + 2 ^ 40 * c
 
 -- "Refusal: line."
-unfoldable pub refusal : Refusal → (line : ℕ) → ℕ
+unfoldable pub refusal-number : Refusal → (line : ℕ) → ℕ
 unfolding fields
-refusal r line = number r + fields line 0 0
+refusal-number r line = number r + fields line 0 0
 
 -- "lowest byte the refusal, or 0"
 unfoldable pub refusal-byte : ℕ → ℕ

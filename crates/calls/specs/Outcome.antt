@@ -18,18 +18,18 @@ use Rattle.solving.specs.Line.{records}
 use Rattle.solving.specs.Walk.{Walked, solved, refused, solve}
 use Rattle.reducing.specs.Run.{Step, Run, ending-number, last-term}
 use Rattle.reducing.specs.Test.{holding-line, line-run}
-use Rattle.calls.specs.Buffer.{fields, refusal, written, cleared, blanked}
-use Rattle.calls.specs.Asked.{asked, Pair, comparison-task, Side, solve-side, Judgement, judgement-task, Reduction, reduction-task, equation-line, WalkRefusal, first-refusal}
+use Rattle.calls.specs.Buffer.{fields, refusal-number, written, cleared, blanked}
+use Rattle.calls.specs.Asked.{asked, Pair, comparison-task, Directed, solve-directed, Judgement, judgement-task, Reduction, reduction-task, equation-line, WalkRefusal, first-refusal}
 
 -- Check: "(refusal, line)". It is lent nothing but the sheet.
 unfoldable pub check-answer : Reading Sheet → ℕ
-unfolding refusal
-check-answer (refused-at r line) = refusal r line
+unfolding refusal-number
+check-answer (refused-at r line) = refusal-number r line
 check-answer (accepted s) = 0
 
-unfoldable pub check : (sheet : List ℕ) → ℕ
+unfoldable pub check-call : (sheet : List ℕ) → ℕ
 unfolding check-answer read
-check sheet = check-answer (read sheet)
+check-call sheet = check-answer (read sheet)
 
 -- Compare: "0 smaller, 1 equal, 2 greater". Refusals write nothing.
 pub record CompareOutcome : Type 0 where
@@ -37,13 +37,13 @@ pub record CompareOutcome : Type 0 where
   pub scratch : List ℕ
 
 unfoldable pub compare-answer : (scratch : List ℕ) → Reading Pair → CompareOutcome
-unfolding refusal fields verdict verdict-number cleared
-compare-answer scratch (refused-at r line) = record { returned = refusal r line; scratch = scratch }
+unfolding refusal-number fields verdict verdict-number cleared
+compare-answer scratch (refused-at r line) = record { returned = refusal-number r line; scratch = scratch }
 compare-answer scratch (accepted c) = record { returned = fields (verdict-number (verdict (c .first) (c .second))) 0 0; scratch = cleared scratch }
 
-unfoldable pub compare : (sheet : List ℕ) → (task : ℕ) → (scratch : List ℕ) → CompareOutcome
+unfoldable pub compare-call : (sheet : List ℕ) → (task : ℕ) → (scratch : List ℕ) → CompareOutcome
 unfolding compare-answer asked comparison-task
-compare sheet task scratch = compare-answer scratch (asked (leb scratch-bytes (length scratch)) sheet (comparison-task task))
+compare-call sheet task scratch = compare-answer scratch (asked (leb scratch-bytes (length scratch)) sheet (comparison-task task))
 
 -- Solve and judge are lent a table and scratch.
 pub record TableOutcome : Type 0 where
@@ -56,8 +56,8 @@ table-fits table scratch = leb table-bytes (length table) && leb scratch-bytes (
 
 -- "Refusals 8 to 10 leave 22,695 table bytes ff and 57,344 scratch bytes 00"
 unfoldable pub table-unsolved : (table scratch : List ℕ) → Refusal → (line : ℕ) → TableOutcome
-unfolding refusal blanked cleared
-table-unsolved table scratch r line = record { returned = refusal r line; table = blanked table; scratch = cleared scratch }
+unfolding refusal-number blanked cleared
+table-unsolved table scratch r line = record { returned = refusal-number r line; table = blanked table; scratch = cleared scratch }
 
 -- Solve: "lines, turns"; "solve's table holds its records, bytes beyond them unchanged".
 unfoldable pub solve-walked : (equation : ℕ) → (table scratch : List ℕ) → Walked → TableOutcome
@@ -65,14 +65,14 @@ unfolding table-unsolved equation-line fields written records cleared
 solve-walked e table scratch (refused r) = table-unsolved table scratch r (equation-line e)
 solve-walked e table scratch (solved ls n) = record { returned = fields (length ls) n 0; table = written (records ls) table; scratch = cleared scratch }
 
-unfoldable pub solve-answer : (equation : ℕ) → (table scratch : List ℕ) → Reading Side → TableOutcome
-unfolding refusal solve-walked solve
-solve-answer e table scratch (refused-at r line) = record { returned = refusal r line; table = table; scratch = scratch }
+unfoldable pub solve-answer : (equation : ℕ) → (table scratch : List ℕ) → Reading Directed → TableOutcome
+unfolding refusal-number solve-walked solve
+solve-answer e table scratch (refused-at r line) = record { returned = refusal-number r line; table = table; scratch = scratch }
 solve-answer e table scratch (accepted q) = solve-walked e table scratch (solve (q .equation) (q .direction))
 
 unfoldable pub solve-call : (sheet : List ℕ) → (equation direction : ℕ) → (table scratch : List ℕ) → TableOutcome
-unfolding solve-answer asked solve-side table-fits
-solve-call sheet e d table scratch = solve-answer e table scratch (asked (table-fits table scratch) sheet (solve-side e d))
+unfolding solve-answer asked solve-directed table-fits
+solve-call sheet e d table scratch = solve-answer e table scratch (asked (table-fits table scratch) sheet (solve-directed e d))
 
 -- Judge: "1 or 0, first holding line counted from 1 or 0"; "judge and run leave the table's first 22,695 bytes ff".
 unfoldable pub judge-fields : (holding : ℕ) → ℕ
@@ -86,13 +86,13 @@ judge-walked table scratch j (some r) = table-unsolved table scratch (r .refusal
 judge-walked table scratch j none = record { returned = judge-fields (holding-line (j .equation) (j .direction) (j .values)); table = blanked table; scratch = cleared scratch }
 
 unfoldable pub judge-answer : (table scratch : List ℕ) → Reading Judgement → TableOutcome
-unfolding refusal judge-walked first-refusal
-judge-answer table scratch (refused-at r line) = record { returned = refusal r line; table = table; scratch = scratch }
+unfolding refusal-number judge-walked first-refusal
+judge-answer table scratch (refused-at r line) = record { returned = refusal-number r line; table = table; scratch = scratch }
 judge-answer table scratch (accepted j) = judge-walked table scratch j (first-refusal 0 (j .equations))
 
-unfoldable pub judge : (sheet : List ℕ) → (task : ℕ) → (table scratch : List ℕ) → TableOutcome
+unfoldable pub judge-call : (sheet : List ℕ) → (task : ℕ) → (table scratch : List ℕ) → TableOutcome
 unfolding judge-answer asked judgement-task table-fits
-judge sheet task table scratch = judge-answer table scratch (asked (table-fits table scratch) sheet (judgement-task task))
+judge-call sheet task table scratch = judge-answer table scratch (asked (table-fits table scratch) sheet (judgement-task task))
 
 -- Run is lent a term and a log besides.
 pub record RunOutcome : Type 0 where
@@ -126,15 +126,15 @@ run-done table scratch term log subject r =
     }
 
 unfoldable pub run-walked : (table scratch term log : List ℕ) → Reduction → Option WalkRefusal → RunOutcome
-unfolding refusal blanked cleared run-done line-run
-run-walked table scratch term log t (some r) = record { returned = refusal (r .refusal) (r .line); table = blanked table; scratch = cleared scratch; term = term; log = log }
+unfolding refusal-number blanked cleared run-done line-run
+run-walked table scratch term log t (some r) = record { returned = refusal-number (r .refusal) (r .line); table = blanked table; scratch = cleared scratch; term = term; log = log }
 run-walked table scratch term log t none = run-done table scratch term log (t .subject) (line-run (t .equations) (t .limit) (t .subject))
 
 unfoldable pub run-answer : (table scratch term log : List ℕ) → Reading Reduction → RunOutcome
-unfolding refusal run-walked first-refusal
-run-answer table scratch term log (refused-at r line) = record { returned = refusal r line; table = table; scratch = scratch; term = term; log = log }
+unfolding refusal-number run-walked first-refusal
+run-answer table scratch term log (refused-at r line) = record { returned = refusal-number r line; table = table; scratch = scratch; term = term; log = log }
 run-answer table scratch term log (accepted t) = run-walked table scratch term log t (first-refusal 0 (t .equations))
 
-unfoldable pub run : (sheet : List ℕ) → (task : ℕ) → (table scratch term log : List ℕ) → RunOutcome
+unfoldable pub run-call : (sheet : List ℕ) → (task : ℕ) → (table scratch term log : List ℕ) → RunOutcome
 unfolding run-answer asked reduction-task run-fits
-run sheet task table scratch term log = run-answer table scratch term log (asked (run-fits table scratch term log) sheet (reduction-task task))
+run-call sheet task table scratch term log = run-answer table scratch term log (asked (run-fits table scratch term log) sheet (reduction-task task))

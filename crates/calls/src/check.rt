@@ -3,12 +3,12 @@ use crate::number::refusal_number;
 use sheet::read::Reading;
 use sheet::read::read_sheet;
 ghost use mathlib.Core.Path.{_≡_};
-ghost use Rattle.calls.specs.Outcome.{check};
+ghost use Rattle.calls.specs.Outcome.{check-call};
 
 // The refusal and its line, or 0.
 #[no_mangle]
 pub extern "C" fn neblinaro_check(sheet: &[u8]) -> u64
-    ensures { λ r. ⌜ r ≡ check (now (sheet .entry)) ⌝ }
+    ensures { λ r. ⌜ r ≡ check-call (now (sheet .entry)) ⌝ }
     ensures unchanged { λ _. ⌜ now (sheet .exit) ≡ now (sheet .entry) ⌝ }
 {
     let read = read_sheet(sheet);

@@ -9,7 +9,7 @@ use Rattle.format.specs.Limits.{first-variable}
 use Rattle.format.specs.Refusal.{number}
 use Rattle.format.specs.declared.refusal.Refusal.{Refusal}
 use Rattle.format.specs.Lists.{entry}
-use Rattle.terms.specs.Term.{Term}
+use Rattle.terms.specs.Term.{Term, Values}
 use Rattle.terms.specs.Equation.{Equation, Direction, left-right, right-left, direction-number, term-at}
 use Rattle.terms.specs.Prefix.{prefix}
 use Rattle.ordering.specs.Verdict.{verdict, verdict-number}
@@ -72,6 +72,7 @@ line-frame e (line θ es) = 0x12 ∷ binding-count θ ∷ binding-terms e 0 θ +
 unfoldable pub table-frames : (n : ℕ) → Equation → Direction → Walked → List (List ℕ)
 unfolding direction-number two-bytes line-frame
 table-frames n e d (solved ls t) = (0x11 ∷ n ∷ direction-number d ∷ length ls ∷ two-bytes t) ∷ map (line-frame e) ls
+-- Not met: a sheet is listed where every walk solves.
 table-frames n e d (refused r) = []
 
 unfoldable pub equation-frames : (n : ℕ) → List Equation → List (List ℕ)
@@ -93,8 +94,9 @@ unfoldable pub judgement-frame : (holding : ℕ) → List ℕ
 judgement-frame zero = 0x15 ∷ 0 ∷ 0 ∷ []
 judgement-frame (suc i) = 0x15 ∷ 1 ∷ suc i ∷ []
 
-unfoldable pub holding : Option Equation → Direction → (ℕ → Term) → ℕ
+unfoldable pub holding : Option Equation → Direction → Values → ℕ
 unfolding holding-line
+-- Not met: the equation of an accepted judgement is there.
 holding none d ρ = 0
 holding (some e) d ρ = holding-line e d ρ
 

@@ -15,6 +15,7 @@ use Rattle.reducing.specs.Run.{Run, run}
 unfoldable pub holding-in : Equation → Values → Walked → ℕ
 unfolding first-holding value
 holding-in e ρ (solved table n) = first-holding ρ (value e ρ) table
+-- Not met: judge and run go on only where every walk solves.
 holding-in e ρ (refused r) = 0
 
 unfoldable pub holding-line : Equation → Direction → Values → ℕ

@@ -73,7 +73,7 @@ unfolding symbols-right
 symbols-body [] = refuse symbol-frame
 symbols-body (n ∷ arities) = elim (symbols-right n arities) [ true ↦ give (within (record { arities = arities; equations = []; tasks = [] })) | false ↦ refuse symbol-frame ]
 
--- How many terms are still to come after a node, where `need` were to come behind it.
+-- A node of the next term, `need` terms coming behind that term: how many terms are to come after the node.
 unfoldable pub after-node : (arities : List ℕ) → (ground : Bool) → Class → (need : ℕ) → Result ℕ
 unfolding arity
 after-node arities ground (symbol f) need = elim (ltb f (length arities)) [ true ↦ give (arity arities f + need) | false ↦ refuse frame-bytes ]
@@ -150,7 +150,7 @@ with-equation s e = within (record { arities = s .arities; equations = s .equati
 unfoldable pub with-task : Sheet → Task → State
 with-task s t = within (record { arities = s .arities; equations = s .equations; tasks = s .tasks ++ (t ∷ []) })
 
--- The body of a frame whose kind is in order.
+-- The body of a frame whose kind is in order: the first is a symbol frame, and no later one.
 unfoldable pub read-body : State → Kind → List ℕ → Result State
 unfolding symbols-body equation-body run-body judgement-body comparison-body with-equation with-task Result·map
 read-body start kind bs = symbols-body bs
@@ -164,5 +164,6 @@ read-body (within s) unknown-kind bs = refuse frame-order
 -- One frame: "3, and 4, or 7 and then the first of 5 and 6".
 unfoldable pub read-frame : State → List ℕ → Result State
 unfolding kind-of in-order read-body
+-- Not met: a line has two digits at least.
 read-frame state [] = refuse frame-order
 read-frame state (kind ∷ body) = elim (in-order state (kind-of kind)) [ true ↦ read-body state (kind-of kind) body | false ↦ refuse frame-order ]

@@ -25,6 +25,7 @@ read-row state row = elim (frame-of row) [ none ↦ refuse digits | some bs ↦ 
 
 -- "a missing 02 names the last line"
 unfoldable pub finish : State → ℕ → Reading Sheet
+-- Not met: a text has a line, and the first that is passed is a symbol frame.
 finish start n = refused-at frame-order n
 finish (within s) n = elim (leb 1 (length (s .equations))) [ true ↦ accepted s | false ↦ refused-at frame-order n ]
 

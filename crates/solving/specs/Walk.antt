@@ -25,6 +25,16 @@ pub record Fuel : Type 0 where
 abbrev pub enough : Fuel
 enough = record { hops = variable-count; occurs-depth = suc position-count; unify-depth = suc position-count }
 
+-- "Terms are seen through the bindings: a bound variable stands for its term, repeatedly."
+unfoldable pub bound-to : Bindings → Node → Option ℕ
+bound-to θ (var-node v) = lookup θ v
+bound-to θ (app-node f ps) = none
+
+unfoldable pub occurs-in : (ℕ → Bool) → ℕ → Node → Bool
+unfolding any ℕ-discrete
+occurs-in occurs v (var-node w) = elim (ℕ-discrete v w) [ yes e ↦ true | no n ↦ false ]
+occurs-in occurs v (app-node f ps) = any occurs ps
+
 -- "bind to the term's position unless it occurs there"
 unfoldable pub bind-unless : Bool → Bindings → ℕ → ℕ → Option Bindings
 bind-unless true θ v p = none
@@ -104,16 +114,6 @@ crowded (line θ es) = ltb max-elements (length es)
 unfoldable pub over-limit : List Line → Option Refusal
 unfolding any crowded
 over-limit table = elim (any crowded table) [ true ↦ some too-many-elements | false ↦ elim (ltb max-lines (length table)) [ true ↦ some too-many-lines | false ↦ none ] ]
-
--- "Terms are seen through the bindings: a bound variable stands for its term, repeatedly."
-unfoldable pub bound-to : Bindings → Node → Option ℕ
-bound-to θ (var-node v) = lookup θ v
-bound-to θ (app-node f ps) = none
-
-unfoldable pub occurs-in : (ℕ → Bool) → ℕ → Node → Bool
-unfolding any ℕ-discrete
-occurs-in occurs v (var-node w) = elim (ℕ-discrete v w) [ yes e ↦ true | no n ↦ false ]
-occurs-in occurs v (app-node f ps) = any occurs ps
 
 module _ (fuel : Fuel) (view : ℕ → Node) where
   unfoldable pub follow : ℕ → Bindings → ℕ → ℕ

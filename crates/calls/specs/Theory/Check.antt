@@ -8,16 +8,16 @@ use Rattle.sheet.specs.declared.known.Known.{Known}
 use Rattle.sheet.specs.declared.read.Reading.{Reading}
 use Rattle.sheet.specs.declared.read.Reading.the-variants.{Accepted, Refused}
 use Rattle.sheet.specs.Reader.{SheetRead}
-use Rattle.calls.specs.Buffer.{refusal}
-use Rattle.calls.specs.Outcome.{check, check-answer}
+use Rattle.calls.specs.Buffer.{refusal-number}
+use Rattle.calls.specs.Outcome.{check-call, check-answer}
 
 module _ (text : List ℕ) (k : Known) (r : Reading) (h : SheetRead text k r) where
-  pub check-accepted : r ≡ Accepted → check text ≡ 0
-  unfolding check check-answer
+  pub check-accepted : r ≡ Accepted → check-call text ≡ 0
+  unfolding check-call check-answer
   check-accepted e = let (s, x, y) = subst (SheetRead text k) e h in ap check-answer x
 
-  pub check-refused : {x : Refusal} {line : ℕ} → r ≡ Refused x line → check text ≡ refusal x line
-  unfolding check check-answer
+  pub check-refused : {x : Refusal} {line : ℕ} → r ≡ Refused x line → check-call text ≡ refusal-number x line
+  unfolding check-call check-answer
   check-refused e = ap check-answer (subst (SheetRead text k) e h .0)
 
   pub refused-line : {x : Refusal} {line : ℕ} → r ≡ Refused x line → line ≤ max-text

@@ -18,9 +18,9 @@ use Rattle.sheet.specs.Reading.{Reading, refused-at, accepted, read}
 use Rattle.reducing.specs.Run.{Run, ending-number, last-term}
 use Rattle.reducing.specs.Test.{line-run, reference-run}
 use Rattle.reducing.specs.Theory.Reference.{EverySolves, Descending, run-is-reference-run, run-descending}
-use Rattle.calls.specs.Buffer.{fields, refusal, refusal-byte}
+use Rattle.calls.specs.Buffer.{fields, refusal-number, refusal-byte}
 use Rattle.calls.specs.Asked.{found, find, asked, Reduction, reduction-in, reduction-task, WalkRefusal, first-refusal}
-use Rattle.calls.specs.Outcome.{RunOutcome, run-fits, run-done, run-walked, run-answer, run}
+use Rattle.calls.specs.Outcome.{RunOutcome, run-fits, run-done, run-walked, run-answer, run-call}
 use Rattle.calls.specs.Theory.Number.{fields-byte, refused-byte, refused-not-zero}
 use Rattle.calls.specs.Theory.Solve.{OnlyHost}
 use Rattle.calls.specs.Theory.Walks.{accepted-limits, none-refused, every-solves}
@@ -57,8 +57,8 @@ asked-run sheet task t h = from (read sheet) refl h
 module _ (sheet : List ℕ) (task : ℕ) (table scratch term log : List ℕ) where
   -- 1. Where every direction solves, run gives the steps, the count, the ending and the last term of the reference run.
   pub run-gives : (n : NamedRun sheet task) → run-fits table scratch term log ≡ true → EverySolves (n .content .equations)
-      → run sheet task table scratch term log ≡ run-done table scratch term log (n .subject) (reference-run (n .content .equations) (n .limit) (n .subject))
-  unfolding run run-answer run-walked
+      → run-call sheet task table scratch term log ≡ run-done table scratch term log (n .subject) (reference-run (n .content .equations) (n .limit) (n .subject))
+  unfolding run-call run-answer run-walked
   run-gives n f s =
       rw (f, named-asked sheet task n, none-refused 0 (n .content .equations) s)
       (ap (run-done table scratch term log (n .subject)) (run-is-reference-run (n .content .equations) (accepted-limits sheet (n .content) (n .reads)) s (n .limit) (n .subject)))
@@ -68,7 +68,7 @@ module _ (sheet : List ℕ) (task : ℕ) (table scratch term log : List ℕ) whe
   pub record RunDemand : Type 0 where
     pub named : NamedRun sheet task
     pub solves : EverySolves (named .content .equations)
-    pub given : run sheet task table scratch term log ≡ run-done table scratch term log (named .subject) (reference-run (named .content .equations) (named .limit) (named .subject))
+    pub given : run-call sheet task table scratch term log ≡ run-done table scratch term log (named .subject) (reference-run (named .content .equations) (named .limit) (named .subject))
     pub same-run : (k : ℕ) (subject : Term) → line-run (named .content .equations) k subject ≡ reference-run (named .content .equations) k subject
     pub descending : (k : ℕ) (subject : Term) → Descending subject (line-run (named .content .equations) k subject .steps)
 
@@ -83,8 +83,8 @@ module _ (sheet : List ℕ) (task : ℕ) (table scratch term log : List ℕ) whe
         descending = run-descending (n .content .equations) w s;
       }
 
-  pub run-demand : refusal-byte (run sheet task table scratch term log .returned) ≡ 0 → RunDemand
-  unfolding run run-answer run-walked asked
+  pub run-demand : refusal-byte (run-call sheet task table scratch term log .returned) ≡ 0 → RunDemand
+  unfolding run-call run-answer run-walked asked
   run-demand h = fits (run-fits table scratch term log) refl h
     where
       walks : (n : NamedRun sheet task) → run-fits table scratch term log ≡ true → (o : Option WalkRefusal) → first-refusal 0 (n .content .equations) ≡ o
@@ -101,8 +101,8 @@ module _ (sheet : List ℕ) (task : ℕ) (table scratch term log : List ℕ) whe
       fits true f h = answer f (asked true sheet (reduction-task task)) refl h
 
   -- 3. On an accepted sheet no refusal but 11 or 12 meets run where every direction solves.
-  pub run-only-host : (s : Sheet) → read sheet ≡ accepted s → EverySolves (s .equations) → OnlyHost (run sheet task table scratch term log .returned)
-  unfolding run run-answer run-walked run-done asked find found reduction-task reduction-in
+  pub run-only-host : (s : Sheet) → read sheet ≡ accepted s → EverySolves (s .equations) → OnlyHost (run-call sheet task table scratch term log .returned)
+  unfolding run-call run-answer run-walked run-done asked find found reduction-task reduction-in
   run-only-host s r every = fits (run-fits table scratch term log)
     where
       in-task : (o : Option Task) → OnlyHost (run-answer table scratch term log (found (reduction-in (s .equations) o)) .returned)

@@ -25,8 +25,8 @@ use Rattle.solving.specs.Line.{Line, records}
 use Rattle.solving.specs.Walk.{Walked, solved, refused, solve}
 use Rattle.solving.specs.Holds.{SomeLineHolds}
 use Rattle.solving.specs.Theory.Solve.{solve-exact}
-use Rattle.calls.specs.Buffer.{fields, refusal, refusal-byte, written, cleared}
-use Rattle.calls.specs.Asked.{found, find, asked, Side, side-in, solve-side}
+use Rattle.calls.specs.Buffer.{fields, refusal-number, refusal-byte, written, cleared}
+use Rattle.calls.specs.Asked.{found, find, asked, Directed, directed-in, solve-directed}
 use Rattle.calls.specs.Outcome.{TableOutcome, table-fits, table-unsolved, solve-walked, solve-answer, solve-call}
 use Rattle.calls.specs.Theory.Number.{fields-byte, refused-byte, refused-not-zero}
 
@@ -43,24 +43,24 @@ pub named-limits : {sheet : List ℕ} {e d : ℕ} (n : Named sheet e d) → With
 named-limits {sheet} {e} n = every-entry (ValidEquation (n .content .arities)) (n .content .equations) e (accepted-valid sheet (n .content) (n .reads) .0 .equations) (n .equation-there) .limits
 
 -- 1. What solve asks for.
-asked-side : (sheet : List ℕ) (e d : ℕ) (q : Side) → asked true sheet (solve-side e d) ≡ accepted q → (n : Named sheet e d) × (n .equation ≡ q .equation) × (n .direction ≡ q .direction)
-unfolding asked find found solve-side side-in
+asked-side : (sheet : List ℕ) (e d : ℕ) (q : Directed) → asked true sheet (solve-directed e d) ≡ accepted q → (n : Named sheet e d) × (n .equation ≡ q .equation) × (n .direction ≡ q .direction)
+unfolding asked find found solve-directed directed-in
 asked-side sheet e d q h = from (read sheet) refl h
   where
-    parts : (s : Sheet) → read sheet ≡ accepted s → (o : Option Equation) (p : Option Direction) → entry (s .equations) e ≡ o → direction-of d ≡ p → found (side-in o p) ≡ accepted q
+    parts : (s : Sheet) → read sheet ≡ accepted s → (o : Option Equation) (p : Option Direction) → entry (s .equations) e ≡ o → direction-of d ≡ p → found (directed-in o p) ≡ accepted q
         → (n : Named sheet e d) × (n .equation ≡ q .equation) × (n .direction ≡ q .direction)
     parts s r none p x y h = let z : _≡_ {A = ℕ} 0 1 = cc in absurd (omega arith)
     parts s r (some o) none x y h = let z : _≡_ {A = ℕ} 0 1 = cc in absurd (omega arith)
     parts s r (some o) (some p) x y h =
-        let k : _≡_ {A = Side} (record { equation = o; direction = p }) q = cc in
+        let k : _≡_ {A = Directed} (record { equation = o; direction = p }) q = cc in
         (record { content = s; reads = r; equation = o; direction = p; equation-there = x; direction-there = y }, ap (λ q. q .equation) k, ap (λ q. q .direction) k)
 
-    from : (r : Reading Sheet) → read sheet ≡ r → find (solve-side e d) r ≡ accepted q → (n : Named sheet e d) × (n .equation ≡ q .equation) × (n .direction ≡ q .direction)
+    from : (r : Reading Sheet) → read sheet ≡ r → find (solve-directed e d) r ≡ accepted q → (n : Named sheet e d) × (n .equation ≡ q .equation) × (n .direction ≡ q .direction)
     from (refused-at x l) r h = let z : _≡_ {A = ℕ} 0 1 = cc in absurd (omega arith)
     from (accepted s) r h = parts s r (entry (s .equations) e) (direction-of d) refl refl h
 
-named-asked : (sheet : List ℕ) (e d : ℕ) (n : Named sheet e d) → asked true sheet (solve-side e d) ≡ accepted (record { equation = n .equation; direction = n .direction })
-unfolding asked find found solve-side side-in
+named-asked : (sheet : List ℕ) (e d : ℕ) (n : Named sheet e d) → asked true sheet (solve-directed e d) ≡ accepted (record { equation = n .equation; direction = n .direction })
+unfolding asked find found solve-directed directed-in
 named-asked sheet e d n = rw (n .reads, n .equation-there, n .direction-there)
 
 -- 2. What solve gives on a direction that solves: the records of that walk's table, its lines and its turns.
@@ -104,14 +104,14 @@ solve-demand sheet e d table scratch h = fits (table-fits table scratch) refl h
     walk n f (refused r) w h = absurd (refused-not-zero r _ h)
     walk n f (solved ls t) w h = solve-demand-of sheet e d table scratch n ls t f w
 
-    answer : table-fits table scratch ≡ true → (r : Reading Side) → asked true sheet (solve-side e d) ≡ r → refusal-byte (solve-answer e table scratch r .returned) ≡ 0 → SolveDemand sheet e d table scratch
+    answer : table-fits table scratch ≡ true → (r : Reading Directed) → asked true sheet (solve-directed e d) ≡ r → refusal-byte (solve-answer e table scratch r .returned) ≡ 0 → SolveDemand sheet e d table scratch
     answer f (refused-at r l) a h = absurd (refused-not-zero r l h)
     answer f (accepted q) a h = let (n, x, y) = asked-side sheet e d q a in
         walk n f (solve (n .equation) (n .direction)) refl (rw (x, y) h)
 
-    fits : (b : Bool) → table-fits table scratch ≡ b → refusal-byte (solve-answer e table scratch (asked b sheet (solve-side e d)) .returned) ≡ 0 → SolveDemand sheet e d table scratch
+    fits : (b : Bool) → table-fits table scratch ≡ b → refusal-byte (solve-answer e table scratch (asked b sheet (solve-directed e d)) .returned) ≡ 0 → SolveDemand sheet e d table scratch
     fits false f h = absurd (refused-not-zero short-buffer 0 h)
-    fits true f h = answer f (asked true sheet (solve-side e d)) refl h
+    fits true f h = answer f (asked true sheet (solve-directed e d)) refl h
 
 -- 4. On an accepted sheet no refusal but 11 or 12 meets solve on a direction that solves.
 abbrev pub OnlyHost : ℕ → Type 0
@@ -120,14 +120,14 @@ OnlyHost n = (refusal-byte n ≡ 0) ⊎ ((refusal-byte n ≡ number short-buffer
 pub solve-only-host : (sheet : List ℕ) (s : Sheet) (e d : ℕ) (table scratch : List ℕ) → read sheet ≡ accepted s
     → ((q : Equation) (o : Direction) → entry (s .equations) e ≡ some q → direction-of d ≡ some o → (ls : List Line) × (t : ℕ) × (solve q o ≡ solved ls t))
     → OnlyHost (solve-call sheet e d table scratch .returned)
-unfolding solve-call solve-answer solve-walked asked find found solve-side side-in
+unfolding solve-call solve-answer solve-walked asked find found solve-directed directed-in
 solve-only-host sheet s e d table scratch r each = fits (table-fits table scratch)
   where
-    parts : (o : Option Equation) (p : Option Direction) → entry (s .equations) e ≡ o → direction-of d ≡ p → OnlyHost (solve-answer e table scratch (found (side-in o p)) .returned)
+    parts : (o : Option Equation) (p : Option Direction) → entry (s .equations) e ≡ o → direction-of d ≡ p → OnlyHost (solve-answer e table scratch (found (directed-in o p)) .returned)
     parts none p x y = inr (inr (refused-byte absent-argument 0))
     parts (some q) none x y = inr (inr (refused-byte absent-argument 0))
     parts (some q) (some p) x y = let (ls, t, w) = each q p x y in rw w (inl (fields-byte (length ls) t 0))
 
-    fits : (b : Bool) → OnlyHost (solve-answer e table scratch (asked b sheet (solve-side e d)) .returned)
+    fits : (b : Bool) → OnlyHost (solve-answer e table scratch (asked b sheet (solve-directed e d)) .returned)
     fits false = inr (inl (refused-byte short-buffer 0))
     fits true = rw r (parts (entry (s .equations) e) (direction-of d) refl refl)

@@ -1,7 +1,7 @@
 -- `calls::number::refusal_number` puts the line above the refusal's number.
 use native.Mathlib.Omega.{arith}
 use borrow.Author.Needs.{needs}
-use Rattle.calls.specs.Buffer.{refusal, fields}
+use Rattle.calls.specs.Buffer.{refusal-number, fields}
 use Rattle.calls.specs.Theory.Number.{number-range}
 use Rattle.calls.proofs.number.refusal_number.Statement.{statement}
 use Rattle.calls.proofs.number.refusal_number.Tie as tie
@@ -10,7 +10,7 @@ add-result : tie.Need-add-result
 add-result c = omega (arith, c .number-of .ensures, number-range (c .before .args .why), c .before .pre)
 
 returns : tie.Need-returns
-unfolding refusal fields
+unfolding refusal-number fields
 returns c = omega (arith, c .number-of .ensures)
 
 pub refusal-number-spec : {M : Type 1} → statement M
