@@ -1,2 +1,3 @@
 pub mod Cases
 pub mod Checked
+pub mod Edges
