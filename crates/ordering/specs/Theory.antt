@@ -5,8 +5,5 @@ pub mod Context
 pub mod Decide
 pub mod Total
 pub mod Verdict
-pub mod Nodes
-pub mod Sizes
-pub mod Stored
 pub mod Literal
 pub mod Examples

@@ -1,4 +1,5 @@
 -- The laws of the walk.
+pub mod Examples
 pub mod Seen
 pub mod Rank
 pub mod Reach
@@ -17,5 +18,4 @@ pub mod Written
 pub mod Records
 pub mod Whole
 pub mod Solve
-pub mod Examples
 pub mod Judge

@@ -1,0 +1,74 @@
+-- Two nodes to compare, and the nodes of symbols that they give way to: their places, their arguments, their weights.
+use Prim.Native.Nat.{ℕ, suc, _+_, _-_, _*_, _≤_, _<_}
+use mathlib.Core.Path.{_≡_, refl, sym, ap, subst, _∙_}
+use mathlib.Core.List.{List}
+use native.Mathlib.Omega.{arith}
+use lib.ListN.{getD, set}
+use Rattle.format.specs.Limits.{first-variable}
+use Rattle.terms.specs.Term.{size, sizes}
+use Rattle.comparing.specs.Nodes.{node-count, Memory}
+use Rattle.comparing.specs.Comparing.{resolved, HasTerm, HasTerms, HasLists, Compares, ComparesLists}
+use Rattle.comparing.specs.Theory.Nodes.{within, ends-within, symbol-at}
+use Rattle.comparing.proofs.Weight.{term-weight, row-weight, term-weighs, row-weighs}
+use Rattle.comparing.proofs.Resolved.{resolved-node}
+use Rattle.comparing.proofs.Cells.{number-few, cell-known, cell-set, compares-resolved}
+
+-- A node `i` with a term, and the node `a` that it gives way to.
+pub record Resolves (nodes lengths values : List ℕ) (i a : ℕ) : Type 0 where
+  pub is : a ≡ resolved nodes values i
+  pub here : HasTerm nodes lengths values a
+  pub below : a < node-count
+  pub end-below : a + getD lengths a 0 ≤ node-count
+  pub symbol : getD nodes a 0 < first-variable
+  pub arguments : HasTerms nodes lengths values (a + 1) (a + getD lengths a 0)
+  pub weight : term-weight nodes lengths values i ≡ suc (row-weight nodes lengths values (a + 1) (a + getD lengths a 0))
+  pub same-weight : term-weight nodes lengths values a ≡ term-weight nodes lengths values i
+  pub size-is : size (here .term) ≡ suc (sizes (arguments .terms))
+
+pub resolves : {nodes lengths values : List ℕ} {i a : ℕ} → HasTerm nodes lengths values i → a ≡ resolved nodes values i → Resolves nodes lengths values i a
+unfolding size
+resolves {nodes} {lengths} {values} {i} {a} h e = subst (λ b. Resolves nodes lengths values i b) (sym e) there
+  where
+    there : Resolves nodes lengths values i (resolved nodes values i)
+    there =
+        let n = resolved-node (h .stands) in
+        let g = symbol-at (n .stands) (n .symbol) in
+        let z : size (h .term) ≡ suc (sizes (g .arguments)) = ap size (g .is) in
+        record {
+          is = refl;
+          here = record { term = h .term; stands = n .stands };
+          below = within (n .stands);
+          end-below = ends-within (n .stands);
+          symbol = n .symbol;
+          arguments = record { terms = g .arguments; stand = g .row };
+          weight = term-weighs (h .stands) ∙ (z ∙ ap suc (sym (row-weighs (g .row))));
+          same-weight = term-weighs (n .stands) ∙ sym (term-weighs (h .stands));
+          size-is = z;
+        }
+
+module _ {nodes lengths values : List ℕ} {i j a b : ℕ} (x : Resolves nodes lengths values i a) (y : Resolves nodes lengths values j b) where
+  pub argument-lists : HasLists nodes lengths values a (a + 1) (a + getD lengths a 0) (b + 1) (b + getD lengths b 0)
+  argument-lists = record {
+    term = x .here .term;
+    first = x .arguments .terms;
+    second = y .arguments .terms;
+    stands = x .here .stands;
+    first-stand = x .arguments .stand;
+    second-stand = y .arguments .stand;
+    smaller = omega (arith, x .size-is);
+  }
+
+  pub lists-few : {r : ℕ} → ComparesLists nodes lengths values a (a + 1) (a + getD lengths a 0) (b + 1) (b + getD lengths b 0) r → r < 3
+  lists-few c =
+      let v = c .tells (x .here .term) (x .arguments .terms) (y .arguments .terms) (x .here .stands) (x .arguments .stand) (y .arguments .stand) in
+      omega (arith, v .number, number-few (v .verdict))
+
+  -- The verdict of the two nodes, with the memory in which it stands in its cell.
+  pub settled : {cells after : List ℕ} {r q : ℕ} → Memory nodes lengths values cells → Compares nodes lengths values a b q → r ≡ q → after ≡ set cells (a * node-count + b) (q + 1)
+      → Compares nodes lengths values i j r × Memory nodes lengths values after
+  settled m c e d = (compares-resolved (rw (← x .is, ← y .is, e) c), rw d (cell-set m (x .below) (y .below) c))
+
+  -- The verdict that stands in its cell.
+  pub known : {cells : List ℕ} → Memory nodes lengths values cells → 0 < getD cells (a * node-count + b) 0
+      → Compares nodes lengths values i j (getD cells (a * node-count + b) 0 - 1) × Memory nodes lengths values cells
+  known m h = (compares-resolved (rw (← x .is, ← y .is) (cell-known m h)), m)

@@ -1,0 +1,63 @@
+-- The number of nodes of the term that a node stands for, computed from the memory: the measure of the comparison.
+use Prim.Native.Nat.{ℕ, zero, suc, _+_, _-_, _≤_}
+use mathlib.Core.Path.{_≡_, ap, _∙_}
+use mathlib.Core.List.{List}
+use native.Mathlib.Omega.{arith}
+use lib.ListN.{getD}
+use Rattle.format.specs.Byte.{class-of}
+use Rattle.format.specs.declared.byte.Class.{Class}
+use Rattle.format.specs.declared.byte.Class.the-variants.{Symbol as symbol, Variable as variable, Foreign as foreign}
+use Rattle.terms.specs.Term.{Term, Terms, size, sizes}
+use Rattle.comparing.specs.Nodes.{symbol-node, variable-node, none, more, TermAt, TermsAt}
+use Rattle.comparing.specs.Theory.Nodes.{some-node, row-ordered, ground-size}
+
+-- A symbol is one node, a variable the nodes of its value.
+node-weight : List ℕ → List ℕ → Class → ℕ
+node-weight lengths values (symbol f) = 1
+node-weight lengths values (variable v) = getD lengths (getD values v 0) 0
+node-weight lengths values foreign = 0
+
+-- The nodes that `n` nodes from `k` on stand for.
+pub weight : (nodes lengths values : List ℕ) → ℕ → ℕ → ℕ
+weight nodes lengths values k zero = 0
+weight nodes lengths values k (suc n) = node-weight lengths values (class-of (getD nodes k 0)) + weight nodes lengths values (k + 1) n
+
+pub term-weight : (nodes lengths values : List ℕ) → ℕ → ℕ
+term-weight nodes lengths values i = weight nodes lengths values i (getD lengths i 0)
+
+pub row-weight : (nodes lengths values : List ℕ) → ℕ → ℕ → ℕ
+row-weight nodes lengths values k end = weight nodes lengths values k (end - k)
+
+module _ (nodes lengths values : List ℕ) where
+  weight-add : (k m n : ℕ) → weight nodes lengths values k (m + n) ≡ weight nodes lengths values k m + weight nodes lengths values (k + m) n
+  unfolding weight
+  weight-add k zero n =
+      let e : 0 + n ≡ n = omega arith in
+      let d : k + 0 ≡ k = omega arith in
+      rw (e, d) (omega arith)
+  weight-add k (suc m) n =
+      let e : suc m + n ≡ suc (m + n) = omega arith in
+      let d : k + suc m ≡ (k + 1) + m = omega arith in
+      rw (e, d) (omega (arith, weight-add (k + 1) m n))
+
+  weight-first : (k n : ℕ) → 1 ≤ n → weight nodes lengths values k n ≡ node-weight lengths values (class-of (getD nodes k 0)) + weight nodes lengths values (k + 1) (n - 1)
+  unfolding weight
+  weight-first k zero h = absurd (omega arith)
+  weight-first k (suc n) h = let e : suc n - 1 ≡ n = omega arith in rw e
+
+module _ {nodes lengths values : List ℕ} where
+  mutual
+    unfolding size weight term-weight row-weight node-weight
+
+    pub term-weighs : {i : ℕ} {t : Term} → TermAt nodes lengths values i t → term-weight nodes lengths values i ≡ size t
+    term-weighs {i} (symbol-node h c r) =
+        let e : (i + getD lengths i 0) - (i + 1) ≡ getD lengths i 0 - 1 = omega arith in
+        weight-first nodes lengths values i (getD lengths i 0) (some-node (symbol-node h c r)) ∙ rw c (omega (arith, row-weighs r, ap (weight nodes lengths values (i + 1)) e))
+    term-weighs {i} (variable-node h c o x) = rw (o, c) (omega (arith, ground-size (x .ground)))
+
+    pub row-weighs : {k end : ℕ} {ts : Terms} → TermsAt nodes lengths values k end ts → row-weight nodes lengths values k end ≡ sizes ts
+    row-weighs {k} {end} (none e) = let d : end - k ≡ 0 = omega arith in rw d
+    row-weighs {k} {end} (more s r) =
+        let l = row-ordered r in
+        let e : end - k ≡ getD lengths k 0 + (end - (k + getD lengths k 0)) = omega arith in
+        rw e (weight-add nodes lengths values k (getD lengths k 0) (end - (k + getD lengths k 0)) ∙ cc (term-weighs s, row-weighs r))

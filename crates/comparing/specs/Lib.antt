@@ -1,0 +1,4 @@
+pub mod Nodes
+pub mod Comparing
+pub mod Sizes
+pub mod Theory

@@ -1,0 +1,228 @@
+// The lexicographic path ordering: the verdict of two terms in prefix form, with the verdicts already settled kept in cells.
+// The definitions and the theory stand in specs/.
+ghost use mathlib.Core.Path.{_≡_};
+ghost use mathlib.Core.List.{_∷_, _++_};
+ghost use Prim.Native.Nat.{_+_, _≤_, _<_};
+ghost use lib.ListN.{length, getD, set, take, drop};
+ghost use lib.Seq.{slice};
+ghost use Rattle.format.specs.Limits.{first-variable};
+ghost use Rattle.comparing.specs.Nodes.{node-count, Memory};
+ghost use Rattle.comparing.specs.Comparing.{resolved, HasTerm, HasTerms, HasLists, Compares, FindsReaching, ComparesWithAll, ComparesLists};
+ghost use Rattle.comparing.specs.Sizes.{Whole, Measurable, node-sizes};
+
+// The number of nodes: 64 positions of an equation, then 160 of the subject.
+const NODE_COUNT: usize = 224;
+
+const FIRST_VARIABLE: u8 = 128;
+
+// The verdicts: the first term is smaller, equal or greater.
+pub const SMALLER: u8 = 0;
+
+pub const EQUAL: u8 = 1;
+
+pub const GREATER: u8 = 2;
+
+fn wide(x: u8) -> usize
+    ensures { λ r. ⌜ r ≡ x ⌝ }
+{
+    x as usize
+}
+
+// The node that stands for the same term and is no variable: a variable gives way to its value.
+fn resolve(nodes: &[u8], values: &[u8], i: usize) -> usize
+    requires { ⌜ (i < length (now nodes)) × (getD (now nodes) i 0 < first-variable + length (now values)) ⌝ }
+    ensures { λ r. ⌜ r ≡ resolved (now (nodes .entry)) (now (values .entry)) i ⌝ }
+{
+    let byte = nodes[i];
+    if byte < FIRST_VARIABLE {
+        return i;
+    }
+    wide(values[wide(byte - FIRST_VARIABLE)])
+}
+
+// Keeps a verdict in its cell and hands it back.
+fn settle(cells: &mut [u8], cell: usize, verdict: u8) -> u8
+    requires { ⌜ (cell < length (now cells)) × (verdict < 255) ⌝ }
+    ensures { λ r. ⌜ r ≡ verdict ⌝ }
+    ensures { λ _. ⌜ now (cells .exit) ≡ set (now (cells .entry)) cell (verdict + 1) ⌝ }
+{
+    cells[cell] = verdict + 1;
+    verdict
+}
+
+// The verdict of the terms at the nodes i and j: 0 smaller, 1 equal, 2 greater.
+pub fn exceeds(
+    nodes: &[u8],
+    sizes: &[u8],
+    values: &[u8],
+    cells: &mut [u8],
+    i: usize,
+    j: usize,
+) -> u8
+    requires { ⌜ Memory (now nodes) (now sizes) (now values) (now cells) ⌝ }
+    requires { ⌜ HasTerm (now nodes) (now sizes) (now values) i ⌝ }
+    requires { ⌜ HasTerm (now nodes) (now sizes) (now values) j ⌝ }
+    ensures { λ r. ⌜ Compares (now (nodes .entry)) (now (sizes .entry)) (now (values .entry)) i j r ⌝ }
+    ensures { λ _. ⌜ Memory (now (nodes .entry)) (now (sizes .entry)) (now (values .entry)) (now (cells .exit)) ⌝ }
+{
+    let s = resolve(nodes, values, i);
+    let t = resolve(nodes, values, j);
+    let cell = s * NODE_COUNT + t;
+    let known = cells[cell];
+    if 0 < known {
+        return known - 1;
+    }
+    let s_end = s + wide(sizes[s]);
+    let t_end = t + wide(sizes[t]);
+    if argument_reaches(nodes, sizes, values, cells, s + 1, s_end, t) {
+        return settle(cells, cell, GREATER);
+    }
+    let f = nodes[s];
+    let g = nodes[t];
+    if f < g {
+        return settle(cells, cell, SMALLER);
+    }
+    if f == g {
+        let verdict = compare_arguments(nodes, sizes, values, cells, s, s + 1, s_end, t + 1, t_end);
+        return settle(cells, cell, verdict);
+    }
+    if exceeds_arguments(nodes, sizes, values, cells, s, t + 1, t_end) {
+        return settle(cells, cell, GREATER);
+    }
+    settle(cells, cell, SMALLER)
+}
+
+// L1: whether one of the terms from k to end equals or exceeds the term at j.
+fn argument_reaches(
+    nodes: &[u8],
+    sizes: &[u8],
+    values: &[u8],
+    cells: &mut [u8],
+    k: usize,
+    end: usize,
+    j: usize,
+) -> bool
+    requires { ⌜ Memory (now nodes) (now sizes) (now values) (now cells) ⌝ }
+    requires { ⌜ HasTerms (now nodes) (now sizes) (now values) k end ⌝ }
+    requires { ⌜ HasTerm (now nodes) (now sizes) (now values) j ⌝ }
+    ensures { λ r. ⌜ FindsReaching (now (nodes .entry)) (now (sizes .entry)) (now (values .entry)) k end j r ⌝ }
+    ensures { λ _. ⌜ Memory (now (nodes .entry)) (now (sizes .entry)) (now (values .entry)) (now (cells .exit)) ⌝ }
+{
+    if k < end {
+        if SMALLER < exceeds(nodes, sizes, values, cells, k, j) {
+            return true;
+        }
+        return argument_reaches(nodes, sizes, values, cells, k + wide(sizes[k]), end, j);
+    }
+    false
+}
+
+// Whether the term at i exceeds every term from k to end.
+fn exceeds_arguments(
+    nodes: &[u8],
+    sizes: &[u8],
+    values: &[u8],
+    cells: &mut [u8],
+    i: usize,
+    k: usize,
+    end: usize,
+) -> bool
+    requires { ⌜ Memory (now nodes) (now sizes) (now values) (now cells) ⌝ }
+    requires { ⌜ HasTerm (now nodes) (now sizes) (now values) i ⌝ }
+    requires { ⌜ HasTerms (now nodes) (now sizes) (now values) k end ⌝ }
+    ensures { λ r. ⌜ ComparesWithAll (now (nodes .entry)) (now (sizes .entry)) (now (values .entry)) i k end r ⌝ }
+    ensures { λ _. ⌜ Memory (now (nodes .entry)) (now (sizes .entry)) (now (values .entry)) (now (cells .exit)) ⌝ }
+{
+    if k < end {
+        if exceeds(nodes, sizes, values, cells, i, k) < GREATER {
+            return false;
+        }
+        return exceeds_arguments(nodes, sizes, values, cells, i, k + wide(sizes[k]), end);
+    }
+    true
+}
+
+// L3: the terms from k to m, arguments of the term at i, against those from l to n, up to the first two that are not equal.
+fn compare_arguments(
+    nodes: &[u8],
+    sizes: &[u8],
+    values: &[u8],
+    cells: &mut [u8],
+    i: usize,
+    k: usize,
+    m: usize,
+    l: usize,
+    n: usize,
+) -> u8
+    requires { ⌜ Memory (now nodes) (now sizes) (now values) (now cells) ⌝ }
+    requires { ⌜ HasLists (now nodes) (now sizes) (now values) i k m l n ⌝ }
+    ensures { λ r. ⌜ ComparesLists (now (nodes .entry)) (now (sizes .entry)) (now (values .entry)) i k m l n r ⌝ }
+    ensures { λ _. ⌜ Memory (now (nodes .entry)) (now (sizes .entry)) (now (values .entry)) (now (cells .exit)) ⌝ }
+{
+    if k < m {
+        if l < n {
+            let verdict = exceeds(nodes, sizes, values, cells, k, l);
+            if verdict == SMALLER {
+                return SMALLER;
+            }
+            let rest = l + wide(sizes[l]);
+            if verdict == EQUAL {
+                return compare_arguments(
+                    nodes,
+                    sizes,
+                    values,
+                    cells,
+                    i,
+                    k + wide(sizes[k]),
+                    m,
+                    rest,
+                    n,
+                );
+            }
+            if exceeds_arguments(nodes, sizes, values, cells, i, rest, n) {
+                return GREATER;
+            }
+            return SMALLER;
+        }
+        return SMALLER;
+    }
+    if l < n {
+        return SMALLER;
+    }
+    EQUAL
+}
+
+// The number of nodes of the first of whole terms, where `sizes` has those of the terms that start at each node behind the first.
+fn first_size(nodes: &[u8], arities: &[u8], sizes: &[u8]) -> u8
+    requires { ⌜ Whole (now arities) (now nodes) ⌝ }
+    requires { ⌜ (0 < length (now nodes)) × (length (now nodes) ≤ node-count) ⌝ }
+    requires { ⌜ now sizes ≡ node-sizes (now arities) (drop 1 (now nodes)) ⌝ }
+    ensures { λ r. ⌜ node-sizes (now (arities .entry)) (now (nodes .entry)) ≡ r ∷ now (sizes .entry) ⌝ }
+{
+    let byte = nodes[0];
+    if FIRST_VARIABLE <= byte {
+        return 1;
+    }
+    let count = arities[wide(byte)];
+    let mut next: usize = 0;
+    let mut k = 0;
+    while k < count {
+        next = next + wide(sizes[next]);
+        k = k + 1;
+    }
+    (next + 1) as u8
+}
+
+// Fills in the sizes of the terms that start at the nodes from `from` to `end`, which are whole terms.
+pub fn measure(nodes: &[u8], arities: &[u8], sizes: &mut [u8], from: usize, end: usize)
+    requires { ⌜ Measurable (now arities) (now nodes) (now sizes) from end ⌝ }
+    ensures { λ _. ⌜ now (sizes .exit) ≡ take from (now (sizes .entry)) ++ (node-sizes (now (arities .entry)) (slice from end (now (nodes .entry))) ++ drop end (now (sizes .entry))) ⌝ }
+{
+    let mut i = end;
+    while from < i {
+        let behind = i;
+        i = i - 1;
+        let size = first_size(&nodes[i..end], arities, &sizes[behind..end]);
+        sizes[i] = size;
+    }
+}
