@@ -1,6 +1,7 @@
 -- The theorems about the calls' outcomes.
 pub mod Number
 pub mod Check
+pub mod Fill
 pub mod Solve
 pub mod Walks
 pub mod Run
