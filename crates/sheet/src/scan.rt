@@ -10,7 +10,7 @@ ghost use Prim.Native.Nat.{_+_, _*_, _≤_, _<_, max};
 ghost use lib.ListN.{length};
 ghost use Rattle.sheet.specs.Frame.{after-node};
 ghost use Rattle.sheet.specs.Cursor.{bytes-between};
-ghost use Rattle.sheet.specs.Scan.{after-result, NeedAtMost, known-arities, node-width, ScanReady, ScanRead};
+ghost use Rattle.sheet.specs.Scan.{after-result, NeedAtMost, listed, known-arities, node-width, ScanReady, ScanRead};
 
 // How many terms are still to come after a node, or a refusal.
 pub enum After {
@@ -18,16 +18,16 @@ pub enum After {
     Refused(Refusal),
 }
 
-fn terms_after(known: Known, ground: bool, class: Class, need: usize) -> After
-    requires { ⌜ (known .symbols ≤ 16) × (need ≤ 65536) ⌝ }
-    ensures { λ r. ⌜ after-result r ≡ after-node (known-arities known) ground class need ⌝ }
+fn terms_after(symbols: usize, arities: &[u8; 16], ground: bool, class: Class, need: usize) -> After
+    requires { ⌜ (symbols ≤ 16) × (need ≤ 65536) ⌝ }
+    ensures { λ r. ⌜ after-result r ≡ after-node (listed symbols (now (arities .entry))) ground class need ⌝ }
     ensures { λ r. ⌜ NeedAtMost (255 + need) r ⌝ }
 {
     match class {
         Class::Symbol(f) => {
             let i = wide(f);
-            if i < known.symbols {
-                After::Need(wide(known.arities[i]) + need)
+            if i < symbols {
+                After::Need(wide(arities[i]) + need)
             } else {
                 After::Refused(Refusal::FrameBytes)
             }
@@ -87,6 +87,8 @@ pub fn scan(
     requires { ⌜ ScanReady (now s) from end (known .symbols) terms nodes width ⌝ }
     ensures { λ r. ⌜ ScanRead (now (s .entry)) from end (known-arities known) ground terms nodes width r ⌝ }
 {
+    let symbols = known.symbols;
+    let arities = known.arities;
     let mut at = from;
     let mut need = terms;
     let mut room = nodes;
@@ -107,7 +109,7 @@ pub fn scan(
             };
         }
         let class = classify(byte_at(s, at) as u8);
-        match terms_after(known, ground, class, need - 1) {
+        match terms_after(symbols, &arities, ground, class, need - 1) {
             After::Refused(r) => {
                 return Scanned {
                     outcome: Outcome::Refused(r),

@@ -2,19 +2,19 @@
 use mathlib.Core.Path.{_≡_, subst, sym}
 use native.Mathlib.Omega.{arith}
 use borrow.Author.Needs.{needs}
-use Rattle.sheet.specs.Scan.{known-arities}
+use Rattle.sheet.specs.Scan.{listed}
 use Rattle.sheet.specs.Theory.Between.{Scanning, scanning-start, stop-done, stop-early, stop-full, stop-refused, byte-small, next-inside, scanning-next, told-after, told-width}
 use Rattle.sheet.proofs.scan.scan.Statement.{statement}
 use Rattle.sheet.proofs.scan.scan.Tie as tie
 
 abbrev Inv-loop : tie.InvT-loop
-Inv-loop known s from end ground terms nodes width at₀ need₀ room₀ widest₀ at need room widest = Scanning s from end (known-arities known) ground terms nodes width at need room widest
+Inv-loop s from end ground terms nodes width symbols arities at₀ need₀ room₀ widest₀ at need room widest = Scanning s from end (listed symbols arities) ground terms nodes width at need room widest
 
 abbrev μ-loop : tie.MeasureT-loop
-μ-loop known s from end ground terms nodes width at₀ need₀ room₀ widest₀ at need room widest = room
+μ-loop s from end ground terms nodes width symbols arities at₀ need₀ room₀ widest₀ at need room widest = room
 
 loop-holds : tie.Need-loop-holds Inv-loop μ-loop
-loop-holds c = scanning-start _ _ _ _ _ _ _ _ (c .before .pre)
+loop-holds c = scanning-start _ _ _ _ _ _ _ _ (c .before .before .pre)
 
 returns : tie.Need-returns Inv-loop μ-loop
 returns c =
@@ -37,31 +37,31 @@ cast-classify c =
     omega (arith, c .byte-at .ensures, byte-small _ _ _ _ _ _ _ _ (loop .at) (loop .need) (loop .room) (loop .widest) (loop .inv) (c .before .before .if1 .left))
 
 terms-after-requires : tie.Need-terms-after-requires Inv-loop μ-loop
-terms-after-requires c κs = omega (arith, c .before .before .before .before .before .loop .inv .few, c .before .before .before .before .before .before .before .pre .few-symbols)
+terms-after-requires c κs = omega (arith, c .before .before .before .before .before .before .loop .inv .few, c .before .before .before .before .before .before .before .before .before .pre .few-symbols)
 
 returns-3 : tie.Need-returns-3 Inv-loop μ-loop
 returns-3 c =
     let call = c .before .before .before in
-    let loop = call .before .before .before .before .before .before .loop in
-    stop-refused _ _ _ _ _ _ _ _ (loop .at) (loop .need) (loop .room) (loop .widest) (loop .inv) (call .before .before .before .before .if1 .left) (call .before .before .before .before .before .loop-test .taken)
-    (call .before .before .before .if2 .left) _ (told-after _ _ _ (call .before .before .byte-at .ensures) (call .before .classify .ensures) (call .terms-after .ensures .0) (c .before .r .given .1))
+    let loop = call .before .before .before .before .before .before .before .loop in
+    stop-refused _ _ _ _ _ _ _ _ (loop .at) (loop .need) (loop .room) (loop .widest) (loop .inv) (call .before .before .before .before .before .if1 .left) (call .before .before .before .before .before .before .loop-test .taken)
+    (call .before .before .before .before .if2 .left) _ (told-after _ _ _ (call .before .before .before .byte-at .ensures) (call .before .before .classify .ensures) (call .terms-after .ensures .0) (c .before .r .given .1))
 
 add-at : tie.Need-add-at Inv-loop μ-loop
 add-at c =
     let call = c .before .before .before in
-    let loop = call .before .before .before .before .before .before .loop in
-    omega (arith, next-inside _ _ _ _ _ _ _ _ (loop .at) (loop .need) (loop .room) (loop .widest) (loop .inv) (call .before .before .before .before .if1 .left), loop .inv .inside)
+    let loop = call .before .before .before .before .before .before .before .loop in
+    omega (arith, next-inside _ _ _ _ _ _ _ _ (loop .at) (loop .need) (loop .room) (loop .widest) (loop .inv) (call .before .before .before .before .before .if1 .left), loop .inv .inside)
 
 loop-again : tie.Need-loop-again Inv-loop μ-loop
 loop-again c =
     let call = c .before .before .before .before .before in
-    let loop = call .before .before .before .before .before .before .loop in
+    let loop = call .before .before .before .before .before .before .before .loop in
     let n = c .before .before .before .n .given in
     let most = subst (Rattle.sheet.specs.Scan.NeedAtMost _) (n .1) (call .terms-after .ensures .1) in
     let next =
-    scanning-next _ _ _ _ _ _ _ _ (loop .at) (loop .need) (loop .room) (loop .widest) (loop .inv) (call .before .before .before .before .if1 .left) (call .before .before .before .before .before .loop-test .taken)
-    (call .before .before .before .if2 .left) (n .0 .0) (told-after _ _ _ (call .before .before .byte-at .ensures) (call .before .classify .ensures) (call .terms-after .ensures .0) (n .1)) most in
-    subst (Scanning _ _ _ _ _ _ _ _ _ _ _) (told-width (loop .widest) (call .before .before .byte-at .ensures) (call .before .classify .ensures) (c .before .node-width .ensures) (c .greater .ensures)) next
+    scanning-next _ _ _ _ _ _ _ _ (loop .at) (loop .need) (loop .room) (loop .widest) (loop .inv) (call .before .before .before .before .before .if1 .left) (call .before .before .before .before .before .before .loop-test .taken)
+    (call .before .before .before .before .if2 .left) (n .0 .0) (told-after _ _ _ (call .before .before .before .byte-at .ensures) (call .before .before .classify .ensures) (call .terms-after .ensures .0) (n .1)) most in
+    subst (Scanning _ _ _ _ _ _ _ _ _ _ _) (told-width (loop .widest) (call .before .before .before .byte-at .ensures) (call .before .before .classify .ensures) (c .before .node-width .ensures) (c .greater .ensures)) next
 
 returns-4 : tie.Need-returns-4 Inv-loop μ-loop
 returns-4 c =

@@ -10,28 +10,28 @@ returns : tie.Need-returns
 returns c =
     let a = c .before .before .before .before .before .before .before .args in
     let f = c .before .before .before .wide .result in
-    (cc (after-known (a .t1 .symbols) (a .t1 .arities) (a .ground) f (a .need) (c .before .before .if1 .taken), c .before .before .before .wide .ensures .0, c .wide2 .ensures .0, c .before .before .before .before .before .class .given .1), omega (arith, c .wide2 .ensures .1))
+    (cc (after-known (a .symbols) (a .arities .now) (a .ground) f (a .need) (c .before .before .if1 .taken), c .before .before .before .wide .ensures .0, c .wide2 .ensures .0, c .before .before .before .before .before .class .given .1), omega (arith, c .wide2 .ensures .1))
 
 returns-2 : tie.Need-returns-2
 returns-2 c =
     let a = c .before .before .before .before .before .args in
     let f = c .before .wide .result in
-    (cc (after-unknown (a .t1 .symbols) (a .t1 .arities) (a .ground) f (a .need) (c .if1 .left), c .before .wide .ensures .0, c .before .before .before .class .given .1), tt)
+    (cc (after-unknown (a .symbols) (a .arities .now) (a .ground) f (a .need) (c .if1 .left), c .before .wide .ensures .0, c .before .before .before .class .given .1), tt)
 
 returns-3 : tie.Need-returns-3
 returns-3 c =
     let a = c .before .before .before .args in
-    (cc (after-not-ground (Rattle.sheet.specs.Scan.known-arities (a .t1)) (c .before .enum-told .given .0 .0) (a .need), c .if2 .taken, c .before .enum-told .given .1), tt)
+    (cc (after-not-ground (Rattle.sheet.specs.Scan.listed (a .symbols) (a .arities .now)) (c .before .enum-told .given .0 .0) (a .need), c .if2 .taken, c .before .enum-told .given .1), tt)
 
 returns-4 : tie.Need-returns-4
 returns-4 c =
     let a = c .before .before .before .args in
-    (cc (after-variable (Rattle.sheet.specs.Scan.known-arities (a .t1)) (c .before .enum-told .given .0 .0) (a .need), c .if2 .left, c .before .enum-told .given .1), omega arith)
+    (cc (after-variable (Rattle.sheet.specs.Scan.listed (a .symbols) (a .arities .now)) (c .before .enum-told .given .0 .0) (a .need), c .if2 .left, c .before .enum-told .given .1), omega arith)
 
 returns-5 : tie.Need-returns-5
 returns-5 c =
     let a = c .before .before .args in
-    (cc (after-foreign (Rattle.sheet.specs.Scan.known-arities (a .t1)) (a .ground) (a .need), c .enum-told2 .given .1), tt)
+    (cc (after-foreign (Rattle.sheet.specs.Scan.listed (a .symbols) (a .arities .now)) (a .ground) (a .need), c .enum-told2 .given .1), tt)
 
 pub terms-after-spec : {M : Type 1} → statement M
 terms-after-spec =

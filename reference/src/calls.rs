@@ -1,0 +1,136 @@
+//! The five calls. Each reads the lent sheet afresh and returns one number: the refusal in the lowest byte, then
+//! 16-bit fields.
+
+use crate::ground;
+use crate::limits::*;
+use crate::rewrite;
+use crate::sheet::{self, Refusal, Sheet, Task};
+use crate::walk::Walker;
+
+/// Three fields above a refusal byte of 0.
+fn success(fields: [usize; 3]) -> u64 {
+    (fields[0] as u64) << 8 | (fields[1] as u64) << 24 | (fields[2] as u64) << 40
+}
+
+fn code(outcome: Result<u64, Refusal>) -> u64 {
+    outcome.unwrap_or_else(Refusal::code)
+}
+
+const TOO_SHORT: Refusal = Refusal { number: 11, line: 0 };
+const ABSENT: Refusal = Refusal { number: 12, line: 0 };
+
+/// Refuses a sheet, or gives 0.
+pub fn check(sheet: &[u8]) -> u64 {
+    code(sheet::read(sheet).map(|_| 0))
+}
+
+/// Solves one direction of an equation and writes the table. Gives lines and turns.
+pub fn solve(sheet: &[u8], equation: u64, direction: u64, table: &mut [u8], scratch: &mut [u8]) -> u64 {
+    code(try_solve(sheet, equation, direction, table, scratch))
+}
+
+fn try_solve(
+    sheet: &[u8],
+    equation: u64,
+    direction: u64,
+    table: &mut [u8],
+    scratch: &mut [u8],
+) -> Result<u64, Refusal> {
+    if table.len() < TABLE_BYTES || scratch.len() < SCRATCH_BYTES {
+        return Err(TOO_SHORT);
+    }
+    let sheet = sheet::read(sheet)?;
+    if equation >= sheet.equations().len() as u64 || direction > 1 {
+        return Err(ABSENT);
+    }
+    let number = equation as usize;
+    let mut walker = Walker::new();
+    let outcome = walker.walk(&rewrite::equation(&sheet, number), direction as u8);
+    scratch[..SCRATCH_BYTES].fill(0);
+    match outcome {
+        Ok(turns) => {
+            for (record, line) in table.chunks_exact_mut(RECORD_BYTES).zip(walker.lines()) {
+                line.write_record(record);
+            }
+            Ok(success([walker.lines().len(), turns as usize, 0]))
+        }
+        Err(excess) => {
+            table[..TABLE_BYTES].fill(NONE);
+            Err(Refusal { number: excess.refusal_number(), line: sheet.equations()[number].line })
+        }
+    }
+}
+
+/// Judges the values of a judgement. Gives 1 or 0, and the first holding line or 0.
+pub fn judge(sheet: &[u8], task: u64, table: &mut [u8], scratch: &mut [u8]) -> u64 {
+    code(try_judge(sheet, task, table, scratch))
+}
+
+fn try_judge(sheet: &[u8], task: u64, table: &mut [u8], scratch: &mut [u8]) -> Result<u64, Refusal> {
+    if table.len() < TABLE_BYTES || scratch.len() < SCRATCH_BYTES {
+        return Err(TOO_SHORT);
+    }
+    let sheet = sheet::read(sheet)?;
+    let Some(Task::Judgement { equation, direction, values }) = find_task(&sheet, task) else {
+        return Err(ABSENT);
+    };
+    let solved = rewrite::solve_all(&sheet);
+    let outcome = solved.map(|solved| {
+        rewrite::judge(&solved, equation as usize, direction, sheet.bytes(values), &sheet.arities, scratch)
+    });
+    table[..TABLE_BYTES].fill(NONE);
+    scratch[..SCRATCH_BYTES].fill(0);
+    outcome.map(|line| success([(line > 0) as usize, line, 0]))
+}
+
+/// Runs the term of a run task. Gives steps, ending and length of the last term.
+pub fn run(sheet: &[u8], task: u64, table: &mut [u8], scratch: &mut [u8], term: &mut [u8], log: &mut [u8]) -> u64 {
+    code(try_run(sheet, task, table, scratch, term, log))
+}
+
+fn try_run(
+    sheet: &[u8],
+    task: u64,
+    table: &mut [u8],
+    scratch: &mut [u8],
+    term: &mut [u8],
+    log: &mut [u8],
+) -> Result<u64, Refusal> {
+    if table.len() < TABLE_BYTES || scratch.len() < SCRATCH_BYTES || term.len() < TERM_BYTES || log.len() < LOG_BYTES {
+        return Err(TOO_SHORT);
+    }
+    let sheet = sheet::read(sheet)?;
+    let Some(Task::Run { limit, term: subject }) = find_task(&sheet, task) else {
+        return Err(ABSENT);
+    };
+    let solved = rewrite::solve_all(&sheet);
+    let outcome = solved.map(|solved| rewrite::run(&solved, limit, sheet.bytes(subject), &sheet.arities, scratch));
+    table[..TABLE_BYTES].fill(NONE);
+    scratch[..SCRATCH_BYTES].fill(0);
+    let run = outcome?;
+    term[..run.term().len()].copy_from_slice(run.term());
+    log[..run.log().len()].copy_from_slice(run.log());
+    Ok(success([run.steps(), run.ending as usize, run.term().len()]))
+}
+
+/// Compares the two terms of a comparison. Gives 0 smaller, 1 equal, 2 greater.
+pub fn compare(sheet: &[u8], task: u64, scratch: &mut [u8]) -> u64 {
+    code(try_compare(sheet, task, scratch))
+}
+
+fn try_compare(sheet: &[u8], task: u64, scratch: &mut [u8]) -> Result<u64, Refusal> {
+    if scratch.len() < SCRATCH_BYTES {
+        return Err(TOO_SHORT);
+    }
+    let sheet = sheet::read(sheet)?;
+    let Some(Task::Comparison { left, right }) = find_task(&sheet, task) else {
+        return Err(ABSENT);
+    };
+    let order = ground::compare_terms(sheet.bytes(left), sheet.bytes(right), &sheet.arities, scratch);
+    scratch[..SCRATCH_BYTES].fill(0);
+    Ok(success([(order as i8 + 1) as usize, 0, 0]))
+}
+
+fn find_task(sheet: &Sheet, task: u64) -> Option<Task> {
+    sheet.tasks().get(usize::try_from(task).ok()?).copied()
+}

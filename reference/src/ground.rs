@@ -1,0 +1,217 @@
+//! The lexicographic path ordering on ground terms, with one verdict kept for each pair of positions.
+
+use crate::limits::*;
+use crate::nodes::{self, Equation, Node};
+use crate::walk::Line;
+use std::cmp::Ordering;
+
+/// First position of the ground terms; the positions below it belong to an equation.
+pub const FIRST_GROUND: u8 = EQUATION_NODES as u8;
+
+/// The positions of the values of variables, one byte for each; 0 is no position of a value.
+///
+/// They are kept in one word, for they are written one by one and then handed on together at once, which is slow
+/// through memory.
+#[derive(Clone, Copy, Default)]
+pub struct Values(u64);
+
+impl Values {
+    pub fn get(self, variable: usize) -> u8 {
+        (self.0 >> (8 * variable)) as u8
+    }
+
+    /// Sets the value of a variable that has none yet.
+    pub fn add(&mut self, variable: usize, position: u8) {
+        self.0 |= (position as u64) << (8 * variable);
+    }
+}
+
+/// Ground terms and one equation seen through values of its variables.
+///
+/// Positions 0 to 63 are those of the equation, 64 to 223 those of the ground terms. A position of the equation
+/// that holds a variable stands for the position of the variable's value.
+pub struct Ground<'a> {
+    /// As long as a byte can count, so that indexing by a byte needs no check.
+    nodes: [Node; 256],
+    bytes: [u8; TASK_NODES],
+    values: Values,
+    /// One verdict for each pair of positions, in the row of the smaller position; 0 where none is known.
+    cells: &'a mut [u8; CELLS],
+    /// Which rows hold verdicts about the present terms; the others are cleared when first used.
+    ready: [bool; 256],
+}
+
+impl<'a> Ground<'a> {
+    /// Verdicts are kept in `scratch`, whose former bytes do not matter.
+    pub fn new(scratch: &'a mut [u8]) -> Ground<'a> {
+        Ground {
+            nodes: [Node::default(); 256],
+            bytes: [0; TASK_NODES],
+            values: Values::default(),
+            cells: scratch.first_chunk_mut().expect("scratch has a cell for each pair of positions"),
+            ready: [false; 256],
+        }
+    }
+
+    /// Sets the ground terms, which stand one behind the other from position 64.
+    pub fn set_terms(&mut self, terms: &[u8], arities: &[u8; SYMBOLS]) {
+        self.bytes[..terms.len()].copy_from_slice(terms);
+        nodes::index(terms, arities, &mut self.nodes, FIRST_GROUND as usize);
+        self.ready = [false; 256];
+    }
+
+    /// Sets the equation and the positions of the values of its variables.
+    pub fn set_equation(&mut self, equation: &Equation, values: Values) {
+        self.nodes[..EQUATION_NODES].copy_from_slice(&equation.nodes);
+        self.values = values;
+        self.ready[..EQUATION_NODES].fill(false);
+    }
+
+    pub fn node(&self, position: u8) -> Node {
+        self.nodes[position as usize]
+    }
+
+    /// The bytes of the ground term at a position.
+    pub fn term(&self, position: u8) -> &[u8] {
+        let end = self.node(position).next;
+        &self.bytes[(position - FIRST_GROUND) as usize..(end - FIRST_GROUND) as usize]
+    }
+
+    /// Whether a line of the equation's table holds at the values.
+    pub fn holds(&mut self, line: &Line) -> bool {
+        for (variable, position) in line.bindings() {
+            if !self.identical(self.values.get(variable), position) {
+                return false;
+            }
+        }
+        for element in line.elements() {
+            if self.order(element.left(), element.right()) != Ordering::Greater {
+                return false;
+            }
+        }
+        true
+    }
+
+    /// The position of the value where `position` holds a variable.
+    fn instance(&self, position: u8) -> u8 {
+        let node = self.node(position);
+        if node.is_variable() { self.values.get(node.variable()) } else { position }
+    }
+
+    /// Whether two positions have identical instances.
+    #[inline(always)]
+    pub fn identical(&self, left: u8, right: u8) -> bool {
+        let (left, right) = (self.instance(left), self.instance(right));
+        let arity = self.node(left).arity;
+        self.node(left).byte == self.node(right).byte
+            && (arity == 0 || left == right || self.identical_arguments(left, right, arity))
+    }
+
+    /// The same for two positions with the same symbol.
+    fn identical_arguments(&self, left: u8, right: u8, arity: u8) -> bool {
+        if left >= FIRST_GROUND && right >= FIRST_GROUND {
+            return self.term(left) == self.term(right);
+        }
+        let (mut left, mut right) = (left + 1, right + 1);
+        for _ in 0..arity {
+            if !self.identical(left, right) {
+                return false;
+            }
+            left = self.node(left).next;
+            right = self.node(right).next;
+        }
+        true
+    }
+
+    /// How the instances of two positions are ordered.
+    ///
+    /// The precedence being total, so is the ordering on ground terms; where L2 or L3 fails for want of s > tj,
+    /// then tj is s or exceeds it, and t > s by L1. So each pair needs one verdict out of three.
+    #[inline]
+    pub fn order(&mut self, left: u8, right: u8) -> Ordering {
+        let (left, right) = (self.instance(left), self.instance(right));
+        match left.cmp(&right) {
+            Ordering::Less => self.order_of_pair(left, right),
+            Ordering::Equal => Ordering::Equal,
+            Ordering::Greater => self.order_of_pair(right, left).reverse(),
+        }
+    }
+
+    /// The same for two positions without variables, the smaller position first.
+    #[inline]
+    fn order_of_pair(&mut self, left: u8, right: u8) -> Ordering {
+        let (left_node, right_node) = (self.node(left), self.node(right));
+        if left_node.arity | right_node.arity == 0 {
+            return left_node.byte.cmp(&right_node.byte);
+        }
+        if self.ready[left as usize] {
+            match self.cells[left as usize * POSITIONS + right as usize] {
+                1 => return Ordering::Less,
+                2 => return Ordering::Equal,
+                3 => return Ordering::Greater,
+                _ => {}
+            }
+        }
+        self.decide(left, right)
+    }
+
+    /// Decides a pair of positions whose verdict is not known yet, and keeps the verdict.
+    #[inline(never)]
+    fn decide(&mut self, left: u8, right: u8) -> Ordering {
+        let row = left as usize * POSITIONS;
+        if !self.ready[left as usize] {
+            self.cells[row..row + POSITIONS].fill(0);
+            self.ready[left as usize] = true;
+        }
+        let (left_node, right_node) = (self.node(left), self.node(right));
+        let verdict = match left_node.byte.cmp(&right_node.byte) {
+            Ordering::Less if self.exceeds_arguments(right, left + 1, left_node.arity) => Ordering::Less,
+            Ordering::Less => Ordering::Greater,
+            Ordering::Equal => self.order_by_arguments(left, right, left_node.arity),
+            Ordering::Greater if self.exceeds_arguments(left, right + 1, right_node.arity) => Ordering::Greater,
+            Ordering::Greater => Ordering::Less,
+        };
+        self.cells[row + right as usize] = (verdict as i8 + 2) as u8;
+        verdict
+    }
+
+    /// Whether the term at `position` exceeds `count` arguments, the first of which is at `argument`.
+    fn exceeds_arguments(&mut self, position: u8, mut argument: u8, count: u8) -> bool {
+        for _ in 0..count {
+            if self.order(position, argument) != Ordering::Greater {
+                return false;
+            }
+            argument = self.node(argument).next;
+        }
+        true
+    }
+
+    /// The order of two terms with the same symbol: the first arguments that differ decide, provided that the
+    /// term with the greater one exceeds the arguments of the other behind it.
+    fn order_by_arguments(&mut self, left: u8, right: u8, arity: u8) -> Ordering {
+        let (mut left_argument, mut right_argument) = (left + 1, right + 1);
+        for rest in (0..arity).rev() {
+            let verdict = self.order(left_argument, right_argument);
+            left_argument = self.node(left_argument).next;
+            right_argument = self.node(right_argument).next;
+            let confirmed = match verdict {
+                Ordering::Equal => continue,
+                Ordering::Less => self.exceeds_arguments(right, left_argument, rest),
+                Ordering::Greater => self.exceeds_arguments(left, right_argument, rest),
+            };
+            return if confirmed { verdict } else { verdict.reverse() };
+        }
+        Ordering::Equal
+    }
+}
+
+/// Compares two ground terms in prefix form, together at most 160 nodes.
+pub fn compare_terms(left: &[u8], right: &[u8], arities: &[u8; SYMBOLS], scratch: &mut [u8]) -> Ordering {
+    let mut terms = [0; TASK_NODES];
+    let length = left.len() + right.len();
+    terms[..left.len()].copy_from_slice(left);
+    terms[left.len()..length].copy_from_slice(right);
+    let mut ground = Ground::new(scratch);
+    ground.set_terms(&terms[..length], arities);
+    ground.order(FIRST_GROUND, FIRST_GROUND + left.len() as u8)
+}

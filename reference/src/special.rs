@@ -1,0 +1,385 @@
+//! Named sheets at the limits: long walks, full tables and lines, longest texts, hard comparisons, long runs.
+
+use crate::generate::{LONG_LINES, Sides, long_line, text};
+use crate::limits::SHEET_BYTES;
+
+/// A named sheet.
+pub type Named = (&'static str, Vec<u8>);
+
+/// All special sheets.
+pub fn special() -> Vec<Named> {
+    let mut sheets = walks();
+    sheets.extend(comparisons());
+    sheets.extend(runs());
+    sheets.extend(texts());
+    sheets
+}
+
+const X: u8 = 0x80;
+const Y: u8 = 0x81;
+const Z: u8 = 0x82;
+const U: u8 = 0x83;
+const V: u8 = 0x84;
+
+fn symbols(arities: &[u8]) -> Vec<u8> {
+    [&[1, arities.len() as u8], arities].concat()
+}
+
+fn equation(left: &[u8], right: &[u8]) -> Vec<u8> {
+    [&[2], left, right].concat()
+}
+
+fn digits(frame: &str) -> Vec<u8> {
+    (0..frame.len() / 2).map(|i| u8::from_str_radix(&frame[2 * i..2 * i + 2], 16).unwrap()).collect()
+}
+
+/// A sheet given by the digits of its frames.
+fn from_digits(frames: &[&str]) -> Vec<u8> {
+    text(&frames.iter().map(|frame| digits(frame)).collect::<Vec<_>>())
+}
+
+/// An application of a binary symbol.
+fn binary(symbol: u8, left: &[u8], right: &[u8]) -> Vec<u8> {
+    [&[symbol], left, right].concat()
+}
+
+/// (x and y) or ((y and z) or (z and x)) = (x or y) and ((y or z) and (z or x)).
+pub fn median_law(and: u8, or: u8) -> Sides {
+    let side = |inner: u8, outer: u8| {
+        let [first, second, third] = [[inner, X, Y], [inner, Y, Z], [inner, Z, X]];
+        binary(outer, &first, &binary(outer, &second, &third))
+    };
+    (side(and, or), side(or, and))
+}
+
+/// x(y(z(uv))) = v(u(z(yx))).
+pub fn reversal(product: u8) -> Sides {
+    let nested = |[a, b, c, d, e]: [u8; 5]| vec![product, a, product, b, product, c, product, d, e];
+    (nested([X, Y, Z, U, V]), nested([V, U, Z, Y, X]))
+}
+
+/// if(if(x, y, z), u, v) = if(x, if(y, u, v), if(z, u, v)).
+pub fn distribution(choice: u8) -> Sides {
+    let i = choice;
+    (vec![i, i, X, Y, Z, U, V], vec![i, X, i, Y, U, V, i, Z, U, V])
+}
+
+/// Associativity of exclusive or, written with and, or, not.
+pub fn exclusive_or(and: u8, or: u8, not: u8) -> Sides {
+    let xor = |left: &[u8], right: &[u8]| {
+        let negated = |term: &[u8]| [&[not], term].concat();
+        binary(or, &binary(and, left, &negated(right)), &binary(and, &negated(left), right))
+    };
+    (xor(&[X], &xor(&[Y], &[Z])), xor(&xor(&[X], &[Y]), &[Z]))
+}
+
+/// Equations with long walks, large tables and long lines.
+fn walks() -> Vec<Named> {
+    let one = |arities: &[u8], sides: Sides, tasks: &[&[u8]]| {
+        let mut frames = vec![symbols(arities), equation(&sides.0, &sides.1)];
+        frames.extend(tasks.iter().map(|task| task.to_vec()));
+        text(&frames)
+    };
+    let boolean: [&[u8]; 3] =
+        [&[4, 0, 0, 0, 1, 0, 0, 0], &[3, 255, 2, 1, 0, 0, 2, 1, 0, 0, 1, 0, 0], &[5, 2, 0, 0, 1, 0, 0]];
+    vec![
+        ("median law, and below or", one(&[0, 2, 2], median_law(1, 2), &boolean)),
+        ("median law, or below and", one(&[0, 2, 2], median_law(2, 1), &boolean)),
+        (
+            "reversal of five",
+            one(
+                &[0, 0, 2],
+                reversal(2),
+                &[
+                    &[4, 0, 0, 1, 0, 0, 0, 0],
+                    &[4, 0, 1, 0, 1, 0, 1, 1],
+                    &[4, 0, 0, 0, 1, 0, 1, 0],
+                    &[3, 9, 2, 1, 2, 0, 2, 1, 2, 0, 0],
+                ],
+            ),
+        ),
+        (
+            "distribution of if-then-else",
+            one(
+                &[0, 0, 3],
+                distribution(2),
+                &[
+                    &[4, 0, 0, 0, 1, 0, 1, 0],
+                    &[3, 255, 2, 2, 2, 0, 1, 0, 1, 0, 1, 0],
+                    &[5, 2, 2, 0, 1, 0, 1, 0, 2, 0, 2, 1, 1, 0, 2, 0, 1, 0],
+                ],
+            ),
+        ),
+        ("exclusive or, and < or < not", one(&[0, 2, 2, 1], exclusive_or(1, 2, 3), &[])),
+        ("exclusive or, and < not < or", one(&[0, 2, 1, 2], exclusive_or(1, 3, 2), &[])),
+        ("exclusive or, or < not < and", one(&[0, 2, 1, 2], exclusive_or(3, 1, 2), &[])),
+        (
+            "10,000 turns, 8 lines",
+            from_digits(&[
+                "010400010202",
+                "02030282000101030100030182010202828003018181038101028280",
+                "0400010001000100",
+                "03ff030100020000",
+            ]),
+        ),
+        (
+            "10,000 turns, no line",
+            from_digits(&["0103000201", "020202010280800101018000020280020102010280800102020280018080"]),
+        ),
+        ("10,001 turns", from_digits(&["0103000201", "0202020101028000810201010202028001008002020281"])),
+        (
+            "10,001 turns after a short equation",
+            from_digits(&[
+                "0103000201",
+                "02018081018180",
+                "0202020101028000810201010202028001008002020281",
+                "0501000000",
+            ]),
+        ),
+        (
+            "255 lines at the end",
+            from_digits(&["0103000102", "020201820201828002010180010181", "040000000100010100", "040001000100020000"]),
+        ),
+        (
+            "255 lines on the way",
+            from_digits(&["0103000002", "020202818002810102020181020080", "0400000100", "0400010001"]),
+        ),
+        (
+            "256 lines",
+            from_digits(&["0103000203", "0201800101818000010102818101810001018181010080018180", "0400000000"]),
+        ),
+        (
+            "40 elements",
+            one(
+                &LONG_LINES,
+                long_line(false),
+                &[&[4, 0, 0, 2, 0, 0, 0, 0, 2, 2, 0, 0, 0, 0, 2, 0, 0, 0, 0, 0, 0, 0], &[4, 0, 1, 0, 4, 0]],
+            ),
+        ),
+        ("41 elements", one(&LONG_LINES, long_line(true), &[&[4, 0, 0, 0, 0, 0]])),
+    ]
+}
+
+/// Pairs of terms of together at most 160 nodes.
+pub fn hard_pairs() -> Vec<(&'static str, Vec<u8>, Vec<u8>)> {
+    let last_changed = |term: &[u8]| {
+        let mut term = term.to_vec();
+        *term.last_mut().unwrap() = B;
+        term
+    };
+    let right_comb = [&[H], &right_comb(39)[..]].concat();
+    let left_comb = [&[H], &left_comb(39)[..]].concat();
+    let mut left_comb_changed_first = left_comb.clone();
+    left_comb_changed_first[40] = B;
+    let tree = full_tree(&[F], 6);
+    let mut tree_changed_first = tree.clone();
+    tree_changed_first[5] = B;
+    vec![
+        ("two towers of 80", tower(80), tower(80)),
+        ("two towers of 1 and 159", tower(1), tower(159)),
+        ("two towers of 79 and 81", tower(79), tower(81)),
+        ("two right combs of 80, last leaf differs", right_comb.clone(), last_changed(&right_comb)),
+        ("two left combs of 80, last leaf differs", left_comb.clone(), last_changed(&left_comb)),
+        ("two left combs of 80, first leaf differs", left_comb.clone(), left_comb_changed_first),
+        ("two equal full trees of 63", tree.clone(), tree.clone()),
+        ("two full trees of 63, last leaf differs", tree.clone(), last_changed(&tree)),
+        ("two full trees of 63, first leaf differs", tree, tree_changed_first),
+        ("two full trees of 63, symbols alternate", full_tree(&[F, G], 6), full_tree(&[G, F], 6)),
+        ("a full tree and a comb", full_tree(&[F], 6), right_comb),
+    ]
+}
+
+/// Symbols of the comparisons: two constants, a unary and two binary ones.
+const COMPARED: [u8; 5] = [0, 0, 1, 2, 2];
+const A: u8 = 0;
+const B: u8 = 1;
+const H: u8 = 2;
+const F: u8 = 3;
+const G: u8 = 4;
+
+fn tower(nodes: usize) -> Vec<u8> {
+    let mut tower = vec![H; nodes];
+    tower[nodes - 1] = A;
+    tower
+}
+
+fn right_comb(height: usize) -> Vec<u8> {
+    [&[F, A].repeat(height)[..], &[A]].concat()
+}
+
+fn left_comb(height: usize) -> Vec<u8> {
+    [vec![F; height], vec![A; height + 1]].concat()
+}
+
+/// A full binary tree of so many levels; the symbols of the levels are taken in turn.
+fn full_tree(symbols: &[u8], levels: usize) -> Vec<u8> {
+    fn append(symbols: &[u8], level: usize, levels: usize, term: &mut Vec<u8>) {
+        if level + 1 == levels {
+            term.push(A);
+        } else {
+            term.push(symbols[level % symbols.len()]);
+            append(symbols, level + 1, levels, term);
+            append(symbols, level + 1, levels, term);
+        }
+    }
+    let mut term = Vec::new();
+    append(symbols, 0, levels, &mut term);
+    term
+}
+
+/// The arities under which `hard_pairs` are terms.
+pub fn compared_arities() -> &'static [u8] {
+    &COMPARED
+}
+
+fn comparisons() -> Vec<Named> {
+    let mut all = vec![symbols(&COMPARED), equation(&[F, X, Y], &[F, Y, X])];
+    let mut sheets = Vec::new();
+    for (name, left, right) in hard_pairs() {
+        let both = [[&[5], &left[..], &right].concat(), [&[5], &right[..], &left].concat()];
+        let frames = [&all[..2], &both].concat();
+        all.extend(both);
+        sheets.push((name, text(&frames)));
+    }
+    sheets.push(("all hard comparisons", text(&all)));
+    sheets
+}
+
+/// Runs of many steps and runs at the limits of size.
+fn runs() -> Vec<Named> {
+    vec![
+        ("sorting of 40 factors", text(&sorting())),
+        ("256 exchanges of two unary symbols", text(&exchanges())),
+        ("255 steps under large tables", text(&many_lines())),
+        ("doubling at the limit of nodes", text(&doubling())),
+    ]
+}
+
+/// Associativity and commutativity, and a product of 40 constants out of 15.
+fn sorting() -> Vec<Vec<u8>> {
+    let product = 15;
+    let mut arities = [0; 16];
+    arities[15] = 2;
+    let factors: Vec<u8> = (0..40).map(|i| (i * 7 % 15) as u8).collect();
+    let mut right_nested = Vec::new();
+    for &factor in &factors[..39] {
+        right_nested.extend_from_slice(&[product, factor]);
+    }
+    right_nested.push(factors[39]);
+    let left_nested = [vec![product; 39], factors].concat();
+    vec![
+        symbols(&arities),
+        equation(&[product, product, X, Y, Z], &[product, X, product, Y, Z]),
+        equation(&[product, X, Y], &[product, Y, X]),
+        equation(&[product, X, product, Y, Z], &[product, Y, product, X, Z]),
+        [&[3, 255], &right_nested[..]].concat(),
+        [&[3, 255], &left_nested[..]].concat(),
+        [&[3, 100], &left_nested[..]].concat(),
+    ]
+}
+
+/// p(q(x)) = q(p(x)) with p above q; 16 of each over a constant take 256 steps, one more than a run may have.
+fn exchanges() -> Vec<Vec<u8>> {
+    let (q, p) = (1, 2);
+    let run = |limit: u8, of_p: usize, of_q: usize| [vec![3, limit], vec![p; of_p], vec![q; of_q], vec![0]].concat();
+    vec![
+        symbols(&[0, 1, 1]),
+        equation(&[p, q, X], &[q, p, X]),
+        run(255, 16, 16),
+        run(255, 15, 17),
+        run(254, 15, 17),
+        run(255, 79, 3),
+        run(0, 1, 1),
+        run(0, 1, 0),
+    ]
+}
+
+/// Fifteen times the reversal of five, whose tables have 193 lines, and a subject where these match at some sixty
+/// positions above the place of each step, but do not hold.
+fn many_lines() -> Vec<Vec<u8>> {
+    let (q, p, product) = (1, 2, 3);
+    let sides = reversal(product);
+    let mut frames = vec![symbols(&[0, 1, 1, 2])];
+    frames.extend(std::iter::repeat_n(equation(&sides.0, &sides.1), 15));
+    frames.push(equation(&[p, q, X], &[q, p, X]));
+    frames.push([vec![3, 255], [product, 0].repeat(63), vec![p; 15], vec![q; 17], vec![0]].concat());
+    frames
+}
+
+/// d(x) = xx with d above the product: to 159 nodes, to 161, and to 319.
+fn doubling() -> Vec<Vec<u8>> {
+    let (product, d) = (2, 3);
+    let run = |height: usize| [vec![3, 5, d], [product, 0].repeat(height), vec![1]].concat();
+    vec![symbols(&[0, 0, 2, 1]), equation(&[d, X], &[product, X, X]), run(39), run(40), run(79)]
+}
+
+/// P1 of the paper.
+pub const P1: &[u8] = b"0103000002\n02028081028180\n0305020100\n0400000001\n05020100020001\n";
+
+/// Texts at the limits of the reader.
+fn texts() -> Vec<Named> {
+    let with_tail = |length: usize| {
+        let mut text = P1.to_vec();
+        let mut filler = b"050001\n".iter().cycle();
+        while text.len() < length {
+            text.push(*filler.next().unwrap());
+        }
+        text
+    };
+    let with_byte = |at: usize, byte: u8| {
+        let mut text = P1.to_vec();
+        text[at] = byte;
+        text
+    };
+    vec![
+        ("P1", P1.to_vec()),
+        ("empty", Vec::new()),
+        ("one LF", b"\n".to_vec()),
+        ("two LF", b"\n\n".to_vec()),
+        ("16,384 bytes", with_tail(SHEET_BYTES)),
+        ("16,385 bytes", with_tail(SHEET_BYTES + 1)),
+        ("16,384 digits", vec![b'0'; SHEET_BYTES]),
+        ("16,385 digits", vec![b'0'; SHEET_BYTES + 1]),
+        ("16,384 LF", vec![b'\n'; SHEET_BYTES]),
+        ("5,461 lines of 01", b"01\n".repeat(5_461)),
+        ("5,461 lines of 02", b"02\n".repeat(5_461)),
+        ("5,458 lines after the symbols", [&b"01020002\n"[..], &b"02\n".repeat(5_458)].concat()),
+        ("no final LF", P1[..P1.len() - 1].to_vec()),
+        ("last line cut", P1[..P1.len() - 2].to_vec()),
+        ("only the symbols", P1[..11].to_vec()),
+        ("only the symbols, no LF", P1[..10].to_vec()),
+        ("NUL in the first line", with_byte(3, 0)),
+        ("NUL for a LF", with_byte(10, 0)),
+        ("NUL in the last line", with_byte(P1.len() - 2, 0)),
+        ("NUL behind the sheet", [P1, b"\0"].concat()),
+        ("sixteen NUL", vec![0; 16]),
+        ("CR before LF", String::from_utf8(P1.to_vec()).unwrap().replace('\n', "\r\n").into_bytes()),
+        ("longest valid sheet", longest()),
+        ("longest line and two digits more", [P1, &longest_judgement(), b"04\n"].concat()),
+        ("a line of 328 digits", [P1, &vec![b'0'; 328], b"\n"].concat()),
+        ("a line of 326 digits", [P1, &vec![b'0'; 326], b"\n"].concat()),
+    ]
+}
+
+/// A frame 04 of 163 bytes for P1's equation: values of 159 nodes and of 1 node.
+fn longest_judgement() -> Vec<u8> {
+    text(&[[vec![4, 0, 0], [2, 0].repeat(79), vec![1, 1]].concat()])
+}
+
+/// The longest text without a refusal by the reader: 16 symbols, 16 equations with sides of 32 nodes and 32
+/// judgements with 160 nodes.
+fn longest() -> Vec<u8> {
+    let (unary, product) = (1, 15);
+    let mut arities = [0; 16];
+    arities[unary as usize] = 1;
+    arities[product as usize] = 2;
+    let side = |leaf: u8| [&[unary], &[product, X].repeat(15)[..], &[leaf]].concat();
+    let mut frames = vec![symbols(&arities)];
+    frames.extend(std::iter::repeat_n(equation(&side(Y), &side(X)), 16));
+    for task in 0..32 {
+        // Values of 81 and of 79 nodes.
+        let values = [[product, 0].repeat(40), vec![2], [product, 3].repeat(39), vec![0]].concat();
+        frames.push([&[4, task % 16, task / 16], &values[..]].concat());
+    }
+    text(&frames)
+}

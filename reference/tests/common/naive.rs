@@ -1,0 +1,488 @@
+//! The paper's definitions written as directly as possible, without regard to speed: the reader, the ordering,
+//! the walk, what a line means, the reference run.
+
+use std::collections::HashMap;
+
+#[derive(Clone, Debug)]
+pub enum Task {
+    Run(u8, Vec<u8>),
+    Judgement(usize, usize, Vec<Vec<u8>>),
+    Comparison(Vec<u8>, Vec<u8>),
+}
+
+#[derive(Clone, Debug)]
+pub struct Sheet {
+    pub arities: Vec<u8>,
+    /// Left side, right side, line.
+    pub equations: Vec<(Vec<u8>, Vec<u8>, usize)>,
+    pub tasks: Vec<Task>,
+}
+
+/// Reads a sheet, or gives refusal number and line.
+pub fn read(text: &[u8]) -> Result<Sheet, (u64, u64)> {
+    if text.is_empty() || text.len() > 16_384 {
+        return Err((1, 0));
+    }
+    let mut sheet = Sheet { arities: vec![], equations: vec![], tasks: vec![] };
+    let mut lines: Vec<&[u8]> = text.split(|&byte| byte == b'\n').collect();
+    // What stands behind the last LF is a line without LF, unless it is nothing.
+    let unended = lines.pop().unwrap();
+    let count = lines.len() + !unended.is_empty() as usize;
+    for number in 1..=count {
+        let refused = |refusal: u64| (refusal, number as u64);
+        if number > lines.len() {
+            return Err(refused(2));
+        }
+        let line = lines[number - 1];
+        let digits = line.iter().all(|byte| b"0123456789abcdef".contains(byte));
+        if !digits || line.len() < 2 || line.len() > 326 || line.len() % 2 == 1 {
+            return Err(refused(2));
+        }
+        let frame: Vec<u8> =
+            line.chunks(2).map(|pair| u8::from_str_radix(std::str::from_utf8(pair).unwrap(), 16).unwrap()).collect();
+        let in_order = match frame[0] {
+            1 => number == 1,
+            2 => number > 1 && number <= 17 && sheet.tasks.is_empty(),
+            3..=5 => !sheet.equations.is_empty() && sheet.tasks.len() < 32,
+            _ => false,
+        };
+        if !in_order {
+            return Err(refused(3));
+        }
+        take(&mut sheet, &frame, number).map_err(refused)?;
+    }
+    if sheet.equations.is_empty() {
+        return Err((3, count as u64));
+    }
+    Ok(sheet)
+}
+
+fn take(sheet: &mut Sheet, frame: &[u8], line: usize) -> Result<(), u64> {
+    match frame[0] {
+        1 => {
+            let arities = frame.get(2..).unwrap_or(&[]);
+            let fits = frame.len() > 1 && (1..=16).contains(&frame[1]) && frame[1] as usize == arities.len();
+            if !fits || arities.iter().any(|&arity| arity > 4) || arities.iter().all(|&arity| arity > 0) {
+                return Err(4);
+            }
+            sheet.arities = arities.to_vec();
+        }
+        2 => {
+            let terms = terms(&sheet.arities, &frame[1..], 2, false, |term, _| term <= 32)?;
+            sheet.equations.push((terms[0].clone(), terms[1].clone(), line));
+        }
+        3 => {
+            let limit = *frame.get(1).ok_or(5u64)?;
+            let terms = terms(&sheet.arities, &frame[2..], 1, true, |_, all| all <= 160)?;
+            sheet.tasks.push(Task::Run(limit, terms[0].clone()));
+        }
+        4 => {
+            if frame.len() < 3 {
+                return Err(5);
+            }
+            let (equation, direction) = (frame[1] as usize, frame[2] as usize);
+            if equation >= sheet.equations.len() || direction > 1 {
+                return Err(7);
+            }
+            let count = value_count(&sheet.equations[equation]);
+            let terms = terms(&sheet.arities, &frame[3..], count, true, |_, all| all <= 160)?;
+            sheet.tasks.push(Task::Judgement(equation, direction, terms));
+        }
+        _ => {
+            let terms = terms(&sheet.arities, &frame[1..], 2, true, |_, all| all <= 160)?;
+            sheet.tasks.push(Task::Comparison(terms[0].clone(), terms[1].clone()));
+        }
+    }
+    Ok(())
+}
+
+pub fn value_count(equation: &(Vec<u8>, Vec<u8>, usize)) -> usize {
+    let sides = equation.0.iter().chain(&equation.1);
+    sides.filter(|&&byte| byte >= 0x80).map(|byte| *byte as usize - 0x7f).max().unwrap_or(0)
+}
+
+/// Exactly `count` terms. `allowed` is asked at each node with the nodes of its term and of all terms so far.
+fn terms(
+    arities: &[u8],
+    bytes: &[u8],
+    count: usize,
+    ground: bool,
+    allowed: fn(usize, usize) -> bool,
+) -> Result<Vec<Vec<u8>>, u64> {
+    let mut terms: Vec<Vec<u8>> = vec![];
+    let mut open = 0;
+    for (index, &byte) in bytes.iter().enumerate() {
+        if open == 0 {
+            if terms.len() == count {
+                return Err(5);
+            }
+            terms.push(vec![]);
+            open = 1;
+        }
+        let term = terms.last_mut().unwrap();
+        term.push(byte);
+        let arity = match byte {
+            0..=15 if (byte as usize) < arities.len() => arities[byte as usize] as usize,
+            0x80..=0x87 => 0,
+            _ => return Err(5),
+        };
+        if !allowed(term.len(), index + 1) {
+            return Err(5);
+        }
+        if ground && byte >= 0x80 {
+            return Err(6);
+        }
+        open = open - 1 + arity;
+    }
+    if open > 0 || terms.len() < count { Err(5) } else { Ok(terms) }
+}
+
+/// The arguments of a term.
+pub fn arguments<'t>(arities: &[u8], term: &'t [u8]) -> Vec<&'t [u8]> {
+    let mut arguments = vec![];
+    let mut start = 1;
+    if term[0] < 0x80 {
+        for _ in 0..arities[term[0] as usize] {
+            let end = term_end(arities, term, start);
+            arguments.push(&term[start..end]);
+            start = end;
+        }
+    }
+    arguments
+}
+
+pub fn term_end(arities: &[u8], bytes: &[u8], start: usize) -> usize {
+    let mut end = start + 1;
+    if bytes[start] < 0x80 {
+        for _ in 0..arities[bytes[start] as usize] {
+            end = term_end(arities, bytes, end);
+        }
+    }
+    end
+}
+
+/// L1 to L3, each pair of terms decided once.
+#[derive(Default)]
+pub struct Order {
+    known: HashMap<(Vec<u8>, Vec<u8>), bool>,
+}
+
+impl Order {
+    pub fn exceeds(&mut self, arities: &[u8], s: &[u8], t: &[u8]) -> bool {
+        let key = (s.to_vec(), t.to_vec());
+        if let Some(&known) = self.known.get(&key) {
+            return known;
+        }
+        let answer = self.decide(arities, s, t);
+        self.known.insert(key, answer);
+        answer
+    }
+
+    fn decide(&mut self, arities: &[u8], s: &[u8], t: &[u8]) -> bool {
+        let (f, g) = (s[0], t[0]);
+        let (si, ti) = (arguments(arities, s), arguments(arities, t));
+        let first = si.iter().any(|argument| argument == &t || self.exceeds(arities, argument, t));
+        let second = f > g && ti.iter().all(|argument| self.exceeds(arities, s, argument));
+        let third = f == g
+            && (0..ti.len()).any(|k| {
+                si[..k] == ti[..k]
+                    && self.exceeds(arities, si[k], ti[k])
+                    && ti[k + 1..].iter().all(|argument| self.exceeds(arities, s, argument))
+            });
+        first || second || third
+    }
+
+    /// 0 smaller, 1 equal, 2 greater.
+    pub fn verdict(&mut self, arities: &[u8], s: &[u8], t: &[u8]) -> u64 {
+        if s == t {
+            1
+        } else if self.exceeds(arities, s, t) {
+            2
+        } else {
+            0
+        }
+    }
+}
+
+#[derive(Clone, Debug, PartialEq, Eq)]
+pub enum Element {
+    Equality(usize, usize),
+    Inequality(usize, usize),
+}
+
+#[derive(Clone, Debug, PartialEq, Eq)]
+pub struct Line {
+    pub bindings: [Option<usize>; 8],
+    pub elements: Vec<Element>,
+}
+
+/// Both sides of an equation, one behind the other.
+pub struct Walk<'a> {
+    pub arities: &'a [u8],
+    pub bytes: &'a [u8],
+}
+
+impl Walk<'_> {
+    /// The lines and the count of turns, or the refusal number.
+    pub fn solve(&self, source: usize, target: usize) -> Result<(Vec<Line>, usize), u64> {
+        let opening = Line { bindings: [None; 8], elements: vec![Element::Inequality(source, target)] };
+        let mut table = vec![opening];
+        let mut turns = 0;
+        while let Some((at, index)) = self.first_open(&table) {
+            if turns == 10_000 {
+                return Err(8);
+            }
+            turns += 1;
+            let lines = self.turn(&table[at], index);
+            if lines.iter().any(|line| line.elements.len() > 40) {
+                return Err(9);
+            }
+            table.splice(at..at + 1, lines);
+            if table.len() > 255 {
+                return Err(10);
+            }
+        }
+        Ok((table, turns))
+    }
+
+    /// The first unfinished line and its leftmost element that is not fully reduced.
+    fn first_open(&self, table: &[Line]) -> Option<(usize, usize)> {
+        for (at, line) in table.iter().enumerate() {
+            if let Some(index) = line.elements.iter().position(|element| !self.fully_reduced(line, element)) {
+                return Some((at, index));
+            }
+        }
+        None
+    }
+
+    fn fully_reduced(&self, line: &Line, element: &Element) -> bool {
+        let &Element::Inequality(l, r) = element else { return false };
+        let (l, r) = (self.reached(line, l), self.reached(line, r));
+        if self.is_variable(l) {
+            !self.occurs(line, self.bytes[l], r)
+        } else {
+            self.is_variable(r) && !self.occurs(line, self.bytes[r], l)
+        }
+    }
+
+    /// The lines that take the place of a line whose element `index` is treated.
+    fn turn(&self, line: &Line, index: usize) -> Vec<Line> {
+        let replaced = |elements: Vec<Element>| {
+            let mut line = line.clone();
+            line.elements.splice(index..index + 1, elements);
+            line
+        };
+        match line.elements[index] {
+            Element::Equality(l, r) => {
+                let mut line = replaced(vec![]);
+                if self.unify(&mut line.bindings, l, r) { vec![line] } else { vec![] }
+            }
+            Element::Inequality(l, r) => {
+                let (left, right) = (self.reached(line, l), self.reached(line, r));
+                if self.is_variable(left) {
+                    return vec![];
+                }
+                if self.is_variable(right) {
+                    return vec![replaced(vec![])];
+                }
+                self.choices(l, r, left, right).into_iter().map(replaced).collect()
+            }
+        }
+    }
+
+    fn choices(&self, l: usize, r: usize, left: usize, right: usize) -> Vec<Vec<Element>> {
+        use Element::*;
+        let (si, ti) = (self.argument_positions(left), self.argument_positions(right));
+        let (f, g) = (self.bytes[left], self.bytes[right]);
+        let mut choices = vec![];
+        for &argument in &si {
+            choices.push(vec![Inequality(argument, r)]);
+            choices.push(vec![Equality(argument, r)]);
+        }
+        if f > g {
+            choices.push(ti.iter().map(|&argument| Inequality(l, argument)).collect());
+        }
+        if f == g {
+            for k in 0..ti.len() {
+                let mut list: Vec<Element> = (0..k).map(|i| Equality(si[i], ti[i])).collect();
+                list.push(Inequality(si[k], ti[k]));
+                list.extend(ti[k + 1..].iter().map(|&argument| Inequality(l, argument)));
+                choices.push(list);
+            }
+        }
+        choices
+    }
+
+    fn argument_positions(&self, position: usize) -> Vec<usize> {
+        let mut positions = vec![];
+        let mut next = position + 1;
+        for _ in 0..self.arities[self.bytes[position] as usize] {
+            positions.push(next);
+            next = term_end(self.arities, self.bytes, next);
+        }
+        positions
+    }
+
+    fn is_variable(&self, position: usize) -> bool {
+        self.bytes[position] >= 0x80
+    }
+
+    fn reached(&self, line: &Line, position: usize) -> usize {
+        self.reached_through(&line.bindings, position)
+    }
+
+    fn reached_through(&self, bindings: &[Option<usize>; 8], position: usize) -> usize {
+        if self.is_variable(position) {
+            if let Some(bound) = bindings[self.bytes[position] as usize - 0x80] {
+                return self.reached_through(bindings, bound);
+            }
+        }
+        position
+    }
+
+    fn occurs(&self, line: &Line, variable: u8, position: usize) -> bool {
+        self.occurs_through(&line.bindings, variable, position)
+    }
+
+    fn occurs_through(&self, bindings: &[Option<usize>; 8], variable: u8, position: usize) -> bool {
+        let position = self.reached_through(bindings, position);
+        if self.is_variable(position) {
+            return self.bytes[position] == variable;
+        }
+        self.argument_positions(position).iter().any(|&argument| self.occurs_through(bindings, variable, argument))
+    }
+
+    pub fn unify(&self, bindings: &mut [Option<usize>; 8], l: usize, r: usize) -> bool {
+        let (l, r) = (self.reached_through(bindings, l), self.reached_through(bindings, r));
+        let (left, right) = (self.bytes[l], self.bytes[r]);
+        match (self.is_variable(l), self.is_variable(r)) {
+            (true, true) => {
+                if left < right {
+                    bindings[left as usize - 0x80] = Some(r);
+                }
+                if right < left {
+                    bindings[right as usize - 0x80] = Some(l);
+                }
+                true
+            }
+            (true, false) => {
+                let free = !self.occurs_through(bindings, left, r);
+                if free {
+                    bindings[left as usize - 0x80] = Some(r);
+                }
+                free
+            }
+            (false, true) => self.unify(bindings, r, l),
+            (false, false) => {
+                let (si, ti) = (self.argument_positions(l), self.argument_positions(r));
+                left == right && si.iter().zip(&ti).all(|(&l, &r)| self.unify(bindings, l, r))
+            }
+        }
+    }
+}
+
+/// The records of a table.
+pub fn records(lines: &[Line]) -> Vec<u8> {
+    let mut records = vec![];
+    for line in lines {
+        records.extend(line.bindings.iter().map(|binding| binding.map_or(0xff, |position| position as u8)));
+        records.push(line.elements.len() as u8);
+        for index in 0..40 {
+            match line.elements.get(index) {
+                Some(&Element::Inequality(l, r)) => records.extend([l as u8, r as u8]),
+                Some(Element::Equality(..)) => panic!("an equality in a finished line"),
+                None => records.extend([0xff, 0xff]),
+            }
+        }
+    }
+    records
+}
+
+/// The term with each variable replaced by its value.
+pub fn instance(term: &[u8], values: &[Vec<u8>]) -> Vec<u8> {
+    let mut result = vec![];
+    for &byte in term {
+        if byte < 0x80 {
+            result.push(byte);
+        } else {
+            result.extend(&values[byte as usize - 0x80]);
+        }
+    }
+    result
+}
+
+/// Whether a line holds at ground values.
+pub fn holds(order: &mut Order, walk: &Walk, line: &Line, values: &[Vec<u8>]) -> bool {
+    let at = |position: usize| {
+        let end = term_end(walk.arities, walk.bytes, position);
+        instance(&walk.bytes[position..end], values)
+    };
+    let bindings = line.bindings.iter().enumerate().all(|(variable, binding)| match binding {
+        Some(position) => values[variable] == at(*position),
+        None => true,
+    });
+    bindings
+        && line.elements.iter().all(|element| match *element {
+            Element::Inequality(l, r) => order.exceeds(walk.arities, &at(l), &at(r)),
+            Element::Equality(l, r) => at(l) == at(r),
+        })
+}
+
+/// The reference run: steps, ending and last term.
+pub fn reference_run(sheet: &Sheet, limit: u8, subject: &[u8]) -> (Vec<[u8; 3]>, u64, Vec<u8>) {
+    let mut order = Order::default();
+    let mut steps = vec![];
+    let mut subject = subject.to_vec();
+    loop {
+        let Some((step, result)) = find_step(sheet, &mut order, &subject) else {
+            return (steps, 0, subject);
+        };
+        if steps.len() == limit as usize {
+            return (steps, 1, subject);
+        }
+        if result.len() > 160 {
+            return (steps, 2, subject);
+        }
+        steps.push(step);
+        subject = result;
+    }
+}
+
+fn find_step(sheet: &Sheet, order: &mut Order, subject: &[u8]) -> Option<([u8; 3], Vec<u8>)> {
+    for position in 0..subject.len() {
+        let end = term_end(&sheet.arities, subject, position);
+        for (number, (left, right, _)) in sheet.equations.iter().enumerate() {
+            for (direction, (source, target)) in [(left, right), (right, left)].into_iter().enumerate() {
+                if target.iter().any(|byte| *byte >= 0x80 && !source.contains(byte)) {
+                    continue;
+                }
+                let mut values = vec![vec![]; 8];
+                if !matches(&sheet.arities, source, &subject[position..end], &mut values) {
+                    continue;
+                }
+                let replacement = instance(target, &values);
+                if order.exceeds(&sheet.arities, &subject[position..end], &replacement) {
+                    let result = [&subject[..position], &replacement, &subject[end..]].concat();
+                    return Some(([number as u8, direction as u8, position as u8], result));
+                }
+            }
+        }
+    }
+    None
+}
+
+/// An empty value stands for no value yet.
+fn matches(arities: &[u8], pattern: &[u8], term: &[u8], values: &mut Vec<Vec<u8>>) -> bool {
+    if pattern[0] >= 0x80 {
+        let value = &mut values[pattern[0] as usize - 0x80];
+        if value.is_empty() {
+            *value = term.to_vec();
+        }
+        return value == term;
+    }
+    pattern[0] == term[0]
+        && arguments(arities, pattern)
+            .iter()
+            .zip(arguments(arities, term))
+            .all(|(pattern, term)| matches(arities, pattern, term, values))
+}

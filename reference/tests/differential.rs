@@ -1,0 +1,247 @@
+//! Every call on generated sheets against the paper's definitions written directly.
+
+mod common;
+
+use common::naive::{self, Order, Task, Walk};
+use common::{Buffers, fields, is_prefix_then_pattern, refusal};
+
+/// Compares the results of all calls, every lent byte, and the listing.
+fn examine(text: &[u8], name: &str) {
+    let sheet = match naive::read(text) {
+        Ok(sheet) => sheet,
+        Err(refused) => {
+            assert_eq!(refusal(text), refused, "{name}");
+            check_refused_calls(text, name, refused);
+            return;
+        }
+    };
+    assert_eq!(refusal(text), (0, 0), "{name}");
+    check_absent(text, &sheet, name);
+
+    let mut frames = vec![];
+    let mut tables = vec![];
+    let mut refused = None;
+    for number in 0..sheet.equations.len() {
+        for direction in 0..2 {
+            match check_solve(text, &sheet, number, direction, name) {
+                Ok((lines, turns)) => {
+                    list_table(&sheet, number, direction, &lines, turns, &mut frames);
+                    tables.push(lines);
+                }
+                Err(code) => {
+                    refused.get_or_insert(code);
+                }
+            }
+        }
+    }
+    let mut all_steps = 0;
+    for (number, task) in sheet.tasks.iter().enumerate() {
+        let number = number as u64;
+        match task {
+            Task::Comparison(left, right) => {
+                let verdict = Order::default().verdict(&sheet.arities, left, right);
+                let mut buffers = Buffers::new();
+                assert_eq!(fields(buffers.compare(text, number)), [verdict, 0, 0], "{name}");
+                buffers.assert_scratch_cleared();
+                frames.push(format!("16{verdict:02x}"));
+            }
+            _ if refused.is_some() => check_refused_task(text, number, task, refused.unwrap(), name),
+            Task::Judgement(equation, direction, values) => {
+                let lines = &tables[2 * equation + direction];
+                frames.push(check_judgement(text, number, &sheet, (*equation, *direction), lines, values, name));
+            }
+            Task::Run(limit, subject) => {
+                let outcome = naive::reference_run(&sheet, *limit, subject);
+                all_steps += outcome.0.len();
+                check_run(text, number, outcome, &mut frames, name);
+            }
+        }
+    }
+    frames.push(format!("1f{all_steps:04x}"));
+    if let Some(code) = refused {
+        frames = vec![format!("ff{:02x}{:04x}", code & 0xff, code >> 8)];
+    }
+    assert_eq!(common::listing(text), frames.join(" "), "{name}");
+}
+
+/// Solves one direction in both ways and gives lines and turns, or the number that the call returns.
+fn check_solve(
+    text: &[u8],
+    sheet: &naive::Sheet,
+    number: usize,
+    direction: usize,
+    name: &str,
+) -> Result<(Vec<naive::Line>, usize), u64> {
+    let (left, right, line) = &sheet.equations[number];
+    let bytes = [&left[..], right].concat();
+    let walk = Walk { arities: &sheet.arities, bytes: &bytes };
+    let (source, target) = if direction == 0 { (0, left.len()) } else { (left.len(), 0) };
+    let mut buffers = Buffers::new();
+    let code = buffers.solve(text, number as u64, direction as u64);
+    buffers.assert_scratch_cleared();
+    match walk.solve(source, target) {
+        Ok((lines, turns)) => {
+            assert_eq!(fields(code), [lines.len() as u64, turns as u64, 0], "{name}");
+            assert!(is_prefix_then_pattern(&buffers.table, &naive::records(&lines)), "{name}");
+            Ok((lines, turns))
+        }
+        Err(refused) => {
+            assert_eq!(code, refused | (*line as u64) << 8, "{name}");
+            buffers.assert_table_void();
+            Err(code)
+        }
+    }
+}
+
+/// A judgement or a run of a sheet with a refused walk.
+fn check_refused_task(text: &[u8], number: u64, task: &Task, refused: u64, name: &str) {
+    let mut buffers = Buffers::new();
+    let code = match task {
+        Task::Run(..) => buffers.run(text, number),
+        _ => buffers.judge(text, number),
+    };
+    assert_eq!(code, refused, "{name}");
+    buffers.assert_table_void();
+    buffers.assert_scratch_cleared();
+    assert!(is_prefix_then_pattern(&buffers.term, &[]) && is_prefix_then_pattern(&buffers.log, &[]), "{name}");
+}
+
+/// Checks a judgement and gives its frame of the listing.
+fn check_judgement(
+    text: &[u8],
+    number: u64,
+    sheet: &naive::Sheet,
+    (equation, direction): (usize, usize),
+    lines: &[naive::Line],
+    values: &[Vec<u8>],
+    name: &str,
+) -> String {
+    let (left, right, _) = &sheet.equations[equation];
+    let bytes = [&left[..], right].concat();
+    let walk = Walk { arities: &sheet.arities, bytes: &bytes };
+    let mut order = Order::default();
+    let holding = lines.iter().position(|line| naive::holds(&mut order, &walk, line, values));
+    let (yes, line) = (holding.is_some() as u64, holding.map_or(0, |index| index as u64 + 1));
+
+    let mut buffers = Buffers::new();
+    assert_eq!(fields(buffers.judge(text, number)), [yes, line, 0], "{name}");
+    buffers.assert_table_void();
+    buffers.assert_scratch_cleared();
+
+    // A line holds exactly if the instance of the source exceeds that of the target.
+    let (left, right) = (naive::instance(left, values), naive::instance(right, values));
+    let (source, target) = if direction == 0 { (left, right) } else { (right, left) };
+    assert_eq!(holding.is_some(), order.exceeds(&sheet.arities, &source, &target), "{name}");
+    format!("15{yes:02x}{line:02x}")
+}
+
+/// Checks a run against the outcome of the reference run and appends its frames of the listing.
+fn check_run(
+    text: &[u8],
+    number: u64,
+    (steps, ending, term): (Vec<[u8; 3]>, u64, Vec<u8>),
+    frames: &mut Vec<String>,
+    name: &str,
+) {
+    let mut buffers = Buffers::new();
+    let code = buffers.run(text, number);
+    assert_eq!(fields(code), [steps.len() as u64, ending, term.len() as u64], "{name}");
+    assert!(is_prefix_then_pattern(&buffers.term, &term), "{name}");
+    assert!(is_prefix_then_pattern(&buffers.log, &steps.concat()), "{name}");
+    buffers.assert_table_void();
+    buffers.assert_scratch_cleared();
+    frames.extend(steps.iter().map(|step| format!("14{}", hex(step))));
+    frames.push(format!("13{ending:02x}{:02x}{}", steps.len(), hex(&term)));
+}
+
+fn hex(bytes: &[u8]) -> String {
+    bytes.iter().map(|byte| format!("{byte:02x}")).collect()
+}
+
+/// Appends the frames of one direction's table.
+fn list_table(
+    sheet: &naive::Sheet,
+    number: usize,
+    direction: usize,
+    lines: &[naive::Line],
+    turns: usize,
+    frames: &mut Vec<String>,
+) {
+    let (left, right, _) = &sheet.equations[number];
+    let bytes = [&left[..], right].concat();
+    let term = |position: usize| hex(&bytes[position..naive::term_end(&sheet.arities, &bytes, position)]);
+    frames.push(format!("11{number:02x}{direction:02x}{:02x}{turns:04x}", lines.len()));
+    for line in lines {
+        let bound: Vec<usize> = (0..8).filter(|&variable| line.bindings[variable].is_some()).collect();
+        let mut frame = format!("12{:02x}", bound.len());
+        for variable in bound {
+            frame += &format!("{:02x}{}", 0x80 + variable, term(line.bindings[variable].unwrap()));
+        }
+        frame += &format!("{:02x}", line.elements.len());
+        for element in &line.elements {
+            let &naive::Element::Inequality(l, r) = element else { panic!("an equality in a finished line") };
+            frame += &(term(l) + &term(r));
+        }
+        frames.push(frame);
+    }
+}
+
+/// A sheet that is refused is refused by every call alike, and nothing is written.
+fn check_refused_calls(text: &[u8], name: &str, (number, line): (u64, u64)) {
+    let code = number | line << 8;
+    let mut buffers = Buffers::new();
+    assert_eq!(buffers.solve(text, 0, 0), code, "{name}");
+    assert_eq!(buffers.judge(text, 0), code, "{name}");
+    assert_eq!(buffers.run(text, 0), code, "{name}");
+    assert_eq!(buffers.compare(text, 0), code, "{name}");
+    buffers.assert_untouched();
+    assert_eq!(common::listing(text), format!("ff{number:02x}{line:04x}"), "{name}");
+}
+
+/// Equations, directions and tasks that are not there, and tasks of another kind.
+fn check_absent(text: &[u8], sheet: &naive::Sheet, name: &str) {
+    let mut buffers = Buffers::new();
+    for equation in [sheet.equations.len() as u64, 256, 1 << 32, u64::MAX] {
+        assert_eq!(buffers.solve(text, equation, 0), 12, "{name}");
+    }
+    for direction in [2, 256, u64::MAX] {
+        assert_eq!(buffers.solve(text, 0, direction), 12, "{name}");
+    }
+    let tasks = sheet.tasks.len() as u64;
+    for task in (0..tasks).chain([tasks, 32, 256, 1 << 32, u64::MAX]) {
+        let kind = sheet.tasks.get(task as usize);
+        if !matches!(kind, Some(Task::Run(..))) {
+            assert_eq!(buffers.run(text, task), 12, "{name}");
+        }
+        if !matches!(kind, Some(Task::Judgement(..))) {
+            assert_eq!(buffers.judge(text, task), 12, "{name}");
+        }
+        if !matches!(kind, Some(Task::Comparison(..))) {
+            assert_eq!(buffers.compare(text, task), 12, "{name}");
+        }
+    }
+    buffers.assert_untouched();
+}
+
+#[test]
+fn generated_sheets() {
+    for seed in 0..500 {
+        examine(&reference::generate::sheet(seed), &format!("seed {seed}"));
+    }
+}
+
+/// Takes some minutes.
+#[test]
+#[ignore]
+fn many_generated_sheets() {
+    for seed in 500..10_000 {
+        examine(&reference::generate::sheet(seed), &format!("seed {seed}"));
+    }
+}
+
+#[test]
+fn special_sheets() {
+    for (name, sheet) in reference::special::special() {
+        examine(&sheet, name);
+    }
+}

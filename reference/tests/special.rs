@@ -1,0 +1,117 @@
+//! The special sheets: what each of them is meant to reach.
+
+mod common;
+
+use common::{Buffers, fields, listing};
+use reference::special::special;
+
+fn special_sheet(name: &str) -> Vec<u8> {
+    special().into_iter().find(|(other, _)| *other == name).unwrap_or_else(|| panic!("no sheet {name}")).1
+}
+
+/// Lines and turns of one direction of the first equation.
+fn solved(name: &str, direction: u64) -> [u64; 2] {
+    let [lines, turns, _] = fields(Buffers::new().solve(&special_sheet(name), 0, direction));
+    [lines, turns]
+}
+
+fn refused(name: &str, equation: u64, direction: u64) -> [u64; 2] {
+    let mut buffers = Buffers::new();
+    let code = buffers.solve(&special_sheet(name), equation, direction);
+    buffers.assert_table_void();
+    buffers.assert_scratch_cleared();
+    [code & 0xff, code >> 8]
+}
+
+#[test]
+fn names_differ() {
+    let mut names: Vec<&str> = special().into_iter().map(|(name, _)| name).collect();
+    let count = names.len();
+    names.sort();
+    names.dedup();
+    assert_eq!(names.len(), count);
+}
+
+#[test]
+fn long_walks() {
+    assert_eq!(solved("median law, and below or", 0), [187, 3968]);
+    assert_eq!(solved("median law, and below or", 1), [0, 34]);
+    assert_eq!(solved("reversal of five", 0), [193, 771]);
+    assert_eq!(solved("reversal of five", 1), [193, 771]);
+    assert_eq!(solved("distribution of if-then-else", 0), [69, 316]);
+    assert_eq!(solved("distribution of if-then-else", 1), [0, 28]);
+    assert_eq!(solved("exclusive or, or < not < and", 0), [0, 266]);
+    assert_eq!(refused("exclusive or, or < not < and", 0, 1), [8, 2]);
+    assert_eq!(refused("exclusive or, and < or < not", 0, 0), [8, 2]);
+    assert_eq!(refused("exclusive or, and < or < not", 0, 1), [10, 2]);
+}
+
+#[test]
+fn last_turn() {
+    assert_eq!(solved("10,000 turns, 8 lines", 1), [8, 10_000]);
+    assert_eq!(solved("10,000 turns, no line", 0), [0, 10_000]);
+    assert_eq!(refused("10,001 turns", 0, 0), [8, 2]);
+    assert_eq!(refused("10,001 turns after a short equation", 1, 0), [8, 3]);
+}
+
+#[test]
+fn last_line() {
+    assert_eq!(solved("255 lines at the end", 0), [255, 242]);
+    assert_eq!(solved("255 lines on the way", 0), [251, 777]);
+    assert_eq!(refused("256 lines", 0, 1), [10, 2]);
+}
+
+#[test]
+fn last_element() {
+    let sheet = special_sheet("40 elements");
+    let mut buffers = Buffers::new();
+    let [lines, turns, _] = fields(buffers.solve(&sheet, 0, 0));
+    assert_eq!([lines, turns], [118, 1430]);
+    let longest = buffers.table.chunks(89).take(118).map(|record| record[8]).max();
+    assert_eq!(longest, Some(40));
+    assert_eq!(refused("41 elements", 0, 0), [9, 2]);
+}
+
+#[test]
+fn longest_runs() {
+    let exchanges = special_sheet("256 exchanges of two unary symbols");
+    assert_eq!(fields(Buffers::new().run(&exchanges, 0)), [255, 1, 33]);
+    assert_eq!(fields(Buffers::new().run(&exchanges, 1)), [255, 0, 33]);
+    assert_eq!(fields(Buffers::new().run(&exchanges, 2)), [254, 1, 33]);
+    assert_eq!(fields(Buffers::new().run(&exchanges, 4)), [0, 1, 3]);
+    assert_eq!(fields(Buffers::new().run(&exchanges, 5)), [0, 0, 2]);
+    let many_lines = special_sheet("255 steps under large tables");
+    assert_eq!(fields(Buffers::new().run(&many_lines, 0)), [255, 0, 159]);
+    let doubling = special_sheet("doubling at the limit of nodes");
+    assert_eq!(fields(Buffers::new().run(&doubling, 0)), [1, 0, 159]);
+    assert_eq!(fields(Buffers::new().run(&doubling, 1)), [0, 2, 82]);
+    assert_eq!(fields(Buffers::new().run(&doubling, 2)), [0, 2, 160]);
+}
+
+#[test]
+fn texts_at_the_limits() {
+    let refused = [
+        ("empty", "ff010000"),
+        ("one LF", "ff020001"),
+        ("16,384 bytes", "ff030023"),
+        ("16,385 bytes", "ff010000"),
+        ("16,384 digits", "ff020001"),
+        ("5,461 lines of 01", "ff040001"),
+        ("5,461 lines of 02", "ff030001"),
+        ("5,458 lines after the symbols", "ff050002"),
+        ("no final LF", "ff020005"),
+        ("only the symbols", "ff030001"),
+        ("only the symbols, no LF", "ff020001"),
+        ("NUL in the last line", "ff020005"),
+        ("NUL behind the sheet", "ff020006"),
+        ("sixteen NUL", "ff020001"),
+        ("a line of 328 digits", "ff020006"),
+        ("a line of 326 digits", "ff030006"),
+        ("longest valid sheet", "ff0a0002"),
+    ];
+    for (name, expected) in refused {
+        assert_eq!(listing(&special_sheet(name)), expected, "{name}");
+    }
+    let longest = special_sheet("longest valid sheet");
+    assert_eq!((longest.len(), reference::check(&longest)), (12_597, 0));
+}
