@@ -6,4 +6,5 @@ pub mod Cursor
 pub mod Scan
 pub mod Reader
 pub mod Reading
+pub mod Seek
 pub mod Theory

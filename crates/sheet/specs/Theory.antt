@@ -14,3 +14,6 @@ pub mod Accepted
 pub mod Step
 pub mod Lines
 pub mod Frames
+pub mod Seek
+pub mod Decode
+pub mod Found

@@ -3,6 +3,7 @@ pub mod frame;
 pub mod known;
 pub mod read;
 pub mod scan;
+pub mod seek;
 pub mod symbols;
 pub mod task;
 pub mod text;

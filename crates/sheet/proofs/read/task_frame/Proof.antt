@@ -13,7 +13,7 @@ returns : tie.Need-returns
 returns c = λ sheet knows. by-refused (StepRead _ _) (c .refused .ensures) (before-equations _ sheet knows (c .before .if1 .taken) _ (c .before .before .before .before .pre .2) _)
 
 returns-2 : tie.Need-returns-2
-returns-2 c = λ sheet knows. by-refused (StepRead _ _) (c .refused2 .ensures) (tasks-full _ sheet knows (c .before .if2 .taken) _ (c .before .before .before .before .before .before .pre .2) _)
+returns-2 c = λ sheet knows. by-refused (StepRead _ _) (c .refused2 .ensures) (tasks-full _ sheet knows (omega (arith, c .before .if2 .taken)) _ (c .before .before .before .before .before .before .pre .2) _)
 
 task-body-requires : tie.Need-task-body-requires
 task-body-requires c κs = let start = c .before .before .before .before .before in (start .pre .0, start .pre .1)

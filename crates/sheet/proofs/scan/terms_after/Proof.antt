@@ -1,7 +1,10 @@
 -- `sheet::scan::terms_after` is the definition's `after-node`, class by class.
-use mathlib.Core.Path.{_≡_}
+use mathlib.Core.Path.{_≡_, sym, ap, _∙_}
 use native.Mathlib.Omega.{arith}
 use borrow.Author.Needs.{needs}
+use Rattle.format.specs.declared.byte.Class.the-variants.{Symbol}
+use Rattle.sheet.specs.Frame.{after-node}
+use Rattle.sheet.specs.Scan.{listed}
 use Rattle.sheet.specs.Theory.Listed.{after-known, after-unknown, after-variable, after-not-ground, after-foreign}
 use Rattle.sheet.proofs.scan.terms_after.Statement.{statement}
 use Rattle.sheet.proofs.scan.terms_after.Tie as tie
@@ -15,23 +18,25 @@ returns c =
 returns-2 : tie.Need-returns-2
 returns-2 c =
     let a = c .before .before .before .before .before .args in
-    let f = c .before .wide .result in
-    (cc (after-unknown (a .symbols) (a .arities .now) (a .ground) f (a .need) (c .if1 .left), c .before .wide .ensures .0, c .before .before .before .class .given .1), tt)
+    let wide = c .before .wide in
+    let class = c .before .before .before .class in
+    let told = class .given .1 ∙ ap Symbol (sym (wide .ensures .0)) in
+    (sym (ap (λ k. after-node (listed (a .symbols) (a .arities .now)) (a .ground) k (a .need)) told ∙ after-unknown (a .symbols) (a .arities .now) (a .ground) (wide .result) (a .need) (c .if1 .left)), tt)
 
 returns-3 : tie.Need-returns-3
 returns-3 c =
     let a = c .before .before .before .args in
-    (cc (after-not-ground (Rattle.sheet.specs.Scan.listed (a .symbols) (a .arities .now)) (c .before .enum-told .given .0 .0) (a .need), c .if2 .taken, c .before .enum-told .given .1), tt)
+    (cc (after-not-ground (listed (a .symbols) (a .arities .now)) (c .before .enum-told .given .0 .0) (a .need), c .if2 .taken, c .before .enum-told .given .1), tt)
 
 returns-4 : tie.Need-returns-4
 returns-4 c =
     let a = c .before .before .before .args in
-    (cc (after-variable (Rattle.sheet.specs.Scan.listed (a .symbols) (a .arities .now)) (c .before .enum-told .given .0 .0) (a .need), c .if2 .left, c .before .enum-told .given .1), omega arith)
+    (cc (after-variable (listed (a .symbols) (a .arities .now)) (c .before .enum-told .given .0 .0) (a .need), c .if2 .left, c .before .enum-told .given .1), omega arith)
 
 returns-5 : tie.Need-returns-5
 returns-5 c =
     let a = c .before .before .args in
-    (cc (after-foreign (Rattle.sheet.specs.Scan.listed (a .symbols) (a .arities .now)) (a .ground) (a .need), c .enum-told2 .given .1), tt)
+    (cc (after-foreign (listed (a .symbols) (a .arities .now)) (a .ground) (a .need), c .enum-told2 .given .1), tt)
 
 pub terms-after-spec : {M : Type 1} → statement M
 terms-after-spec =
