@@ -23,12 +23,17 @@ refusal-byte n = n % 256
 unfoldable pub written : (bytes buffer : List ℕ) → List ℕ
 written bytes buffer = bytes ++ drop (length bytes) buffer
 
+-- The buffer with its first `n` bytes `b`.
+unfoldable pub filled : (n b : ℕ) → List ℕ → List ℕ
+unfolding written
+filled n b buffer = written (replicate n b) buffer
+
 -- "scratch's first 57,344 bytes are 00"
 unfoldable pub cleared : List ℕ → List ℕ
-unfolding written
-cleared scratch = written (replicate scratch-bytes 0x00) scratch
+unfolding filled
+cleared scratch = filled scratch-bytes 0x00 scratch
 
 -- "the table's first 22,695 bytes ff"
 unfoldable pub blanked : List ℕ → List ℕ
-unfolding written
-blanked table = written (replicate table-bytes 0xff) table
+unfolding filled
+blanked table = filled table-bytes 0xff table

@@ -1,4 +1,5 @@
 pub mod Buffer
 pub mod Asked
+pub mod Comparison
 pub mod Outcome
 pub mod Theory

@@ -1,6 +1,8 @@
 -- The theorems about the calls' outcomes.
 pub mod Number
 pub mod Check
+pub mod Compare
+pub mod CompareTask
 pub mod Fill
 pub mod Solve
 pub mod Walks

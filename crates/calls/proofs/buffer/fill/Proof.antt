@@ -4,7 +4,8 @@ use mathlib.Core.Path.{_≡_, refl, sym, ap, subst, _∙_}
 use native.Mathlib.Omega.{arith}
 use borrow.Author.Needs.{needs}
 use lib.ListN.{length, set}
-use Rattle.calls.specs.Theory.Fill.{filled, filled-next, length-filled}
+use Rattle.calls.specs.Buffer.{filled}
+use Rattle.calls.specs.Theory.Fill.{filled-none, filled-next, length-filled}
 use Rattle.calls.proofs.buffer.fill.Statement.{statement}
 use Rattle.calls.proofs.buffer.fill.Tie as tie
 
@@ -15,7 +16,7 @@ abbrev μ-loop : tie.MeasureT-loop
 μ-loop buffer₀ n b i₀ buffer i = n - i
 
 loop-holds : tie.Need-loop-holds Inv-loop μ-loop
-loop-holds c = (omega arith, c .pre, refl)
+loop-holds c = (omega arith, c .pre, filled-none _ _)
 
 slice-write-buffer : tie.Need-slice-write-buffer Inv-loop μ-loop
 slice-write-buffer c =
