@@ -2,9 +2,15 @@
 
 extern "C" {
     fn neblinaro_check(sheet: *const u8, sheet_length: usize) -> u64;
+    fn neblinaro_compare(sheet: *const u8, sheet_length: usize, task: u64, scratch: *mut u8, scratch_length: usize) -> u64;
 }
 
 pub fn check(sheet: &[u8]) -> u64 {
     // The call reads the slice that it is lent and nothing else.
     unsafe { neblinaro_check(sheet.as_ptr(), sheet.len()) }
+}
+
+pub fn compare(sheet: &[u8], task: u64, scratch: &mut [u8]) -> u64 {
+    // The call reads the sheet and writes scratch, within their lengths.
+    unsafe { neblinaro_compare(sheet.as_ptr(), sheet.len(), task, scratch.as_mut_ptr(), scratch.len()) }
 }

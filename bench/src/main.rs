@@ -4,12 +4,14 @@
 mod calls;
 mod timing;
 
-use reference::special::special;
+use reference::generate::text;
+use reference::special::{compared_arities, hard_pairs, special};
 use timing::time;
 
 fn main() {
     clock();
     check();
+    compare();
 }
 
 /// A chain of dependent multiplications, to tell a slow moment of the machine from slow code.
@@ -30,5 +32,24 @@ fn check() {
         let plain = time(|| reference::check(&sheet));
         let bytes = sheet.len();
         println!("{name:44} {bytes:7} {proved:10.0} {plain:10.0} {:8.2} {:6.2}", proved / bytes as f64, proved / plain);
+    }
+}
+
+/// Compare, on pairs of terms that ask for many verdicts: the whole call, which reads the sheet and clears scratch.
+fn compare() {
+    println!("\n{:44} {:>10} {:>10} {:>6}", "compare", "proved ns", "plain ns", "ratio");
+    let arities = compared_arities();
+    let symbols = [&[1, arities.len() as u8], arities].concat();
+    for (name, left, right) in hard_pairs() {
+        // An equation is wanted in every sheet: the first binary symbol's commutativity.
+        let equation = vec![2, 3, 0x80, 0x81, 3, 0x81, 0x80];
+        let sheet = text(&[symbols.clone(), equation, [&[5], &left[..], &right].concat()]);
+        let mut scratch = vec![0xa5; 57_344];
+        let mut plain_scratch = scratch.clone();
+        assert_eq!(calls::compare(&sheet, 0, &mut scratch), reference::compare(&sheet, 0, &mut plain_scratch), "{name}");
+        assert_eq!(scratch, plain_scratch, "{name}");
+        let proved = time(|| calls::compare(&sheet, 0, &mut scratch));
+        let plain = time(|| reference::compare(&sheet, 0, &mut plain_scratch));
+        println!("{name:44} {proved:10.0} {plain:10.0} {:6.2}", proved / plain);
     }
 }

@@ -59,7 +59,7 @@ fn store(
     SUBJECT + wide(sizes[SUBJECT])
 }
 
-// The verdict of two terms that are stored, in scratch that is cleared before and behind.
+// The verdict of two terms that are stored. The cells are cleared before, all of scratch behind.
 fn compare_stored(nodes: &[u8], sizes: &[u8], scratch: &mut [u8], second: usize) -> u8
     requires { ⌜ (length (now nodes) ≡ node-count) × (length (now sizes) ≡ node-count) × (scratch-bytes ≤ length (now scratch)) ⌝ }
     requires { ⌜ ((s : Term) × (t : Term) × TwoAt (now nodes) (now sizes) s t second) ⌝ }
@@ -68,7 +68,7 @@ fn compare_stored(nodes: &[u8], sizes: &[u8], scratch: &mut [u8], second: usize)
 {
     // Ground terms have no variables whose values are asked for.
     let values = [0u8; 8];
-    fill(scratch, SCRATCH, 0);
+    fill(scratch, CELLS, 0);
     let verdict = exceeds(
         nodes,
         sizes,

@@ -107,19 +107,19 @@ module _ {sheet arities : List ℕ} {from end : ℕ} {s t : Term} (p : PairIs sh
       (ground-row-stands arities (p .few-symbols) (cons s (cons t nil)) (p .first-ground, (p .second-ground, tt)) bytes there (omega (arith, p .few-nodes)))
 
 -- The cells stand first in scratch.
-module _ (scratch first : List ℕ) (room : scratch-bytes ≤ length scratch) (fills : first ≡ filled scratch-bytes 0 scratch) where
+module _ (scratch first : List ℕ) (room : scratch-bytes ≤ length scratch) (fills : first ≡ filled cell-count 0 scratch) where
   pub cells-there : length (take cell-count first) ≡ cell-count
-  cells-there = length-take-le cell-count first (omega (arith, ap length fills ∙ length-filled scratch-bytes 0 scratch room))
+  cells-there = length-take-le cell-count first (omega (arith, ap length fills ∙ length-filled cell-count 0 scratch (omega arith)))
 
   pub cells-cleared : (nodes lengths values : List ℕ) → length nodes ≡ node-count → length lengths ≡ node-count → length values ≡ variable-count
       → Memory nodes lengths values (take cell-count first)
   cells-cleared nodes lengths values a b c =
-      fresh-memory a b c cells-there (λ k. ap (λ l. getD (take cell-count l) k 0) fills ∙ filled-front scratch-bytes cell-count k 0 scratch (omega arith))
+      fresh-memory a b c cells-there (λ k. ap (λ l. getD (take cell-count l) k 0) fills ∙ filled-front cell-count cell-count k 0 scratch (omega arith))
 
   pub scratch-cleared : (front last : List ℕ) → length front ≡ length (take cell-count first) → last ≡ filled scratch-bytes 0 (front ++ drop cell-count first) → last ≡ cleared scratch
   scratch-cleared front last l e =
       e ∙ ap (λ f. filled scratch-bytes 0 (front ++ drop cell-count f)) fills
-      ∙ filled-again scratch-bytes 0 scratch front cell-count (omega arith) (l ∙ cells-there) room
+      ∙ filled-again scratch-bytes cell-count 0 0 scratch front (omega arith) (l ∙ cells-there)
       ∙ sym (cleared-is scratch)
 
 -- The arities that are known stand first in their array.

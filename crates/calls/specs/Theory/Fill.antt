@@ -35,17 +35,18 @@ filled-next n b buffer h =
 pub length-filled : (n b : ℕ) (buffer : List ℕ) → n ≤ length buffer → length (filled n b buffer) ≡ length buffer
 length-filled n b buffer h = ap length (filled-is n b buffer) ∙ length-append (replicate n b) (drop n buffer) ∙ omega (arith, length-replicate n b, length-drop n buffer)
 
--- Filled again, a buffer is as if nothing had stood at its front.
-pub filled-again : (n b : ℕ) (buffer front : List ℕ) (k : ℕ) → k ≤ n → length front ≡ k → n ≤ length buffer → filled n b (front ++ drop k (filled n b buffer)) ≡ filled n b buffer
-filled-again n b buffer front k h e l =
-    filled-is n b (front ++ drop k (filled n b buffer))
-    ∙ ap (replicate n b ++_) (ap (λ m. drop m (front ++ drop k (filled n b buffer))) (parts ∙ ap (_+ rest) (sym e)) ∙ drop-append-add front (drop k (filled n b buffer)) rest ∙ drop-drop rest k (filled n b buffer) ∙ ap (λ m. drop m (filled n b buffer)) (sym parts)
-    ∙ ap (drop n) (filled-is n b buffer) ∙ drop-at (replicate n b) (drop n buffer) n (length-replicate n b))
+-- Filled further than it was before, a buffer is as if nothing had stood at its front.
+pub filled-again : (n k b c : ℕ) (buffer front : List ℕ) → k ≤ n → length front ≡ k → filled n b (front ++ drop k (filled k c buffer)) ≡ filled n b buffer
+filled-again n k b c buffer front h e =
+    filled-is n b (front ++ drop k (filled k c buffer))
+    ∙ ap (replicate n b ++_)
+    (ap (λ m. drop m (front ++ drop k (filled k c buffer))) (parts ∙ ap (_+ (n - k)) (sym e))
+    ∙ drop-append-add front (drop k (filled k c buffer)) (n - k)
+    ∙ ap (drop (n - k)) (ap (drop k) (filled-is k c buffer) ∙ drop-at (replicate k c) (drop k buffer) k (length-replicate k c))
+    ∙ drop-drop (n - k) k buffer
+    ∙ ap (λ m. drop m buffer) (sym parts))
     ∙ sym (filled-is n b buffer)
   where
-    rest : ℕ
-    rest = n - k
-
     parts : n ≡ k + (n - k)
     parts = omega arith
 
