@@ -2,6 +2,7 @@
 //! Each figure is the least of several rounds: other work on the machine can only lengthen a round.
 
 mod calls;
+mod memoised;
 mod timing;
 
 use reference::generate::text;
@@ -35,9 +36,10 @@ fn check() {
     }
 }
 
-/// Compare, on pairs of terms that ask for many verdicts: the whole call, which reads the sheet and clears scratch.
+/// Compare, on pairs of terms that ask for many verdicts: the whole call, which reads the sheet and clears scratch; the same work in
+/// plain Rust; and the reference, which settles fewer pairs.
 fn compare() {
-    println!("\n{:44} {:>10} {:>10} {:>6}", "compare", "proved ns", "plain ns", "ratio");
+    println!("\n{:44} {:>10} {:>10} {:>6} {:>12}", "compare", "proved ns", "plain ns", "ratio", "reference ns");
     let arities = compared_arities();
     let symbols = [&[1, arities.len() as u8], arities].concat();
     for (name, left, right) in hard_pairs() {
@@ -46,10 +48,13 @@ fn compare() {
         let sheet = text(&[symbols.clone(), equation, [&[5], &left[..], &right].concat()]);
         let mut scratch = vec![0xa5; 57_344];
         let mut plain_scratch = scratch.clone();
-        assert_eq!(calls::compare(&sheet, 0, &mut scratch), reference::compare(&sheet, 0, &mut plain_scratch), "{name}");
+        let proved = calls::compare(&sheet, 0, &mut scratch);
+        assert_eq!(proved, reference::compare(&sheet, 0, &mut plain_scratch), "{name}");
+        assert_eq!(proved, 256 * u64::from(memoised::verdict(&left, &right, arities, &mut plain_scratch)), "{name}");
         assert_eq!(scratch, plain_scratch, "{name}");
         let proved = time(|| calls::compare(&sheet, 0, &mut scratch));
-        let plain = time(|| reference::compare(&sheet, 0, &mut plain_scratch));
-        println!("{name:44} {proved:10.0} {plain:10.0} {:6.2}", proved / plain);
+        let plain = time(|| (reference::check(&sheet), memoised::verdict(&left, &right, arities, &mut plain_scratch)));
+        let other = time(|| reference::compare(&sheet, 0, &mut plain_scratch));
+        println!("{name:44} {proved:10.0} {plain:10.0} {:6.2} {other:12.0}", proved / plain);
     }
 }

@@ -39,10 +39,11 @@ pub fn row_end(s: &[u8], at: usize) -> RowEnd
     let mut i = at;
     while i < s.len() {
         let c = s[i];
-        if c == 10 {
-            return ended_at(at, i);
-        }
+        // Most characters are digits, so that the line's end is looked for among the others.
         if 15 < digit_value(c) {
+            if c == 10 {
+                return ended_at(at, i);
+            }
             return RowEnd::Broken;
         }
         if i - at == Limits::LINE_DIGITS {

@@ -270,5 +270,10 @@ passed-other s at i p = line-other s at i (p .begun) (p .inside) (p .few) (p .di
 pub passed-long : (s : List ℕ) (at i : ℕ) → Passed s at i → i < length s → (getD s i 0 ≡ LF → ⊥) → i - at ≡ max-line-digits → NoFrame s at
 passed-long s at i p = line-long s at i (p .begun) (p .inside) (p .few) (p .digits)
 
+-- A digit is no line's end.
+pub digit-no-end : (c : ℕ) → digit-number c ≤ 15 → c ≡ LF → ⊥
+unfolding digit-number
+digit-no-end c h e = let d : digit-number LF ≤ 15 = subst (λ c. digit-number c ≤ 15) e h in omega arith
+
 pub passed-unended : (s : List ℕ) (at i : ℕ) → Passed s at i → length s ≤ i → at < length s → NoFrame s at
 passed-unended s at i p h l = let e : i ≡ length s = omega (arith, p .inside) in line-unended s at i (p .begun) (p .inside) (p .few) (p .digits) e (omega arith)

@@ -4,7 +4,7 @@ use mathlib.Core.Path.{subst, sym}
 use native.Mathlib.Omega.{arith}
 use borrow.Author.Needs.{needs}
 use lib.ListN.{length}
-use Rattle.sheet.specs.Theory.Cursor.{Passed, passed-start, passed-next, passed-ended, passed-other, passed-long, passed-unended}
+use Rattle.sheet.specs.Theory.Cursor.{Passed, passed-start, passed-next, passed-ended, passed-other, passed-long, passed-unended, digit-no-end}
 use Rattle.sheet.proofs.text.row_end.Statement.{statement}
 use Rattle.sheet.proofs.text.row_end.Tie as tie
 
@@ -19,23 +19,23 @@ loop-holds c = passed-start _ _ (c .before .pre)
 
 returns : tie.Need-returns Inv-loop μ-loop
 returns c =
-    let loop = c .before .before .before .before .loop in
-    passed-ended _ _ _ (loop .inv) (c .before .before .before .loop-test .taken) (c .before .if1 .taken) (c .ended-at .result) (c .ended-at .ensures)
+    let loop = c .before .before .before .before .before .before .loop in
+    passed-ended _ _ _ (loop .inv) (c .before .before .before .before .before .loop-test .taken) (c .before .if2 .taken) (c .ended-at .result) (c .ended-at .ensures)
 
 returns-2 : tie.Need-returns-2 Inv-loop μ-loop
 returns-2 c =
     let loop = c .before .before .before .before .before .loop in
-    passed-other _ _ _ (loop .inv) (c .before .before .before .before .loop-test .taken) (c .before .before .if1 .left) (omega (arith, c .before .digit-value .ensures, c .if2 .taken))
+    passed-other _ _ _ (loop .inv) (c .before .before .before .before .loop-test .taken) (c .if2 .left) (omega (arith, c .before .before .digit-value .ensures, c .before .if1 .taken))
 
 returns-3 : tie.Need-returns-3 Inv-loop μ-loop
 returns-3 c =
-    let loop = c .before .before .before .before .before .before .loop in
-    passed-long _ _ _ (loop .inv) (c .before .before .before .before .before .loop-test .taken) (c .before .before .before .if1 .left) (c .if3 .taken)
+    let loop = c .before .before .before .before .before .loop in
+    passed-long _ _ _ (loop .inv) (c .before .before .before .before .loop-test .taken) (digit-no-end _ (omega (arith, c .before .before .digit-value .ensures, c .before .if1 .left))) (c .if3 .taken)
 
 loop-again : tie.Need-loop-again Inv-loop μ-loop
 loop-again c =
-    let loop = c .before .before .before .before .before .before .loop in
-    passed-next _ _ _ (loop .inv) (c .before .before .before .before .before .loop-test .taken) (omega (arith, c .before .before .digit-value .ensures, c .before .if2 .left)) (c .if3 .left)
+    let loop = c .before .before .before .before .before .loop in
+    passed-next _ _ _ (loop .inv) (c .before .before .before .before .loop-test .taken) (omega (arith, c .before .before .digit-value .ensures, c .before .if1 .left)) (c .if3 .left)
 
 returns-4 : tie.Need-returns-4 Inv-loop μ-loop
 returns-4 c = passed-unended _ _ _ (c .before .loop .inv) (c .loop-test .left) (c .before .before .before .pre)
@@ -49,8 +49,8 @@ row-end-spec =
     loop-holds
     (λ c. search needs)
     (λ c κs. search needs)
-    returns
     (λ c κs. search needs)
+    returns
     returns-2
     (λ c. search needs)
     returns-3
