@@ -1,5 +1,5 @@
 -- What a call asks for, or the refusal that it earns before any walk (document 01, 'Who can cause a refusal').
-use Prim.Native.Nat.{ℕ, zero, suc, _+_}
+use Prim.Native.Nat.{ℕ, suc, _+_}
 use mathlib.Core.Bool.{Bool, true, false}
 use mathlib.Core.Option.{Option, none, some}
 use mathlib.Core.List.{List, [], _∷_}

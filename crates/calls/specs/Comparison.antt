@@ -1,6 +1,5 @@
 -- What the code of compare cites: two ground terms of a task, and their verdict.
 use Prim.Native.Nat.{ℕ, _+_, _≤_}
-use mathlib.Core.Path.{_≡_}
 use mathlib.Core.List.{List, _++_}
 use lib.ListN.{length}
 use Rattle.format.specs.Limits.{max-symbols, max-task-nodes, position-count}

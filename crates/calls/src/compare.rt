@@ -3,6 +3,8 @@ use crate::buffer::fill;
 use crate::number::refusal_number;
 use comparing::exceeds;
 use comparing::measure;
+use format::byte::wide;
+use format::limits::Limits;
 use format::refusal::Refusal;
 use sheet::known::Known;
 use sheet::read::Reading;
@@ -11,35 +13,26 @@ use sheet::seek::TaskHead;
 use sheet::seek::decode;
 use sheet::seek::find_task;
 ghost use mathlib.Core.Path.{_≡_};
-ghost use Prim.Native.Nat.{_*_, _≤_};
+ghost use mathlib.Core.Bool.{true};
+ghost use Prim.Native.Nat.{_≤_};
 ghost use lib.ListN.{length};
 ghost use Rattle.format.specs.Limits.{scratch-bytes};
-ghost use Rattle.sheet.specs.Reading.{accepted, read};
+ghost use Rattle.terms.specs.Term.{Term};
+ghost use Rattle.ordering.specs.Verdict.{verdict, verdict-number};
+ghost use Rattle.comparing.specs.Nodes.{node-count};
 ghost use Rattle.sheet.specs.Seek.{Accepts};
 ghost use Rattle.sheet.specs.Scan.{known-arities};
 ghost use Rattle.sheet.specs.Reader.{Roomy};
-ghost use Rattle.ordering.specs.Verdict.{verdict, verdict-number};
 ghost use Rattle.calls.specs.Buffer.{cleared};
-ghost use mathlib.Core.Bool.{true};
 ghost use Rattle.calls.specs.Asked.{asked, comparison-task};
 ghost use Rattle.calls.specs.Outcome.{compare-answer, compare-call};
-ghost use Rattle.terms.specs.Term.{Term};
-ghost use Rattle.comparing.specs.Nodes.{node-count};
 ghost use Rattle.calls.specs.Comparison.{HasPair, PairIs, TwoAt};
 
-// Scratch that a call is lent, and the cells of a comparison, which stand first in it.
-const SCRATCH: usize = 57344;
-
+// The cells of a comparison, which stand first in scratch.
 const CELLS: usize = 50176;
 
 // The subject's first node.
 const SUBJECT: usize = 64;
-
-fn wide(x: u8) -> usize
-    ensures { λ r. ⌜ r ≡ x ⌝ }
-{
-    x as usize
-}
 
 // Stores two terms as nodes of the subject, with their sizes; the second term's first node.
 fn store(
@@ -77,7 +70,7 @@ fn compare_stored(nodes: &[u8], sizes: &[u8], scratch: &mut [u8], second: usize)
         SUBJECT,
         second,
     );
-    fill(scratch, SCRATCH, 0);
+    fill(scratch, Limits::SCRATCH, 0);
     verdict
 }
 
@@ -127,7 +120,7 @@ pub extern "C" fn neblinaro_compare(sheet: &[u8], task: u64, scratch: &mut [u8])
     ensures { λ r. ⌜ compare-call (now (sheet .entry)) task (now (scratch .entry)) ≡ record { returned = r; scratch = now (scratch .exit) } ⌝ }
     ensures unchanged { λ _. ⌜ now (sheet .exit) ≡ now (sheet .entry) ⌝ }
 {
-    if scratch.len() < SCRATCH {
+    if scratch.len() < Limits::SCRATCH {
         return refusal_number(Refusal::ShortBuffer, 0);
     }
     let read = read_sheet(sheet);

@@ -1,6 +1,6 @@
 // The fixed numbers that belong to the sheet, the walk and the calls.
 ghost use mathlib.Core.Path.{_≡_};
-ghost use Rattle.format.specs.Limits.{max-text, max-line-digits, max-symbols, max-arity, variable-count, max-equations, max-tasks, max-side-nodes, max-task-nodes, table-bytes, scratch-bytes, term-bytes, log-bytes};
+ghost use Rattle.format.specs.Limits.{max-text, max-line-digits, max-symbols, max-arity, variable-count, max-equations, max-tasks, max-side-nodes, max-task-nodes, scratch-bytes};
 
 pub struct Limits {
     pub nothing: (),
@@ -28,6 +28,9 @@ impl Limits {
 
     pub const TASK_NODES: usize = 160;
 
+    // The bytes of scratch.
+    pub const SCRATCH: usize = 57344;
+
     // Each number is the one of the definitions.
     pub fn stated()
         ensures { λ _. do ⌜ (← ⟦Limits::TEXT⟧ .entry) ≡ max-text ⌝ }
@@ -39,5 +42,6 @@ impl Limits {
         ensures { λ _. do ⌜ (← ⟦Limits::TASKS⟧ .entry) ≡ max-tasks ⌝ }
         ensures { λ _. do ⌜ (← ⟦Limits::SIDE_NODES⟧ .entry) ≡ max-side-nodes ⌝ }
         ensures { λ _. do ⌜ (← ⟦Limits::TASK_NODES⟧ .entry) ≡ max-task-nodes ⌝ }
+        ensures { λ _. do ⌜ (← ⟦Limits::SCRATCH⟧ .entry) ≡ scratch-bytes ⌝ }
     {}
 }

@@ -1,15 +1,14 @@
 -- Runs (document 01, 'Runs'), over the test that a match has to pass.
 use Prim.Native.Nat.{ℕ, zero, suc}
-use mathlib.Core.Bool.{Bool, true, false, _&&_}
+use mathlib.Core.Bool.{Bool, true, false}
 use mathlib.Core.Option.{Option, none, some}
-use mathlib.Core.List.{List, [], _∷_, map}
-use lib.ListN.{length}
+use mathlib.Core.List.{List, [], _∷_}
 use lib.Dec.{ltb}
 use Rattle.format.specs.Limits.{max-task-nodes}
 use Rattle.terms.specs.Term.{Term, size, Values, inst}
 use Rattle.terms.specs.Position.{subterms, replace}
 use Rattle.terms.specs.Equation.{Equation, Direction, left-right, right-left, source, target}
-use Rattle.reducing.specs.Match.{Match, no-match, match, values-of, usable}
+use Rattle.reducing.specs.Match.{no-match, match, values-of, usable}
 
 -- "The steps (equation, direction, position)", each with the term that it gives.
 pub record Step : Type 0 where

@@ -1,12 +1,11 @@
 -- The two tests of document 01, 'Runs': that of a run and that of the reference run.
-use Prim.Native.Nat.{ℕ, zero, suc}
+use Prim.Native.Nat.{ℕ}
 use mathlib.Core.Bool.{Bool, true, false}
 use mathlib.Core.List.{List}
 use lib.Dec.{ltb}
 use Rattle.terms.specs.Term.{Term, Terms, var, nth, Values, inst}
 use Rattle.terms.specs.Equation.{Equation, Direction, source, target, value}
 use Rattle.ordering.specs.Theory.Decide.{exceeds?}
-use Rattle.solving.specs.Line.{Line}
 use Rattle.solving.specs.Walk.{Walked, solved, refused, solve}
 use Rattle.solving.specs.Judge.{first-holding}
 use Rattle.reducing.specs.Run.{Run, run}

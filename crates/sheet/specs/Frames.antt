@@ -1,6 +1,6 @@
 -- The frames of a sheet, a line each (document 01, 'The sheet').
 use Prim.Native.Nat.{ℕ}
-use mathlib.Core.List.{List, [], _∷_, _++_, map}
+use mathlib.Core.List.{List, _∷_, _++_, map}
 use lib.ListN.{length}
 use Rattle.terms.specs.Equation.{Equation, direction-number}
 use Rattle.terms.specs.Prefix.{prefix, prefixes}

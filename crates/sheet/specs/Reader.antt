@@ -1,9 +1,9 @@
 -- What the contracts of the code that reads frames and lines cite.
-use Prim.Native.Nat.{ℕ, zero, suc, _+_, _*_, _≤_, _<_}
+use Prim.Native.Nat.{ℕ, _+_, _*_, _≤_}
 use mathlib.Core.Path.{_≡_}
 use mathlib.Core.Bool.{Bool, true, false}
-use mathlib.Core.List.{List, [], _∷_, map}
-use lib.ListN.{length, getD}
+use mathlib.Core.List.{List, [], map}
+use lib.ListN.{length}
 use lib.Dec.{eqb}
 use Rattle.format.specs.Limits.{max-symbols, max-equations, max-text}
 use Rattle.format.specs.Lists.{any}

@@ -1,6 +1,5 @@
 -- Whether a line holds, and the first that does (document 01, 'The walk that solves s > t' and 'Calls and lent memory').
 use Prim.Native.Nat.{ℕ, zero, suc}
-use mathlib.Core.Path.{_≡_}
 use mathlib.Core.Option.{none, some}
 use mathlib.Core.List.{List, [], _∷_}
 use Rattle.terms.specs.Term.{Term, Values, identical?}

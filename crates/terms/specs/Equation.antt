@@ -1,7 +1,7 @@
 -- Equations, their directions and their positions (document 01, 'The sheet' and 'The walk that solves s > t').
 use Prim.Native.Nat.{ℕ, zero, suc, _+_}
 use mathlib.Core.Option.{Option, none, some}
-use mathlib.Core.List.{List, [], _∷_, _++_}
+use mathlib.Core.List.{_++_}
 use lib.ListN.{getD}
 use Rattle.terms.specs.Term.{Term, var, size, Values, inst}
 use Rattle.terms.specs.Position.{subterms, Node, node-at}

@@ -2,9 +2,8 @@
 use Prim.Native.Nat.{ℕ, zero, suc, _+_, _-_}
 use mathlib.Core.Bool.{true, false}
 use mathlib.Core.List.{List, [], _∷_, _++_}
-use lib.ListN.{getD}
 use lib.Dec.{ltb}
-use Rattle.terms.specs.Term.{Term, Terms, var, app, nil, cons, size, sizes}
+use Rattle.terms.specs.Term.{Term, Terms, var, app, nil, cons, size}
 
 -- The subterms in prefix order: the one that starts at each position.
 unfoldable mutual

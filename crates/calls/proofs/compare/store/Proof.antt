@@ -27,14 +27,14 @@ measure-requires c κs =
     pair-measurable (has .is) _ _ _ (placed (start .args .nodes .now) _ _ _ _ (omega (arith, start .pre .1 .0)) (decoded .1)) (decoded .0) (c .before .before .before .nodes .given .1 ∙ start .pre .1 .0) (start .pre .1 .1)
 
 add-result : tie.Need-add-result
-add-result c = omega (arith, c .wide .ensures, c .before .slice-known5 .given 64)
+add-result c = omega (arith, c .wide .ensures .0, c .before .slice-known5 .given 64)
 
 returns : tie.Need-returns
 returns c =
     λ s t p.
     let start = c .before .before .before .before .before .before .before .before .before .before .before .before .before .before .before in
     let decoded = c .before .before .before .before .before .before .before .before .before .decode .ensures _ (p .spans) in
-    pair-stands p _ (start .args .sizes .now) _ _ _ _ (placed (start .args .nodes .now) _ _ _ _ (omega (arith, start .pre .1 .0)) (decoded .1)) (decoded .0) (omega (arith, start .pre .1 .1)) (c .before .before .before .before .measure .ensures) (ap (64 +_) (c .wide .ensures))
+    pair-stands p _ (start .args .sizes .now) _ _ _ _ (placed (start .args .nodes .now) _ _ _ _ (omega (arith, start .pre .1 .0)) (decoded .1)) (decoded .0) (omega (arith, start .pre .1 .1)) (c .before .before .before .before .measure .ensures) (ap (64 +_) (c .wide .ensures .0))
 
 pub store-spec : {M : Type 1} → statement M
 store-spec =
