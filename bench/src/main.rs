@@ -5,11 +5,10 @@
 mod agree;
 mod calls;
 mod memoised;
-mod timing;
 
 use reference::generate::text;
 use reference::special::{compared_arities, hard_pairs, special};
-use timing::time;
+use reference::timing::time;
 
 fn main() {
     clock();

@@ -11,6 +11,7 @@ pub mod random;
 pub mod rewrite;
 pub mod sheet;
 pub mod special;
+pub mod timing;
 pub mod walk;
 
 pub use calls::{check, compare, judge, run, solve};
