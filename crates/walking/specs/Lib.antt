@@ -1,3 +1,7 @@
 pub mod Laid
 pub mod Bound
+pub mod Unify
+pub mod Stored
+pub mod Place
+pub mod Treatment
 pub mod Theory

@@ -2,3 +2,9 @@
 pub mod Laid
 pub mod Bound
 pub mod Follow
+pub mod Unify
+pub mod Within
+pub mod Met
+pub mod Occurrence
+pub mod Treatment
+pub mod Element

@@ -48,6 +48,10 @@ module _ {sizes : List ℕ} where
   row-empty (none e) h = refl
   row-empty (more l r) h = absurd (omega (arith, row-ordered r))
 
+  pub row-first-some : {k end : ℕ} {ps : List ℕ} → Row sizes k end ps → k < end → 0 < getD sizes k 0
+  row-first-some (none e) h = absurd (omega arith)
+  row-first-some (more l r) h = l
+
   pub row-next : {k end : ℕ} {ps : List ℕ} → Row sizes k end ps → k < end → (qs : List ℕ) × (ps ≡ k ∷ qs) × Row sizes (k + getD sizes k 0) end qs
   row-next (none e) h = absurd (omega arith)
   row-next (more {ps = qs} l r) h = (qs, refl, r)
@@ -81,6 +85,9 @@ module _ (nodes sizes : List ℕ) where
   past-end p h = List·getD-eq-default nodes first-variable h
 
 module _ {nodes sizes : List ℕ} (laid : Laid nodes sizes) where
+  pub arguments-there : (p : ℕ) → p < length nodes → getD nodes p 0 < first-variable → Row sizes (p + 1) (p + getD sizes p 0) (arguments-of sizes p)
+  arguments-there p l h = let e = byte-there nodes sizes p l in laid .arguments p l (omega arith)
+
   -- What stands at a position tells its byte.
   pub seen-symbol : (p f : ℕ) (ps : List ℕ) → view-of nodes sizes p ≡ app-node f ps
       → (p < length nodes) × (getD nodes p first-variable ≡ f) × (f < first-variable) × (ps ≡ arguments-of sizes p) × Row sizes (p + 1) (p + getD sizes p 0) ps

@@ -37,7 +37,7 @@ shared-slice-read-next c = let f = c .before .before .before .before .before .lo
 
 -- src/reach.rt:32:13
 returns-2 : tie.Need-returns-2 Inv-loop μ-loop
-returns-2 c = 
+returns-2 c =
     let f = c .before .before .before .before .before .before .loop .inv in
     let s = slot-there (c .before .before .before .before .before .before .before .before .before .before .pre .0) (f .within) (c .before .before .before .if1 .left) in
     (reached-free (c .before .before .wide .result) f (c .before .before .before .if1 .left) (c .before .before .wide .ensures .0) (omega (arith, s, c .before .before .wide .ensures .0)) (c .if2 .taken), f .within)
@@ -56,12 +56,12 @@ loop-less c = search needs
 
 -- src/reach.rt:25:5
 loop-again : tie.Need-loop-again Inv-loop μ-loop
-loop-again c = 
+loop-again c =
     let f = c .before .before .before .before .before .before .before .loop .inv in
     let s = slot-there (c .before .before .before .before .before .before .before .before .before .before .before .pre .0) (f .within) (c .before .before .before .before .if1 .left) in
     let q = c .wide2 .result in
     following-on (c .before .before .before .wide .result) q _ (c .before .before .before .before .before .before .before .before .before .before .before .pre .0) f (omega (arith, c .before .before .before .before .before .before .loop-test .taken)) (c .before .before .before .before .if1 .left) (c .before .before .before .wide .ensures .0)
-        (omega (arith, s, c .before .before .before .wide .ensures .0)) (c .wide2 .ensures .0) (not-unbound (c .wide2 .ensures .0) (c .wide2 .ensures .1) (c .before .if2 .left))
+    (omega (arith, s, c .before .before .before .wide .ensures .0)) (c .wide2 .ensures .0) (not-unbound (c .wide2 .ensures .0) (c .wide2 .ensures .1) (c .before .if2 .left))
 
 -- src/reach.rt:17:1
 returns-3 : tie.Need-returns-3 Inv-loop μ-loop

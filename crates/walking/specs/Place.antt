@@ -1,0 +1,65 @@
+-- Lines' bytes changed in place, and put into the memory of the walk.
+use Prim.Native.Nat.{ℕ, _+_, _*_, _≤_, _<_}
+use mathlib.Core.Path.{_≡_}
+use mathlib.Core.List.{List, [], _∷_, _++_, map}
+use lib.ListN.{length, take, drop}
+use Rattle.format.specs.Limits.{variable-count, max-elements}
+use Rattle.solving.specs.Line.{Element}
+use Rattle.solving.specs.Walk.{argument-choices, exceeds-each, lexicographic-choices}
+use Rattle.walking.specs.Laid.{Row}
+use Rattle.walking.specs.Stored.{marks, padding, first-element, Stored, stored-bytes}
+
+-- A line in scratch takes 90 bytes: its record, and the count of elements that are known to be fully reduced.
+abbrev pub line-bytes : ℕ
+line-bytes = first-element + 2 * max-elements
+
+-- The buffer with `part` from `at` on.
+unfoldable pub placed : (at : ℕ) (part buffer : List ℕ) → List ℕ
+placed at part buffer = take at buffer ++ (part ++ drop (at + length part) buffer)
+
+-- The bytes of lines, one behind the other.
+unfoldable pub lines-bytes : List Stored → List ℕ
+unfolding stored-bytes
+lines-bytes [] = []
+lines-bytes (l ∷ ls) = stored-bytes l ++ lines-bytes ls
+
+-- A line's bytes with room for `n` elements between `front` and `back`.
+pub record Gap (line front : List ℕ) (n : ℕ) (back : List ℕ) : Type 0 where
+  pub gap : List ℕ
+  pub is : line ≡ front ++ (gap ++ back)
+  pub room : length gap ≡ 2 * n
+
+-- The front and the back of a line with these bindings, the elements `pre` in front of the room, known to be fully reduced, and `post` behind it.
+unfoldable pub front-bytes : (bindings : List ℕ) (count : ℕ) (pre : List Element) → List ℕ
+unfolding marks
+front-bytes bindings count pre = bindings ++ (count ∷ length pre ∷ marks pre)
+
+unfoldable pub back-bytes : (count : ℕ) (post : List Element) → List ℕ
+unfolding marks padding
+back-bytes count post = marks post ++ padding count
+
+-- Room for `n` elements in the place of element `i`.
+pub record Widened (i n : ℕ) (before after : List ℕ) : Type 0 where
+  pub opens : (bindings : List ℕ) (pre post : List Element) (e : Element) (r : ℕ) → length bindings ≡ variable-count → length pre ≡ i
+      → before ≡ stored-bytes (record { bindings = bindings; elements = pre ++ e ∷ post; reduced = r })
+      → Gap after (front-bytes bindings (length pre + n + length post) pre) n (back-bytes (length pre + n + length post) post)
+
+-- "all s > tj", at `at`.
+pub record FillsExceeding (sizes : List ℕ) (at p k end : ℕ) (before after : List ℕ) : Type 0 where
+  pub fills : (ts front back : List ℕ) → Row sizes k end ts → length front ≡ at → Gap before front (length ts) back → after ≡ front ++ (marks (exceeds-each p ts) ++ back)
+
+-- Lines for each of some choices: the choice's bytes between `front` and `back`.
+unfoldable pub choices-bytes : (front back : List ℕ) → List (List Element) → List ℕ
+unfolding marks
+choices-bytes front back [] = []
+choices-bytes front back (cs ∷ css) = (front ++ (marks cs ++ back)) ++ choices-bytes front back css
+
+-- "for each i, si > t then si = t": the lines stand from `to` on, and the room is left for the next.
+pub record PushesArguments (sizes : List ℕ) (at q k end to : ℕ) (line-before line-after records-before records-after : List ℕ) (r : ℕ) : Type 0 where
+  pub pushes : (ss front back : List ℕ) → Row sizes k end ss → length front ≡ at → Gap line-before front 1 back
+      → (records-after ≡ placed to (choices-bytes front back (argument-choices ss q)) records-before) × (r ≡ to + line-bytes * length (argument-choices ss q)) × Gap line-after front 1 back
+
+-- "for each k the L3 list in argument order", where the room has all s > tj.
+pub record PushesLexicographic (sizes : List ℕ) (at p k m l n to : ℕ) (line-before records-before records-after : List ℕ) (r : ℕ) : Type 0 where
+  pub pushes : (ss ts front back : List ℕ) → Row sizes k m ss → Row sizes l n ts → length front ≡ at → line-before ≡ front ++ (marks (exceeds-each p ts) ++ back)
+      → (records-after ≡ placed to (choices-bytes front back (lexicographic-choices p ss ts)) records-before) × (r ≡ to + line-bytes * length (lexicographic-choices p ss ts))

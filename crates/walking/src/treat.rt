@@ -1,0 +1,67 @@
+// What an element asks for, seen through the bindings of its line.
+use crate::element::Element;
+use crate::element::Relation;
+use crate::occurs::occurs_at;
+use crate::reach::FIRST_VARIABLE;
+use crate::reach::reached;
+use format::byte::wide;
+ghost use mathlib.Core.Path.{_≡_};
+ghost use Prim.Native.Nat.{_<_};
+ghost use lib.ListN.{length};
+ghost use Rattle.solving.specs.Line.{greater};
+ghost use Rattle.solving.specs.Theory.Table.{Within};
+ghost use Rattle.walking.specs.Bound.{Readable};
+ghost use Rattle.walking.specs.Stored.{meaning};
+ghost use Rattle.walking.specs.Treatment.{Treated};
+
+// Nothing, the line deleted, the element deleted, two positions unified, or choices: an inequality's positions and those reached from them.
+pub enum Treatment {
+    Reduced,
+    DropLine,
+    DropElement,
+    Unify(usize, usize),
+    Split(usize, usize, usize, usize),
+}
+
+// "Inequality l > r", by what l and r are.
+fn inequality_treatment(
+    nodes: &[u8],
+    sizes: &[u8],
+    bindings: &[u8],
+    p: usize,
+    q: usize,
+) -> Treatment
+    requires { ⌜ Readable (now nodes) (now sizes) (now bindings) ⌝ }
+    requires { ⌜ (p < length (now nodes)) × (q < length (now nodes)) ⌝ }
+    ensures { λ r. ⌜ Treated (now (nodes .entry)) (now (sizes .entry)) (now (bindings .entry)) (greater p q) r ⌝ }
+{
+    let s = reached(nodes, sizes, bindings, p);
+    let t = reached(nodes, sizes, bindings, q);
+    let f = nodes[s];
+    if FIRST_VARIABLE <= f {
+        if occurs_at(nodes, sizes, bindings, wide(f - FIRST_VARIABLE), q) {
+            return Treatment::DropLine;
+        }
+        return Treatment::Reduced;
+    }
+    let g = nodes[t];
+    if FIRST_VARIABLE <= g {
+        if occurs_at(nodes, sizes, bindings, wide(g - FIRST_VARIABLE), p) {
+            return Treatment::DropElement;
+        }
+        return Treatment::Reduced;
+    }
+    Treatment::Split(p, q, s, t)
+}
+
+pub fn treatment_of(nodes: &[u8], sizes: &[u8], bindings: &[u8], element: Element) -> Treatment
+    requires { ⌜ Readable (now nodes) (now sizes) (now bindings) ⌝ }
+    requires { ⌜ Within (length (now nodes)) (meaning element) ⌝ }
+    ensures { λ r. ⌜ Treated (now (nodes .entry)) (now (sizes .entry)) (now (bindings .entry)) (meaning element) r ⌝ }
+{
+    let relation = element.relation;
+    match relation {
+        Relation::Equal(p, q) => Treatment::Unify(wide(p), wide(q)),
+        Relation::Greater(p, q) => inequality_treatment(nodes, sizes, bindings, wide(p), wide(q)),
+    }
+}
