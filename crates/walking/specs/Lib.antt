@@ -4,4 +4,5 @@ pub mod Unify
 pub mod Stored
 pub mod Place
 pub mod Treatment
+pub mod Sound
 pub mod Theory

@@ -8,3 +8,5 @@ pub mod Met
 pub mod Occurrence
 pub mod Treatment
 pub mod Element
+pub mod Stored
+pub mod Leftmost
