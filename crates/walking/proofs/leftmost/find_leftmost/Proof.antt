@@ -4,6 +4,8 @@ use mathlib.Core.Path.{refl, sym, ap}
 use lib.ListN.{take}
 use lib.Seq.{length-take-le}
 use native.Mathlib.Omega.{arith}
+use denote.Enum.Declared.{tagOf}
+use Rattle.walking.proofs.treat.Treatment.{the-type}
 use borrow.Author.Needs.{needs}
 use Rattle.walking.specs.Theory.Leftmost.{Looking, line-length, looking-start, looking-within, looking-asks, looking-on, looking-found, looking-over, not-first}
 use Rattle.walking.proofs.leftmost.find_leftmost.Statement.{statement}
@@ -59,7 +61,7 @@ enum-told c = search needs
 returns : tie.Need-returns Inv-loop μ-loop
 returns c =
     let t = c .before .treatment-of in
-    looking-found (c .before .before .before .before .before .loop .inv) (c .before .before .before .before .loop-test .taken) (take 8 (c .before .before .before .before .before .before .before .before .before .before .before .before .before .args .line .now)) refl (c .before .before .before .element-at .result) (c .before .before .before .element-at .ensures) (t .result) (t .ensures) (λ z. not-first (c .match .keys2) (ap _ z))
+    looking-found (c .before .before .before .before .before .loop .inv) (c .before .before .before .before .loop-test .taken) (take 8 (c .before .before .before .before .before .before .before .before .before .before .before .before .before .args .line .now)) refl (c .before .before .before .element-at .result) (c .before .before .before .element-at .ensures) (t .result) (t .ensures) (λ z. not-first (c .match .keys2) (ap (tagOf the-type) z))
 
 -- src/leftmost.rt:34:13
 add-i : tie.Need-add-i Inv-loop μ-loop
