@@ -29,7 +29,7 @@ pub fn byte_at(s: &[u8], at: usize) -> usize
     16 * high + low
 }
 
-// Whether a character is a digit. Two differences that wrap, so that no branch is needed.
+// Whether a character is a digit, by differences that wrap, which compile to no branch.
 fn is_digit(c: u8) -> bool
     ensures { λ r. ⌜ r ≡ leb (digit-number c) 15 ⌝ }
 {
