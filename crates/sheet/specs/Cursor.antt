@@ -1,10 +1,12 @@
 -- What the reading code's contracts cite: the text between two places, as the bytes of a frame.
-use Prim.Native.Nat.{ℕ, suc, _+_, _-_, _*_, _<_}
+use Prim.Native.Nat.{ℕ, suc, _+_, _-_, _*_, _≤_, _<_}
 use mathlib.Core.Path.{_≡_}
 use mathlib.Core.Logic.{_⊎_}
 use mathlib.Core.Option.{none, some, Option·getD}
 use mathlib.Core.List.{List, [], _∷_}
 use lib.ListN.{length, getD, take, drop}
+use Rattle.format.specs.Limits.{max-line-digits}
+use Rattle.format.specs.Theory.Lists.{Every}
 use Rattle.sheet.specs.declared.text.RowEnd.{RowEnd}
 use Rattle.sheet.specs.declared.text.RowEnd.the-variants.{At, Broken}
 use Rattle.sheet.specs.Text.{Row, ended, rows, digit, frame-of}
@@ -13,6 +15,9 @@ use Rattle.sheet.specs.Text.{Row, ended, rows, digit, frame-of}
 unfoldable pub digit-number : ℕ → ℕ
 unfolding digit
 digit-number c = Option·getD (digit c) 16
+
+abbrev pub Digits : List ℕ → Type 0
+Digits = Every (λ c. digit-number c ≤ 15)
 
 -- The bytes that two digits each write.
 unfoldable pub decoded : List ℕ → List ℕ
@@ -28,6 +33,13 @@ pair-at text at = 16 * digit-number (getD text at 0) + digit-number (getD text (
 unfoldable pub bytes-between : List ℕ → (at end : ℕ) → List ℕ
 unfolding decoded
 bytes-between text at end = decoded (take (end - at) (drop at text))
+
+-- The characters from `at` to `i` are digits, and no more than a line may have.
+pub record Passed (text : List ℕ) (at i : ℕ) : Type 0 where
+  pub begun : at ≤ i
+  pub inside : i ≤ length text
+  pub few : i - at ≤ max-line-digits
+  pub digits : Digits (take (i - at) (drop at text))
 
 -- The line that starts at `at`: its digits end at `end`, where LF stands, and it is the frame of the bytes between.
 pub record LineTo (text : List ℕ) (at end : ℕ) : Type 0 where

@@ -14,7 +14,8 @@ use format::refusal::Refusal;
 ghost use mathlib.Core.Path.{_≡_};
 ghost use mathlib.Core.List.{_∷_};
 ghost use Prim.Native.Nat.{_+_, _≤_, _<_};
-ghost use lib.ListN.{set};
+ghost use lib.ListN.{length, set};
+ghost use Rattle.format.specs.Limits.{max-text};
 ghost use Rattle.sheet.specs.Sheet.{Sheet};
 ghost use Rattle.sheet.specs.Frame.{State, within};
 ghost use Rattle.sheet.specs.Cursor.{bytes-between};
@@ -110,9 +111,10 @@ pub enum Reading {
     Refused(Refusal, usize),
 }
 
+// `known` stands first: its zeros and the line are then not stored as one, to be read back in parts.
 pub struct SheetReading {
-    pub reading: Reading,
     pub known: Known,
+    pub reading: Reading,
 }
 
 fn refused_at(why: Refusal, line: usize) -> SheetReading
@@ -134,6 +136,15 @@ pub fn read_sheet(s: &[u8]) -> SheetReading
     if Limits::TEXT < n {
         return refused_at(Refusal::TextLength, 0);
     }
+    read_lines(s)
+}
+
+// The lines of a text of allowed length.
+fn read_lines(s: &[u8]) -> SheetReading
+    requires { ⌜ (1 ≤ length (now s)) × (length (now s) ≤ max-text) ⌝ }
+    ensures { λ r. ⌜ SheetRead (now (s .entry)) (r .known) (r .reading) ⌝ }
+{
+    let n = s.len();
     let mut known = Known::nothing();
     let mut at: usize = 0;
     let mut line: usize = 0;

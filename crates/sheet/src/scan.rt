@@ -108,7 +108,15 @@ pub fn scan(
                 width: widest,
             };
         }
-        let class = classify(byte_at(s, at) as u8);
+        let b = byte_at(s, at);
+        // Most nodes are declared symbols, which are told faster than classes.
+        if b < symbols {
+            need = wide(arities[b]) + (need - 1);
+            room = room - 1;
+            at = at + 2;
+            continue;
+        }
+        let class = classify(b as u8);
         match terms_after(symbols, &arities, ground, class, need - 1) {
             After::Refused(r) => {
                 return Scanned {

@@ -15,14 +15,15 @@ use Rattle.format.specs.declared.refusal.Refusal.the-variants.{FrameBytes}
 use Rattle.format.specs.declared.byte.Class.{Class}
 use Rattle.format.specs.Byte.{class-of}
 use Rattle.format.specs.declared.byte.Class.the-variants.{Symbol as symbol, Variable as variable, Foreign as foreign}
-use Rattle.format.specs.Theory.Byte.{class-variable}
+use Rattle.format.specs.Theory.Byte.{symbol-class, class-variable}
 use Rattle.sheet.specs.declared.scan.After.{After}
 use Rattle.sheet.specs.declared.scan.Outcome.{Outcome}
 use Rattle.sheet.specs.declared.scan.Outcome.the-variants.{Done, Refused}
 use Rattle.sheet.specs.declared.scan.Scanned.{Scanned}
 use Rattle.sheet.specs.Frame.{after-node, scan}
 use Rattle.sheet.specs.Cursor.{decoded, pair-at, bytes-between}
-use Rattle.sheet.specs.Scan.{after-result, node-width, widest, ScanReady, outcome-result, ScanRead}
+use Rattle.sheet.specs.Scan.{after-result, listed, node-width, widest, ScanReady, outcome-result, ScanRead}
+use Rattle.sheet.specs.Theory.Listed.{after-known}
 
 -- 1. The bytes between two places.
 pub between-end : (text : List ℕ) (at end : ℕ) → end ≤ at → bytes-between text at end ≡ []
@@ -166,6 +167,19 @@ module _ (text : List ℕ) (from end : ℕ) (arities : List ℕ) (ground : Bool)
           widths = g .widths ∙ ap (λ bs. max w (widest bs)) c ∙ omega arith;
           low = omega (arith, g .low, width-low b);
         }
+
+-- A declared symbol, told without its class.
+pub scanning-declared : (text : List ℕ) (from end symbols : ℕ) (xs : List ℕ) (ground : Bool) (terms nodes width at need room w : ℕ) → Scanning text from end (listed symbols xs) ground terms nodes width at need room w
+    → (at ≡ end → ⊥) → 0 < need → (room ≡ 0 → ⊥) → symbols ≤ max-symbols → {b a : ℕ} → b ≡ pair-at text at → b < symbols → a ≡ getD xs b 0 → a ≤ 255
+    → Scanning text from end (listed symbols xs) ground terms nodes width (at + 2) (a + (need - 1)) (room - 1) w
+scanning-declared text from end symbols xs ground terms nodes width at need room w g n h m l {b} {a} d i e k =
+    let f = pair-at text at in
+    let is-symbol : class-of f ≡ symbol f = symbol-class f (omega arith) in
+    let given : after-node (listed symbols xs) ground (class-of f) (need - 1) ≡ give (a + (need - 1)) =
+    ap (λ c. after-node (listed symbols xs) ground c (need - 1)) is-symbol ∙ after-known symbols xs ground f (need - 1) (omega arith) ∙ ap (λ x. give (x + (need - 1))) (ap (λ j. getD xs j 0) (sym d) ∙ sym e) in
+    let same-width : max w (node-width (class-of f)) ≡ w = ap (λ c. max w (node-width c)) is-symbol ∙ omega arith in
+    subst (Scanning text from end (listed symbols xs) ground terms nodes width (at + 2) (a + (need - 1)) (room - 1)) same-width
+    (scanning-next text from end (listed symbols xs) ground terms nodes width at need room w g n h m (a + (need - 1)) given (omega arith))
 
 -- What the calls of one round say, put together.
 pub told-after : (arities : List ℕ) (ground : Bool) (need : ℕ) {b₀ b : ℕ} {c : Class} {a a′ : After} → b ≡ b₀ → c ≡ class-of b → after-result a ≡ after-node arities ground c need → a ≡ a′

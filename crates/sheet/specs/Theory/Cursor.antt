@@ -6,9 +6,9 @@ use mathlib.Core.Logic.{_⊎_, inl, inr}
 use mathlib.Core.Option.{Option, none, some, Option·getD}
 use mathlib.Core.List.{List, [], _∷_, _++_, append-assoc, append-nil}
 use lib.ListN.{length, getD, take, drop, length-append, length-take, length-drop, take-append-drop}
-use lib.Seq.{drop-cons, take-suc, drop-drop, drop-length, length-take-le, getD-drop, getD-take}
-use lib.Dec.{leb}
-use borrow.Author.Tests.{leb-true, leb-false, le-leb, lt-leb}
+use lib.Seq.{drop-cons, take-suc, take-add, drop-drop, drop-length, length-take-le, getD-drop, getD-take}
+use lib.Dec.{leb, ltb}
+use borrow.Author.Tests.{leb-true, leb-false, ltb-true, ltb-false, le-leb, lt-leb}
 use native.Mathlib.Numerals.{add-one}
 use native.Mathlib.Omega.{arith}
 use Rattle.format.specs.Limits.{max-line-digits}
@@ -16,7 +16,7 @@ use Rattle.format.specs.Theory.Lists.{Every, every-append}
 use Rattle.sheet.specs.Text.{LF, Row, ended, unended, rows, digit, byte-of, put-first, bytes-of, frame-of}
 use Rattle.sheet.specs.declared.text.RowEnd.{RowEnd}
 use Rattle.sheet.specs.declared.text.RowEnd.the-variants.{At, Broken}
-use Rattle.sheet.specs.Cursor.{digit-number, decoded, pair-at, bytes-between, LineTo, NoFrame, RowRead, CountRead}
+use Rattle.sheet.specs.Cursor.{digit-number, Digits, Passed, decoded, pair-at, bytes-between, LineTo, NoFrame, RowRead, CountRead}
 use Rattle.sheet.specs.Theory.Text.{digit-small}
 use Rattle.sheet.specs.Theory.Rows.{NoLF, content, rows-ended, Begins, rows-begin, rows-unended, frame-none-digit, frame-none-long}
 
@@ -107,10 +107,26 @@ number-other c h = go (digit c) refl
     go none e = e
     go (some n) e = absurd (omega (arith, number-some c n e, digit-small c n e))
 
--- 2. Lines, by their digits.
-abbrev pub Digits : List ℕ → Type 0
-Digits = Every (λ c. digit-number c ≤ 15)
+-- A digit is told by the differences to 0 and to a, which wrap.
+pub decimal-told : (c w : ℕ) → (w + 0x30) % 256 ≡ c → w < 10 → true ≡ leb (digit-number c) 15
+decimal-told c w e h = sym (le-leb (digit-number c) 15 (omega (arith, number-some c (c - 0x30) (digit-decimal c (omega arith) (omega arith)))))
 
+pub letter-told : (c w v : ℕ) → w < 256 → v < 256 → (w + 0x30) % 256 ≡ c → (v + 0x61) % 256 ≡ c → 10 ≤ w → ltb v 6 ≡ leb (digit-number c) 15
+letter-told c w v k l d e h = go (ltb v 6) refl
+  where
+    no-digit : 6 ≤ v → digit c ≡ none
+    no-digit i = place (ltb c 0x30) (ltb c 0x61) refl refl
+      where
+        place : (x y : Bool) → ltb c 0x30 ≡ x → ltb c 0x61 ≡ y → digit c ≡ none
+        place true y p q = digit-low c (ltb-true c 0x30 p)
+        place false true p q = digit-between c (omega (arith, ltb-false c 0x30 p)) (ltb-true c 0x61 q)
+        place false false p q = digit-high c (omega (arith, ltb-false c 0x61 q))
+
+    go : (t : Bool) → ltb v 6 ≡ t → t ≡ leb (digit-number c) 15
+    go true x = let i = ltb-true v 6 x in sym (le-leb (digit-number c) 15 (omega (arith, number-some c (c - 87) (digit-letter c (omega (arith, i)) (omega (arith, i))))))
+    go false x = sym (lt-leb (digit-number c) 15 (omega (arith, number-none c (no-digit (ltb-false v 6 x)))))
+
+-- 2. Lines, by their digits.
 digit-no-LF : (c : ℕ) → digit-number c ≤ 15 → c ≡ LF → ⊥
 digit-no-LF c h e = omega (arith, number-none LF (digit-low LF (omega arith)), ap digit-number e)
 
@@ -234,12 +250,6 @@ module _ (s : List ℕ) (at i : ℕ) (below : at ≤ i) (inside : i ≤ length s
         go (x ∷ xs) f d n = record { row = unended (x ∷ xs); more = []; is-first = ap rows d ∙ rows-unended x xs f; no-frame = refl }
 
 -- 4. The search for a line's end: what is passed are digits, and not too many.
-pub record Passed (s : List ℕ) (at i : ℕ) : Type 0 where
-  pub begun : at ≤ i
-  pub inside : i ≤ length s
-  pub few : i - at ≤ max-line-digits
-  pub digits : Digits (take (i - at) (drop at s))
-
 pub passed-start : (s : List ℕ) (at : ℕ) → at < length s → Passed s at at
 passed-start s at h = let e : at - at ≡ 0 = omega arith in record { begun = omega arith; inside = omega arith; few = omega arith; digits = rw e tt }
 
@@ -258,6 +268,42 @@ passed-next s at i p h d n =
   where
     at-most : (m k : ℕ) → m ≤ max-line-digits → (m ≡ max-line-digits → ⊥) → k ≡ suc m → k ≤ max-line-digits
     at-most m k l n e = omega arith
+
+-- Sixteen at once: `i` of those from `at` on are tested.
+pub record Tested (s : List ℕ) (at : ℕ) (all : Bool) (i : ℕ) : Type 0 where
+  pub few : i ≤ 16
+  pub digits : all ≡ true → Digits (take i (drop at s))
+
+pub tested-start : (s : List ℕ) (at : ℕ) → Tested s at true 0
+tested-start s at = record { few = omega arith; digits = λ e. tt }
+
+pub tested-next : (s : List ℕ) (at i : ℕ) (all one both : Bool) → Tested s at all i → at + 16 ≤ length s → i < 16 → one ≡ leb (digit-number (getD s (at + i) 0)) 15 → both ≡ (all && one) → Tested s at both (i + 1)
+tested-next s at i all one both t l h d e = record { few = omega arith; digits = go all one (t .digits) d e }
+  where
+    more : take (i + 1) (drop at s) ≡ take i (drop at s) ++ (getD s (at + i) 0 ∷ [])
+    more = ap (λ m. take m (drop at s)) (add-one i) ∙ take-suc (drop at s) i 0 (omega (arith, length-drop at s)) ∙ ap (λ x. take i (drop at s) ++ (x ∷ [])) (getD-drop at s i 0)
+
+    go : (a o : Bool) → (a ≡ true → Digits (take i (drop at s))) → o ≡ leb (digit-number (getD s (at + i) 0)) 15 → both ≡ (a && o) → both ≡ true → Digits (take (i + 1) (drop at s))
+    go true true f x y z = rw more (every-append (λ c. digit-number c ≤ 15) (take i (drop at s)) (getD s (at + i) 0 ∷ []) (f refl) (leb-true _ 15 (sym x), tt))
+    go true false f x y z = let w : _≡_ {A = ℕ} 0 1 = cc in absurd (omega arith)
+    go false o f x y z = let w : _≡_ {A = ℕ} 0 1 = cc in absurd (omega arith)
+
+pub tested-all : (s : List ℕ) (at i : ℕ) (all : Bool) → Tested s at all i → 16 ≤ i → all ≡ true → Digits (take 16 (drop at s))
+tested-all s at i all t h e = let d : i ≡ 16 = omega (arith, t .few) in subst (λ n. Digits (take n (drop at s))) d (t .digits e)
+
+pub passed-sixteen : (s : List ℕ) (at i : ℕ) → Passed s at i → i + 16 ≤ length s → i + 16 - at ≤ max-line-digits → Digits (take 16 (drop i s)) → Passed s at (i + 16)
+passed-sixteen s at i p h l d =
+    let e : i + 16 - at ≡ i - at + 16 = omega (arith, p .begun) in
+    let j : at + (i - at) ≡ i = omega (arith, p .begun) in
+    let behind : drop (i - at) (drop at s) ≡ drop i s = drop-drop (i - at) at s ∙ ap (λ n. drop n s) j in
+    let more : take (i + 16 - at) (drop at s) ≡ take (i - at) (drop at s) ++ take 16 (drop i s) =
+    ap (λ m. take m (drop at s)) e ∙ take-add (i - at) 16 (drop at s) ∙ ap (λ x. take (i - at) (drop at s) ++ take 16 x) behind in
+    record {
+      begun = omega (arith, p .begun);
+      inside = h;
+      few = l;
+      digits = rw more (every-append (λ c. digit-number c ≤ 15) (take (i - at) (drop at s)) (take 16 (drop i s)) (p .digits) d);
+    }
 
 pub passed-ended : (s : List ℕ) (at i : ℕ) → Passed s at i → i < length s → getD s i 0 ≡ LF → (r : RowEnd) → CountRead at i r → RowRead s at r
 passed-ended s at i p h e (At j) x = rw (x .0) (line-to s at i (p .begun) (p .inside) (p .few) (p .digits) h e (x .1) (x .2))

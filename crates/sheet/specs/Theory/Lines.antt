@@ -41,7 +41,7 @@ long-text text h = ap (λ t. sized text (leb 1 (length text) && t)) (lt-leb (len
     and-false true = refl
     and-false false = refl
 
-right-text : (text : List ℕ) → (length text ≡ 0 → ⊥) → length text ≤ max-text → read text ≡ read-rows start 0 (rows text)
+right-text : (text : List ℕ) → 1 ≤ length text → length text ≤ max-text → read text ≡ read-rows start 0 (rows text)
 unfolding read sized
 right-text text n h = ap (sized text) (both (leb 1 (length text)) (leb (length text) max-text) (le-leb 1 (length text) (omega arith)) (le-leb (length text) max-text h))
   where
@@ -56,7 +56,7 @@ pub record Passing (text : List ℕ) (k : Known) (at line : ℕ) : Type 0 where
   pub counted : line ≤ at
   pub same : read text ≡ read-rows state line (rows (drop at text))
 
-pub passing-start : (text : List ℕ) (k : Known) → (length text ≡ 0 → ⊥) → length text ≤ max-text → none-known k → Passing text k 0 0
+pub passing-start : (text : List ℕ) (k : Known) → 1 ≤ length text → length text ≤ max-text → none-known k → Passing text k 0 0
 passing-start text k n h g = record { state = start; knows = g; inside = omega arith; counted = omega arith; same = right-text text n h }
 
 after-row : (line : ℕ) (more : List Row) → Result State → Reading Sheet

@@ -1,111 +1,23 @@
--- `sheet::read::read_sheet` reads a sheet. The loop's invariant, `Passing`: what is left of the text decides.
-use Prim.Native.Nat.{_-_}
+-- `sheet::read::read_sheet` reads a sheet: its length, then its lines.
 use native.Mathlib.Omega.{arith}
 use borrow.Author.Needs.{needs}
-use lib.ListN.{length}
-use mathlib.Core.Path.{subst}
-use Rattle.sheet.specs.Cursor.{RowRead}
-use Rattle.sheet.specs.Theory.Lines.{Passing, empty-text, long-text, passing-start, line-broken, line-body, line-some, line-refused, line-next, no-equations, all-accepted, by-refused-at}
+use Rattle.sheet.specs.Theory.Lines.{empty-text, long-text, by-refused-at}
 use Rattle.sheet.proofs.read.read_sheet.Statement.{statement}
 use Rattle.sheet.proofs.read.read_sheet.Tie as tie
 
-abbrev Inv-loop : tie.InvT-loop
-Inv-loop s n known₀ at₀ line₀ known at line = Passing s known at line
-
-abbrev μ-loop : tie.MeasureT-loop
-μ-loop s n known₀ at₀ line₀ known at line = length s - at
-
-returns : tie.Need-returns Inv-loop μ-loop
+returns : tie.Need-returns
 returns c = by-refused-at _ _ 0 (c .refused-at .ensures) (empty-text _ (c .before .if1 .taken)) (omega arith)
 
-returns-2 : tie.Need-returns-2 Inv-loop μ-loop
+returns-2 : tie.Need-returns-2
 returns-2 c = by-refused-at _ _ 0 (c .refused-at2 .ensures) (long-text _ (c .before .if2 .taken)) (omega arith)
-
-loop-holds : tie.Need-loop-holds Inv-loop μ-loop
-loop-holds c = passing-start _ _ (c .before .before .if1 .left) (c .before .if2 .left) (c .nothing .ensures)
-
-returns-3 : tie.Need-returns-3 Inv-loop μ-loop
-returns-3 c =
-    let row = c .before .before .before in
-    let loop = row .before .before .loop in
-    by-refused-at _ _ _ (c .refused-at3 .ensures) (line-broken _ _ _ _ (loop .inv) (subst (RowRead _ _) (c .before .enum-told .given .1) (row .row-end .ensures)))
-    (omega (arith, loop .inv .counted, row .before .loop-test .taken, row .before .before .before .before .if2 .left))
-
-read-frame-requires : tie.Need-read-frame-requires Inv-loop μ-loop
-read-frame-requires c κs =
-    let row = c .before .before .before in
-    let loop = row .before .before .loop in
-    let line = subst (RowRead _ _) (c .before .end .given .1) (row .row-end .ensures) in
-    (line-body _ _ _ _ (loop .inv) _ line, line-some _ _ _ _ (loop .inv) _ line, (loop .inv .state, loop .inv .knows))
-
-returns-4 : tie.Need-returns-4 Inv-loop μ-loop
-returns-4 c =
-    let frame = c .before .before .before .before in
-    let row = frame .before .before .before .before in
-    let loop = row .before .before .loop in
-    let line = subst (RowRead _ _) (frame .before .before .end .given .1) (row .row-end .ensures) in
-    by-refused-at _ _ _ (c .refused-at4 .ensures) (line-refused _ _ _ _ (loop .inv) _ line _ _ (frame .read-frame .ensures) (c .before .before .outcome .given .1))
-    (omega (arith, loop .inv .counted, row .before .loop-test .taken, row .before .before .before .before .if2 .left))
-
-loop-less : tie.Need-loop-less Inv-loop μ-loop
-loop-less c =
-    let frame = c .before .before .before in
-    let row = frame .before .before .before .before in
-    let loop = row .before .before .loop in
-    let line = subst (RowRead _ _) (frame .before .before .end .given .1) (row .row-end .ensures) in
-    omega (arith, line .inside, line .even, row .before .loop-test .taken)
-
-loop-again : tie.Need-loop-again Inv-loop μ-loop
-loop-again c =
-    let frame = c .before .before .before in
-    let row = frame .before .before .before .before in
-    let loop = row .before .before .loop in
-    let line = subst (RowRead _ _) (frame .before .before .end .given .1) (row .row-end .ensures) in
-    line-next _ _ _ _ (loop .inv) _ line (frame .read-frame .result .known) (frame .read-frame .result .outcome) (frame .read-frame .ensures) (c .before .enum-told2 .given .1)
-
-add-at : tie.Need-add-at Inv-loop μ-loop
-add-at c =
-    let frame = c .before .before .before in
-    let row = frame .before .before .before .before in
-    let line = subst (RowRead _ _) (frame .before .before .end .given .1) (row .row-end .ensures) in
-    omega (arith, line .inside)
-
-returns-5 : tie.Need-returns-5 Inv-loop μ-loop
-returns-5 c =
-    let loop = c .before .before .before .before .loop in
-    by-refused-at _ _ _ (c .refused-at5 .ensures) (no-equations _ _ _ _ (loop .inv) (c .before .before .before .loop-test .left) (c .before .if3 .taken)) (omega (arith, loop .inv .counted, loop .inv .inside, c .before .before .before .before .before .before .if2 .left))
-
-returns-6 : tie.Need-returns-6 Inv-loop μ-loop
-returns-6 c = all-accepted _ _ _ _ (c .before .before .before .loop .inv) (c .before .before .loop-test .left) (c .if3 .left)
 
 pub read-sheet-spec : {M : Type 1} → statement M
 read-sheet-spec =
     tie.close
     (tie.spec
-    Inv-loop
-    μ-loop
     (λ c κs. search needs)
     returns
     (λ c κs. search needs)
     returns-2
     (λ c κs. search needs)
-    loop-holds
-    (λ c κs. search needs)
-    (λ c. search needs)
-    (λ c. search needs)
-    (λ c κs. search needs)
-    returns-3
-    (λ c. search needs)
-    read-frame-requires
-    (λ c. search needs)
-    (λ c. search needs)
-    (λ c κs. search needs)
-    returns-4
-    (λ c. search needs)
-    add-at
-    (λ c. search needs)
-    loop-less
-    loop-again
-    (λ c κs. search needs)
-    returns-5
-    returns-6)
+    (λ c. search needs))

@@ -3,7 +3,7 @@ use mathlib.Core.Path.{_≡_, subst, sym}
 use native.Mathlib.Omega.{arith}
 use borrow.Author.Needs.{needs}
 use Rattle.sheet.specs.Scan.{listed}
-use Rattle.sheet.specs.Theory.Between.{Scanning, scanning-start, stop-done, stop-early, stop-full, stop-refused, byte-small, next-inside, scanning-next, told-after, told-width}
+use Rattle.sheet.specs.Theory.Between.{Scanning, scanning-start, stop-done, stop-early, stop-full, stop-refused, byte-small, next-inside, scanning-next, scanning-declared, told-after, told-width}
 use Rattle.sheet.proofs.scan.scan.Statement.{statement}
 use Rattle.sheet.proofs.scan.scan.Tie as tie
 
@@ -31,37 +31,55 @@ byte-at-requires c κs =
     let loop = c .before .before .before .loop in
     omega (arith, next-inside _ _ _ _ _ _ _ _ (loop .at) (loop .need) (loop .room) (loop .widest) (loop .inv) (c .before .if1 .left), loop .inv .inside)
 
+add-at : tie.Need-add-at Inv-loop μ-loop
+add-at c =
+    let read = c .before .before in
+    let loop = read .before .before .before .before .loop in
+    omega (arith, next-inside _ _ _ _ _ _ _ _ (loop .at) (loop .need) (loop .room) (loop .widest) (loop .inv) (read .before .before .if1 .left), loop .inv .inside)
+
+loop-again : tie.Need-loop-again Inv-loop μ-loop
+loop-again c =
+    let read = c .before .before in
+    let loop = read .before .before .before .before .loop in
+    scanning-declared _ _ _ _ _ _ _ _ _ (loop .at) (loop .need) (loop .room) (loop .widest) (loop .inv) (read .before .before .if1 .left) (read .before .before .before .loop-test .taken) (read .before .if2 .left)
+    (read .before .before .before .before .before .before .before .pre .few-symbols) (read .byte-at .ensures) (c .before .if3 .taken) (c .wide .ensures .0) (c .wide .ensures .1)
+
 cast-classify : tie.Need-cast-classify Inv-loop μ-loop
 cast-classify c =
-    let loop = c .before .before .before .before .loop in
-    omega (arith, c .byte-at .ensures, byte-small _ _ _ _ _ _ _ _ (loop .at) (loop .need) (loop .room) (loop .widest) (loop .inv) (c .before .before .if1 .left))
+    let read = c .before in
+    let loop = read .before .before .before .before .loop in
+    omega (arith, read .byte-at .ensures, byte-small _ _ _ _ _ _ _ _ (loop .at) (loop .need) (loop .room) (loop .widest) (loop .inv) (read .before .before .if1 .left))
 
 terms-after-requires : tie.Need-terms-after-requires Inv-loop μ-loop
-terms-after-requires c κs = omega (arith, c .before .before .before .before .before .before .loop .inv .few, c .before .before .before .before .before .before .before .before .before .pre .few-symbols)
+terms-after-requires c κs =
+    let read = c .before .before .before in
+    omega (arith, read .before .before .before .before .loop .inv .few, read .before .before .before .before .before .before .before .pre .few-symbols)
 
 returns-3 : tie.Need-returns-3 Inv-loop μ-loop
 returns-3 c =
     let call = c .before .before .before in
-    let loop = call .before .before .before .before .before .before .before .loop in
-    stop-refused _ _ _ _ _ _ _ _ (loop .at) (loop .need) (loop .room) (loop .widest) (loop .inv) (call .before .before .before .before .before .if1 .left) (call .before .before .before .before .before .before .loop-test .taken)
-    (call .before .before .before .before .if2 .left) _ (told-after _ _ _ (call .before .before .before .byte-at .ensures) (call .before .before .classify .ensures) (call .terms-after .ensures .0) (c .before .r .given .1))
+    let read = call .before .before .before .before in
+    let loop = read .before .before .before .before .loop in
+    stop-refused _ _ _ _ _ _ _ _ (loop .at) (loop .need) (loop .room) (loop .widest) (loop .inv) (read .before .before .if1 .left) (read .before .before .before .loop-test .taken)
+    (read .before .if2 .left) _ (told-after _ _ _ (read .byte-at .ensures) (call .before .before .classify .ensures) (call .terms-after .ensures .0) (c .before .r .given .1))
 
-add-at : tie.Need-add-at Inv-loop μ-loop
-add-at c =
-    let call = c .before .before .before in
-    let loop = call .before .before .before .before .before .before .before .loop in
-    omega (arith, next-inside _ _ _ _ _ _ _ _ (loop .at) (loop .need) (loop .room) (loop .widest) (loop .inv) (call .before .before .before .before .before .if1 .left), loop .inv .inside)
+add-at-2 : tie.Need-add-at-2 Inv-loop μ-loop
+add-at-2 c =
+    let read = c .before .before .before .before .before .before .before in
+    let loop = read .before .before .before .before .loop in
+    omega (arith, next-inside _ _ _ _ _ _ _ _ (loop .at) (loop .need) (loop .room) (loop .widest) (loop .inv) (read .before .before .if1 .left), loop .inv .inside)
 
-loop-again : tie.Need-loop-again Inv-loop μ-loop
-loop-again c =
+loop-again-2 : tie.Need-loop-again-2 Inv-loop μ-loop
+loop-again-2 c =
     let call = c .before .before .before .before .before in
-    let loop = call .before .before .before .before .before .before .before .loop in
+    let read = call .before .before .before .before in
+    let loop = read .before .before .before .before .loop in
     let n = c .before .before .before .n .given in
     let most = subst (Rattle.sheet.specs.Scan.NeedAtMost _) (n .1) (call .terms-after .ensures .1) in
     let next =
-    scanning-next _ _ _ _ _ _ _ _ (loop .at) (loop .need) (loop .room) (loop .widest) (loop .inv) (call .before .before .before .before .before .if1 .left) (call .before .before .before .before .before .before .loop-test .taken)
-    (call .before .before .before .before .if2 .left) (n .0 .0) (told-after _ _ _ (call .before .before .before .byte-at .ensures) (call .before .before .classify .ensures) (call .terms-after .ensures .0) (n .1)) most in
-    subst (Scanning _ _ _ _ _ _ _ _ _ _ _) (told-width (loop .widest) (call .before .before .before .byte-at .ensures) (call .before .before .classify .ensures) (c .before .node-width .ensures) (c .greater .ensures)) next
+    scanning-next _ _ _ _ _ _ _ _ (loop .at) (loop .need) (loop .room) (loop .widest) (loop .inv) (read .before .before .if1 .left) (read .before .before .before .loop-test .taken)
+    (read .before .if2 .left) (n .0 .0) (told-after _ _ _ (read .byte-at .ensures) (call .before .before .classify .ensures) (call .terms-after .ensures .0) (n .1)) most in
+    subst (Scanning _ _ _ _ _ _ _ _ _ _ _) (told-width (loop .widest) (read .byte-at .ensures) (call .before .before .classify .ensures) (c .before .node-width .ensures) (c .greater .ensures)) next
 
 returns-4 : tie.Need-returns-4 Inv-loop μ-loop
 returns-4 c =
@@ -78,6 +96,14 @@ scan-spec =
     returns
     returns-2
     byte-at-requires
+    (λ c. search needs)
+    (λ c κs. search needs)
+    (λ c. search needs)
+    (λ c. search needs)
+    (λ c. search needs)
+    add-at
+    (λ c. search needs)
+    loop-again
     cast-classify
     (λ c κs. search needs)
     (λ c. search needs)
@@ -86,9 +112,9 @@ scan-spec =
     returns-3
     (λ c. search needs)
     (λ c. search needs)
-    add-at
+    add-at-2
     (λ c κs. search needs)
     (λ c κs. search needs)
     (λ c. search needs)
-    loop-again
+    loop-again-2
     returns-4)

@@ -4,7 +4,8 @@ use mathlib.Core.Path.{subst, sym}
 use native.Mathlib.Omega.{arith}
 use borrow.Author.Needs.{needs}
 use lib.ListN.{length}
-use Rattle.sheet.specs.Theory.Cursor.{Passed, passed-start, passed-next, passed-ended, passed-other, passed-long, passed-unended, digit-no-end}
+use Rattle.sheet.specs.Cursor.{Passed}
+use Rattle.sheet.specs.Theory.Cursor.{passed-next, passed-ended, passed-other, passed-long, passed-unended, digit-no-end}
 use Rattle.sheet.proofs.text.row_end.Statement.{statement}
 use Rattle.sheet.proofs.text.row_end.Tie as tie
 
@@ -15,7 +16,7 @@ abbrev μ-loop : tie.MeasureT-loop
 μ-loop s at i₀ i = length s - i
 
 loop-holds : tie.Need-loop-holds Inv-loop μ-loop
-loop-holds c = passed-start _ _ (c .before .pre)
+loop-holds c = c .sixteens-end .ensures
 
 returns : tie.Need-returns Inv-loop μ-loop
 returns c =
@@ -38,7 +39,7 @@ loop-again c =
     passed-next _ _ _ (loop .inv) (c .before .before .before .before .loop-test .taken) (omega (arith, c .before .before .digit-value .ensures, c .before .if1 .left)) (c .if3 .left)
 
 returns-4 : tie.Need-returns-4 Inv-loop μ-loop
-returns-4 c = passed-unended _ _ _ (c .before .loop .inv) (c .loop-test .left) (c .before .before .before .pre)
+returns-4 c = passed-unended _ _ _ (c .before .loop .inv) (c .loop-test .left) (c .before .before .before .before .pre)
 
 pub row-end-spec : {M : Type 1} → statement M
 row-end-spec =
@@ -46,6 +47,7 @@ row-end-spec =
     (tie.spec
     Inv-loop
     μ-loop
+    (λ c κs. search needs)
     loop-holds
     (λ c. search needs)
     (λ c κs. search needs)
