@@ -4,8 +4,8 @@ use native.Mathlib.Omega.{arith}
 use Rattle.comparing.specs.Theory.Nodes.{row-first, within, ends-within}
 use Rattle.comparing.proofs.Rows.{lighter, reaching-none, reaching-first, reaching-others}
 use Rattle.comparing.proofs.argument_reaches.Reads as argument-reaches
-use Rattle.comparing.proofs.+argument_reaches+compare_arguments+exceeds+exceeds_arguments.Lts-argument_reaches as argument-reaches-lts
-use Rattle.comparing.proofs.+argument_reaches+compare_arguments+exceeds+exceeds_arguments.Proof.Measures.{argument-reaches-at, argument-reaches-calls}
+use Rattle.comparing.proofs.+argument_reaches+compare_arguments+compare_symbols+exceeds+exceeds_arguments.Lts-argument_reaches as argument-reaches-lts
+use Rattle.comparing.proofs.+argument_reaches+compare_arguments+compare_symbols+exceeds+exceeds_arguments.Proof.Measures.{argument-reaches-at, argument-reaches-calls}
 
 pub argument-reaches-exceeds-requires : (t : ℕ) → argument-reaches-lts.Need-exceeds-requires (argument-reaches-calls t) (argument-reaches-at t) argument-reaches.Post
 argument-reaches-exceeds-requires t c κs =

@@ -4,8 +4,8 @@ use native.Mathlib.Omega.{arith}
 use Rattle.comparing.specs.Theory.Nodes.{row-first, within, ends-within}
 use Rattle.comparing.proofs.Rows.{lighter, all-none, all-not, all-others}
 use Rattle.comparing.proofs.exceeds_arguments.Reads as exceeds-arguments
-use Rattle.comparing.proofs.+argument_reaches+compare_arguments+exceeds+exceeds_arguments.Lts-exceeds_arguments as exceeds-arguments-lts
-use Rattle.comparing.proofs.+argument_reaches+compare_arguments+exceeds+exceeds_arguments.Proof.Measures.{exceeds-arguments-at, exceeds-arguments-calls}
+use Rattle.comparing.proofs.+argument_reaches+compare_arguments+compare_symbols+exceeds+exceeds_arguments.Lts-exceeds_arguments as exceeds-arguments-lts
+use Rattle.comparing.proofs.+argument_reaches+compare_arguments+compare_symbols+exceeds+exceeds_arguments.Proof.Measures.{exceeds-arguments-at, exceeds-arguments-calls}
 
 pub exceeds-arguments-exceeds-requires : (t : ℕ) → exceeds-arguments-lts.Need-exceeds-requires (exceeds-arguments-calls t) (exceeds-arguments-at t) exceeds-arguments.Post
 exceeds-arguments-exceeds-requires t c κs =
