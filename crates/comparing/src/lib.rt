@@ -13,6 +13,12 @@ ghost use Rattle.comparing.specs.Sizes.{Whole, Measurable, node-sizes};
 // The number of nodes: 64 positions of an equation, then 160 of the subject.
 const NODE_COUNT: usize = 224;
 
+// The subject's first node.
+pub const SUBJECT: usize = 64;
+
+// One cell for each pair of nodes.
+pub const CELLS: usize = 50176;
+
 const FIRST_VARIABLE: u8 = 128;
 
 // The verdicts: the first term is smaller, equal or greater.
