@@ -5,13 +5,17 @@ use mathlib.Core.List.{List}
 use native.Mathlib.Omega.{arith}
 use lib.ListN.{getD, set}
 use Rattle.format.specs.Limits.{first-variable}
-use Rattle.terms.specs.Term.{app, nil, append, size, sizes}
+use Rattle.terms.specs.Term.{app, nil, size, sizes}
+use Rattle.terms.specs.Theory.Append.{append}
 use Rattle.ordering.specs.Verdict.{verdict}
 use Rattle.comparing.specs.Nodes.{node-count, Memory}
-use Rattle.comparing.specs.Comparing.{resolved, HasTerm, HasTerms, HasLists, Compares}
+use Rattle.comparing.specs.Comparing.{resolved, HasTerm, HasTerms, Compares}
 use Rattle.comparing.specs.Theory.Nodes.{within, ends-within, symbol-at}
 use Rattle.comparing.proofs.Weight.{term-weight, row-weight, term-weighs, row-weighs}
 use Rattle.comparing.proofs.Resolved.{resolved-symbol, resolved-node}
+use Rattle.comparing.proofs.Rows.{HasLists}
+use Rattle.comparing.proofs.Rules.{rule-same}
+use Rattle.comparing.proofs.Loops.{Comparing}
 use Rattle.comparing.proofs.Cells.{number-few, cell-known, cell-set, compares-resolved}
 
 -- A node `i` with a term, and the node `a` that it gives way to.
@@ -66,6 +70,11 @@ module _ {nodes lengths values : List ℕ} {i j a b : ℕ} (x : Resolves nodes l
         second-term = rw d at (y .here .stands);
         second-row = y .arguments .stand;
       }
+
+  -- Two symbols that are the same, before their first arguments.
+  pub comparing-start : {cells : List ℕ} → Memory nodes lengths values cells → getD nodes a 0 ≡ getD nodes b 0
+      → Comparing nodes lengths values a b (a + getD lengths a 0) (b + getD lengths b 0) cells (a + 1) (b + 1)
+  comparing-start m e = record { memory = m; lists = argument-lists e; back = λ r o. rule-same (x .symbol) (y .symbol) e o }
 
   pub number-below : {r : ℕ} → Compares nodes lengths values a b r → r < 3
   number-below c =

@@ -6,15 +6,15 @@ use mathlib.Core.Bool.{Bool, true, false}
 use mathlib.Core.List.{List}
 use native.Mathlib.Omega.{arith}
 use lib.ListN.{getD}
-use Rattle.terms.specs.Term.{Term, Terms, app, nil, cons, append, size, sizes}
+use Rattle.terms.specs.Term.{Term, Terms, app, nil, cons, size, sizes}
 use Rattle.terms.specs.Theory.Position.{size-pos}
-use Rattle.terms.specs.Theory.Append.{arguments-differ, nil-cons, append-first, sizes-append}
+use Rattle.terms.specs.Theory.Append.{append, arguments-differ, nil-cons, append-first, sizes-append}
 use Rattle.ordering.specs.Order.{_≻_, SomeReaches, there, ExceedsAll, none, more}
 use Rattle.ordering.specs.Verdict.{verdict, verdict-number}
 use Rattle.ordering.specs.Theory.Laws.{≻-irrefl}
 use Rattle.ordering.specs.Theory.Question.{greater-argument, smaller-argument, more-arguments, fewer-arguments}
 use Rattle.comparing.specs.Nodes.{ValueOf, TermAt, TermsAt}
-use Rattle.comparing.specs.Comparing.{HasLists, greater-if, Compares, FindsReaching, ComparesWithAll, ComparesLists}
+use Rattle.comparing.specs.Comparing.{greater-if, Compares, FindsReaching, ComparesWithAll}
 use Rattle.ordering.specs.Theory.Decide.{some-nil, all-head, all-tail}
 use Rattle.comparing.specs.Theory.Nodes.{First, row-first, row-empty}
 use Rattle.ordering.specs.Theory.Verdict.{number-smaller, number-equal, number-greater, number-not-greater, reaches-first, reaches-later, smaller-number, equal-number, greater-number}
@@ -39,8 +39,26 @@ pub record Lighter (nodes lengths values : List ℕ) (k end : ℕ) : Type 0 wher
   pub others : row-weight nodes lengths values (k + getD lengths k 0) end < row-weight nodes lengths values k end
 
 pub record Balanced (nodes lengths values : List ℕ) (i k m j l n : ℕ) : Type 0 where
-  pub equal : term-weight nodes lengths values i + row-weight nodes lengths values l n ≡ row-weight nodes lengths values k m + term-weight nodes lengths values j
-  pub less : row-weight nodes lengths values k m < term-weight nodes lengths values i
+  pub first : row-weight nodes lengths values k m < term-weight nodes lengths values i
+  pub second : row-weight nodes lengths values l n < term-weight nodes lengths values j
+
+module _ (nodes lengths values : List ℕ) where
+  -- At `i` and `j` stand terms with the same symbol, whose first arguments are the same; the two rows have their other arguments.
+  pub record HasLists (i k m j l n : ℕ) : Type 0 where
+    pub symbol : ℕ
+    pub same : Terms
+    pub first : Terms
+    pub second : Terms
+    pub first-term : TermAt nodes lengths values i (app symbol (append same first))
+    pub first-row : TermsAt nodes lengths values k m first
+    pub second-term : TermAt nodes lengths values j (app symbol (append same second))
+    pub second-row : TermsAt nodes lengths values l n second
+
+  -- L3: "f = g and for some k, si = ti for i < k": the verdict of the terms at `i` and `j`, whose arguments before the two rows are the same.
+  pub record ComparesLists (i k m j l n r : ℕ) : Type 0 where
+    pub number : (f : ℕ) (same ss ts : Terms) → TermAt nodes lengths values i (app f (append same ss)) → TermsAt nodes lengths values k m ss
+        → TermAt nodes lengths values j (app f (append same ts)) → TermsAt nodes lengths values l n ts
+        → r ≡ verdict-number (verdict (app f (append same ss)) (app f (append same ts)))
 
 module _ {nodes lengths values : List ℕ} where
   pub lighter : {k end : ℕ} {ts : Terms} → TermsAt nodes lengths values k end ts → k < end → Lighter nodes lengths values k end
@@ -50,7 +68,7 @@ module _ {nodes lengths values : List ℕ} where
       let e : row-weight nodes lengths values k end ≡ size (f .first) + sizes (f .others) = row-weighs a ∙ ap sizes (f .are) in
       record { first = omega (arith, e, term-weighs (f .stands)); others = omega (arith, e, row-weighs (f .row), size-pos (f .first)) }
 
-  -- Both rows come behind the same arguments.
+  -- The arguments weigh less than their terms.
   pub balanced : {i k m j l n : ℕ} → HasLists nodes lengths values i k m j l n → Balanced nodes lengths values i k m j l n
   unfolding size
   balanced h =
@@ -60,7 +78,7 @@ module _ {nodes lengths values : List ℕ} where
       let b = term-weighs (h .second-term) in
       let c = row-weighs (h .first-row) in
       let d = row-weighs (h .second-row) in
-      record { equal = omega arith; less = omega arith }
+      record { first = omega arith; second = omega arith }
 
   -- L1.
   module _ {k end j : ℕ} where

@@ -6,13 +6,14 @@ use mathlib.Core.List.{List}
 use native.Mathlib.Omega.{arith}
 use lib.ListN.{getD}
 use Rattle.format.specs.Limits.{first-variable}
-use Rattle.terms.specs.Term.{Term, app, nil, append}
+use Rattle.terms.specs.Term.{Term, app, nil}
+use Rattle.terms.specs.Theory.Append.{append}
 use Rattle.ordering.specs.Verdict.{verdict, verdict-number}
 use Rattle.ordering.specs.Theory.Question.{greater-symbol, smaller-symbol}
 use Rattle.comparing.specs.Nodes.{TermAt}
-use Rattle.comparing.specs.Comparing.{greater-if, Compares, FindsReaching, ComparesWithAll, ComparesLists}
+use Rattle.comparing.specs.Comparing.{greater-if, Compares, FindsReaching, ComparesWithAll}
 use Rattle.comparing.specs.Theory.Nodes.{symbol-at}
-use Rattle.comparing.proofs.Rows.{decides}
+use Rattle.comparing.proofs.Rows.{ComparesLists, decides}
 
 module _ {nodes lengths values : List ℕ} {i j : ℕ} (x : getD nodes i 0 < first-variable) (y : getD nodes j 0 < first-variable) where
   pub rule-smaller : {q : Bool} {p : ℕ} → getD nodes i 0 < getD nodes j 0 → FindsReaching nodes lengths values (i + 1) (i + getD lengths i 0) j q → p ≡ greater-if q → Compares nodes lengths values i j p

@@ -7,7 +7,7 @@ use mathlib.Core.List.{List}
 use lib.ListN.{getD}
 use lib.Dec.{ltb}
 use Rattle.format.specs.Limits.{first-variable}
-use Rattle.terms.specs.Term.{Term, Terms, app, append}
+use Rattle.terms.specs.Term.{Term, Terms}
 use Rattle.ordering.specs.Order.{SomeReaches, ExceedsAll}
 use Rattle.ordering.specs.Verdict.{smaller, greater, verdict, verdict-number}
 use Rattle.comparing.specs.Nodes.{TermAt, TermsAt}
@@ -32,17 +32,6 @@ module _ (nodes lengths values : List ℕ) where
     pub terms : Terms
     pub stand : TermsAt nodes lengths values k end terms
 
-  -- At `i` and `j` stand terms with the same symbol, whose first arguments are the same; the two rows have their other arguments.
-  pub record HasLists (i k m j l n : ℕ) : Type 0 where
-    pub symbol : ℕ
-    pub same : Terms
-    pub first : Terms
-    pub second : Terms
-    pub first-term : TermAt nodes lengths values i (app symbol (append same first))
-    pub first-row : TermsAt nodes lengths values k m first
-    pub second-term : TermAt nodes lengths values j (app symbol (append same second))
-    pub second-row : TermsAt nodes lengths values l n second
-
   -- "Compare: 0 smaller, 1 equal, 2 greater."
   pub record Compares (i j r : ℕ) : Type 0 where
     pub number : (s t : Term) → TermAt nodes lengths values i s → TermAt nodes lengths values j t → r ≡ verdict-number (verdict s t)
@@ -54,9 +43,3 @@ module _ (nodes lengths values : List ℕ) where
   -- L2: "s > tj for every j"
   pub record ComparesWithAll (i k end : ℕ) (r : Bool) : Type 0 where
     pub tells : (s : Term) (ts : Terms) → TermAt nodes lengths values i s → TermsAt nodes lengths values k end ts → (r ≡ true) ↔ ExceedsAll s ts
-
-  -- L3: "f = g and for some k, si = ti for i < k": the verdict of the terms at `i` and `j`, whose arguments before the two rows are the same.
-  pub record ComparesLists (i k m j l n r : ℕ) : Type 0 where
-    pub number : (f : ℕ) (same ss ts : Terms) → TermAt nodes lengths values i (app f (append same ss)) → TermsAt nodes lengths values k m ss
-        → TermAt nodes lengths values j (app f (append same ts)) → TermsAt nodes lengths values l n ts
-        → r ≡ verdict-number (verdict (app f (append same ss)) (app f (append same ts)))

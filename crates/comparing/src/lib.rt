@@ -7,7 +7,7 @@ ghost use lib.ListN.{length, getD, set, take, drop};
 ghost use lib.Seq.{slice};
 ghost use Rattle.format.specs.Limits.{first-variable};
 ghost use Rattle.comparing.specs.Nodes.{node-count, Memory};
-ghost use Rattle.comparing.specs.Comparing.{resolved, greater-if, HasTerm, HasTerms, HasLists, Compares, FindsReaching, ComparesWithAll, ComparesLists};
+ghost use Rattle.comparing.specs.Comparing.{resolved, greater-if, HasTerm, HasTerms, Compares, FindsReaching, ComparesWithAll};
 ghost use Rattle.comparing.specs.Sizes.{Whole, Measurable, node-sizes};
 
 // The number of nodes: 64 positions of an equation, then 160 of the subject.
@@ -92,8 +92,8 @@ pub fn exceeds(
     settle(cells, cell, verdict)
 }
 
-// The verdict of the terms at two nodes that are symbols, by the one question that decides it: a term that exceeds another exceeds its arguments too, so
-// that L1 is asked only where L2 and L3 cannot hold.
+// The verdict of the terms at two nodes that are symbols, by one question. A term that exceeds another exceeds its arguments too, so that L1 need be
+// asked only where L2 and L3 cannot hold.
 fn compare_symbols(
     nodes: &[u8],
     sizes: &[u8],
@@ -110,15 +110,15 @@ fn compare_symbols(
 {
     let f = nodes[i];
     let g = nodes[j];
-    let m = i + wide(sizes[i]);
-    let n = j + wide(sizes[j]);
     if f < g {
-        return greater_if(argument_reaches(nodes, sizes, values, cells, i + 1, m, j));
+        let end = i + wide(sizes[i]);
+        return greater_if(argument_reaches(nodes, sizes, values, cells, i + 1, end, j));
     }
     if g < f {
-        return greater_if(exceeds_arguments(nodes, sizes, values, cells, i, j + 1, n));
+        let end = j + wide(sizes[j]);
+        return greater_if(exceeds_arguments(nodes, sizes, values, cells, i, j + 1, end));
     }
-    compare_arguments(nodes, sizes, values, cells, i, i + 1, m, j, j + 1, n)
+    compare_arguments(nodes, sizes, values, cells, i, j)
 }
 
 // L1: whether one of the terms from k to end equals or exceeds the term at j.
@@ -137,11 +137,12 @@ fn argument_reaches(
     ensures { λ r. ⌜ FindsReaching (now (nodes .entry)) (now (sizes .entry)) (now (values .entry)) k end j r ⌝ }
     ensures { λ _. ⌜ Memory (now (nodes .entry)) (now (sizes .entry)) (now (values .entry)) (now (cells .exit)) ⌝ }
 {
-    if k < end {
-        if SMALLER < exceeds(nodes, sizes, values, cells, k, j) {
+    let mut at = k;
+    while at < end {
+        if SMALLER < exceeds(nodes, sizes, values, cells, at, j) {
             return true;
         }
-        return argument_reaches(nodes, sizes, values, cells, k + wide(sizes[k]), end, j);
+        at = at + wide(sizes[at]);
     }
     false
 }
@@ -162,53 +163,57 @@ fn exceeds_arguments(
     ensures { λ r. ⌜ ComparesWithAll (now (nodes .entry)) (now (sizes .entry)) (now (values .entry)) i k end r ⌝ }
     ensures { λ _. ⌜ Memory (now (nodes .entry)) (now (sizes .entry)) (now (values .entry)) (now (cells .exit)) ⌝ }
 {
-    if k < end {
-        if exceeds(nodes, sizes, values, cells, i, k) < GREATER {
+    let mut at = k;
+    while at < end {
+        if exceeds(nodes, sizes, values, cells, i, at) < GREATER {
             return false;
         }
-        return exceeds_arguments(nodes, sizes, values, cells, i, k + wide(sizes[k]), end);
+        at = at + wide(sizes[at]);
     }
     true
 }
 
-// L3: the verdict of the terms at i and j, which have the same symbol; their arguments from k to m and from l to n are compared up to the first
-// two that are not equal, and those before them are the same.
+// L3: the verdict of the terms s and t at i and j, which have the same symbol, by their first two arguments, at k and l, that are not equal.
 fn compare_arguments(
     nodes: &[u8],
     sizes: &[u8],
     values: &[u8],
     cells: &mut [u8],
     i: usize,
-    k: usize,
-    m: usize,
     j: usize,
-    l: usize,
-    n: usize,
 ) -> u8
     requires { ⌜ Memory (now nodes) (now sizes) (now values) (now cells) ⌝ }
-    requires { ⌜ HasLists (now nodes) (now sizes) (now values) i k m j l n ⌝ }
-    ensures { λ r. ⌜ ComparesLists (now (nodes .entry)) (now (sizes .entry)) (now (values .entry)) i k m j l n r ⌝ }
+    requires { ⌜ HasTerm (now nodes) (now sizes) (now values) i × (getD (now nodes) i 0 < first-variable) ⌝ }
+    requires { ⌜ HasTerm (now nodes) (now sizes) (now values) j × (getD (now nodes) j 0 ≡ getD (now nodes) i 0) ⌝ }
+    ensures { λ r. ⌜ Compares (now (nodes .entry)) (now (sizes .entry)) (now (values .entry)) i j r ⌝ }
     ensures { λ _. ⌜ Memory (now (nodes .entry)) (now (sizes .entry)) (now (values .entry)) (now (cells .exit)) ⌝ }
 {
-    if m <= k {
-        if l < n {
-            return SMALLER;
+    let m = i + wide(sizes[i]);
+    let n = j + wide(sizes[j]);
+    let mut k = i + 1;
+    let mut l = j + 1;
+    while k < m {
+        // Equally many arguments are not asked for: where t has no more, L1 is left.
+        if n <= l {
+            return greater_if(argument_reaches(nodes, sizes, values, cells, k, m, j));
         }
-        return EQUAL;
+        let verdict = exceeds(nodes, sizes, values, cells, k, l);
+        let next = k + wide(sizes[k]);
+        // L1 is left, and t exceeds the arguments of s up to k.
+        if verdict == SMALLER {
+            return greater_if(argument_reaches(nodes, sizes, values, cells, next, m, j));
+        }
+        let rest = l + wide(sizes[l]);
+        if verdict == GREATER {
+            return greater_if(exceeds_arguments(nodes, sizes, values, cells, i, rest, n));
+        }
+        k = next;
+        l = rest;
     }
-    if n <= l {
-        return greater_if(argument_reaches(nodes, sizes, values, cells, k, m, j));
+    if l < n {
+        return SMALLER;
     }
-    let verdict = exceeds(nodes, sizes, values, cells, k, l);
-    let next = k + wide(sizes[k]);
-    if verdict == SMALLER {
-        return greater_if(argument_reaches(nodes, sizes, values, cells, next, m, j));
-    }
-    let rest = l + wide(sizes[l]);
-    if verdict == GREATER {
-        return greater_if(exceeds_arguments(nodes, sizes, values, cells, i, rest, n));
-    }
-    compare_arguments(nodes, sizes, values, cells, i, next, m, j, rest, n)
+    EQUAL
 }
 
 // The number of nodes of the first of whole terms, where `sizes` has those of the terms that start at each node behind the first.

@@ -42,11 +42,6 @@ nth nil i d = d
 nth (cons t ts) ℕ.zero d = t
 nth (cons t ts) (suc i) d = nth ts i d
 
--- The terms of the first list, and behind them those of the second.
-unfoldable pub append : Terms → Terms → Terms
-append nil ts = ts
-append (cons s ss) ts = cons s (append ss ts)
-
 -- The arity of a symbol, where `arities` lists those of all symbols from 00 upward.
 unfoldable pub arity : List ℕ → ℕ → ℕ
 arity arities f = getD arities f 0

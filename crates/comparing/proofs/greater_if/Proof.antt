@@ -1,4 +1,4 @@
-use mathlib.Core.Path.{refl}
+-- `greater_if` meets its contract.
 use Rattle.comparing.specs.Comparing.{greater-if}
 use Rattle.comparing.proofs.greater_if.Statement.{statement}
 use Rattle.comparing.proofs.greater_if.Tie as tie

@@ -1,10 +1,11 @@
 -- One question decides s > t for s = f(s1..sm), t = g(t1..tn): with f > g whether s exceeds every argument of t, with f < g whether an argument of s
 -- reaches t, with f = g the one or the other of the arguments behind the first two that differ. Nothing is assumed of arities or variables.
 use Prim.Native.Nat.{ℕ, _<_}
-use mathlib.Core.Path.{_≡_, refl, subst}
+use mathlib.Core.Path.{_≡_, refl}
 use mathlib.Core.Logic.{_↔_}
 use native.Mathlib.Omega.{arith}
-use Rattle.terms.specs.Term.{Term, Terms, app, nil, cons, append}
+use Rattle.terms.specs.Term.{Term, Terms, app, nil, cons}
+use Rattle.terms.specs.Theory.Append.{append}
 use Rattle.ordering.specs.Order.{_≻_, L1, L2, L3, SomeReaches, here-equal, here-greater, there, ExceedsAll, Lexicographic, at-first, at-later}
 use Rattle.ordering.specs.Theory.Subterm.{reached-exceeded}
 use Rattle.ordering.specs.Theory.Laws.{≻-trans, ≻-irrefl, ≻-asym}

@@ -1,8 +1,13 @@
--- Laws of lists of terms one behind the other.
+-- Lists of terms one behind the other.
 use Prim.Native.Nat.{ℕ, _+_}
 use mathlib.Core.Path.{_≡_, refl, ap}
 use native.Mathlib.Omega.{arith}
-use Rattle.terms.specs.Term.{Term, Terms, app, nil, cons, append, sizes}
+use Rattle.terms.specs.Term.{Term, Terms, app, nil, cons, sizes}
+
+-- The terms of the first list, and behind them those of the second.
+unfoldable pub append : Terms → Terms → Terms
+append nil ts = ts
+append (cons s ss) ts = cons s (append ss ts)
 
 pub append-injective : (front ss ts : Terms) → append front ss ≡ append front ts → ss ≡ ts
 unfolding append

@@ -25,19 +25,19 @@ use Rattle.comparing.proofs.settle.Reads as settle-reads
 use Rattle.comparing.proofs.wide.Reads as wide-reads
 
 abbrev pub μ-argument-reaches : Measures 4 argument-reaches-kinds.ps ℕ
-μ-argument-reaches κs a = (row-weight (a .0 .now) (a .1 .0 .now) (a .1 .1 .0 .now) (a .1 .1 .1 .1 .0) (a .1 .1 .1 .1 .1 .0) + term-weight (a .0 .now) (a .1 .0 .now) (a .1 .1 .0 .now) (a .1 .1 .1 .1 .1 .1 .0)) * 4 + 2
+μ-argument-reaches κs a = (row-weight (a .0 .now) (a .1 .0 .now) (a .1 .1 .0 .now) (a .1 .1 .1 .1 .0) (a .1 .1 .1 .1 .1 .0) + term-weight (a .0 .now) (a .1 .0 .now) (a .1 .1 .0 .now) (a .1 .1 .1 .1 .1 .1 .0)) * 4 + 3
 
 abbrev pub μ-compare-arguments : Measures 4 compare-arguments-kinds.ps ℕ
-μ-compare-arguments κs a = (term-weight (a .0 .now) (a .1 .0 .now) (a .1 .1 .0 .now) (a .1 .1 .1 .1 .0) + row-weight (a .0 .now) (a .1 .0 .now) (a .1 .1 .0 .now) (a .1 .1 .1 .1 .1 .1 .1 .1 .0) (a .1 .1 .1 .1 .1 .1 .1 .1 .1 .0)) * 4 + 3
+μ-compare-arguments κs a = (term-weight (a .0 .now) (a .1 .0 .now) (a .1 .1 .0 .now) (a .1 .1 .1 .1 .0) + term-weight (a .0 .now) (a .1 .0 .now) (a .1 .1 .0 .now) (a .1 .1 .1 .1 .1 .0)) * 4
 
 abbrev pub μ-compare-symbols : Measures 4 compare-symbols-kinds.ps ℕ
-μ-compare-symbols κs a = (term-weight (a .0 .now) (a .1 .0 .now) (a .1 .1 .0 .now) (a .1 .1 .1 .1 .0) + term-weight (a .0 .now) (a .1 .0 .now) (a .1 .1 .0 .now) (a .1 .1 .1 .1 .1 .0)) * 4
+μ-compare-symbols κs a = (term-weight (a .0 .now) (a .1 .0 .now) (a .1 .1 .0 .now) (a .1 .1 .1 .1 .0) + term-weight (a .0 .now) (a .1 .0 .now) (a .1 .1 .0 .now) (a .1 .1 .1 .1 .1 .0)) * 4 + 1
 
 abbrev pub μ-exceeds : Measures 4 exceeds-kinds.ps ℕ
-μ-exceeds κs a = (term-weight (a .0 .now) (a .1 .0 .now) (a .1 .1 .0 .now) (a .1 .1 .1 .1 .0) + term-weight (a .0 .now) (a .1 .0 .now) (a .1 .1 .0 .now) (a .1 .1 .1 .1 .1 .0)) * 4 + 1
+μ-exceeds κs a = (term-weight (a .0 .now) (a .1 .0 .now) (a .1 .1 .0 .now) (a .1 .1 .1 .1 .0) + term-weight (a .0 .now) (a .1 .0 .now) (a .1 .1 .0 .now) (a .1 .1 .1 .1 .1 .0)) * 4 + 2
 
 abbrev pub μ-exceeds-arguments : Measures 4 exceeds-arguments-kinds.ps ℕ
-μ-exceeds-arguments κs a = (term-weight (a .0 .now) (a .1 .0 .now) (a .1 .1 .0 .now) (a .1 .1 .1 .1 .0) + row-weight (a .0 .now) (a .1 .0 .now) (a .1 .1 .0 .now) (a .1 .1 .1 .1 .1 .0) (a .1 .1 .1 .1 .1 .1 .0)) * 4 + 2
+μ-exceeds-arguments κs a = (term-weight (a .0 .now) (a .1 .0 .now) (a .1 .1 .0 .now) (a .1 .1 .1 .1 .0) + row-weight (a .0 .now) (a .1 .0 .now) (a .1 .1 .0 .now) (a .1 .1 .1 .1 .1 .0) (a .1 .1 .1 .1 .1 .1 .0)) * 4 + 3
 
 abbrev pub argument-reaches-at : ℕ → In 4 argument-reaches-kinds.ps
 argument-reaches-at t =
@@ -110,10 +110,10 @@ exceeds-arguments-below t =
     exceeds-arguments.Pre
 
 abbrev pub argument-reaches-calls : ℕ → argument-reaches-lts.Claims
-argument-reaches-calls t = (exceeds-below t, exceeds.Post, wide-reads.Asked, wide-reads.Learnt, argument-reaches-below t, argument-reaches.Post)
+argument-reaches-calls t = (exceeds-below t, exceeds.Post, wide-reads.Asked, wide-reads.Learnt)
 
 abbrev pub compare-arguments-calls : ℕ → compare-arguments-lts.Claims
-compare-arguments-calls t = (argument-reaches-below t, argument-reaches.Post, greater-if-reads.Asked, greater-if-reads.Learnt, exceeds-below t, exceeds.Post, wide-reads.Asked, wide-reads.Learnt, exceeds-arguments-below t, exceeds-arguments.Post, compare-arguments-below t, compare-arguments.Post)
+compare-arguments-calls t = (wide-reads.Asked, wide-reads.Learnt, argument-reaches-below t, argument-reaches.Post, greater-if-reads.Asked, greater-if-reads.Learnt, exceeds-below t, exceeds.Post, exceeds-arguments-below t, exceeds-arguments.Post)
 
 abbrev pub compare-symbols-calls : ℕ → compare-symbols-lts.Claims
 compare-symbols-calls t = (wide-reads.Asked, wide-reads.Learnt, argument-reaches-below t, argument-reaches.Post, greater-if-reads.Asked, greater-if-reads.Learnt, exceeds-arguments-below t, exceeds-arguments.Post, compare-arguments-below t, compare-arguments.Post)
@@ -122,4 +122,4 @@ abbrev pub exceeds-calls : ℕ → exceeds-lts.Claims
 exceeds-calls t = (resolve-reads.Asked, resolve-reads.Learnt, compare-symbols-below t, compare-symbols.Post, settle-reads.Asked, settle-reads.Learnt)
 
 abbrev pub exceeds-arguments-calls : ℕ → exceeds-arguments-lts.Claims
-exceeds-arguments-calls t = (exceeds-below t, exceeds.Post, wide-reads.Asked, wide-reads.Learnt, exceeds-arguments-below t, exceeds-arguments.Post)
+exceeds-arguments-calls t = (exceeds-below t, exceeds.Post, wide-reads.Asked, wide-reads.Learnt)
