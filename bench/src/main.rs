@@ -37,8 +37,8 @@ fn check() {
     }
 }
 
-/// Compare, on pairs of terms that ask for many verdicts: the whole call, which reads the sheet and clears scratch; the same work in
-/// plain Rust; and the reference, which settles fewer pairs.
+/// Compare, on pairs of large terms: the whole call, which reads the sheet and clears scratch; the same work in plain Rust; and the
+/// reference's own call.
 fn compare() {
     println!("\n{:44} {:>10} {:>10} {:>6} {:>12}", "compare", "proved ns", "plain ns", "ratio", "reference ns");
     let arities = compared_arities();

@@ -1,5 +1,5 @@
-//! The same memoised comparison in plain Rust: the arguments first (L1), then the symbols (L2), then the argument lists (L3),
-//! one cell for each ordered pair of nodes. Another order of work is in `reference`, which looks at the first differing arguments first.
+//! The same memoised comparison in plain Rust: the symbols, then the one question that decides the pair, with one cell for each ordered
+//! pair of nodes. Equal symbols have equally many arguments here, so that both lists end together.
 
 const NODES: usize = 224;
 const CELLS: usize = NODES * NODES;
@@ -46,25 +46,17 @@ impl Terms<'_> {
     }
 
     fn settle(&mut self, s: usize, t: usize) -> u8 {
-        if self.argument_reaches(s, t) {
-            return 2;
-        }
         let (f, g) = (self.nodes[s], self.nodes[t]);
         if f < g {
-            return 0;
+            return greater_if(self.reaches_from(s + 1, self.end(s), t));
         }
-        if f == g {
-            return self.compare_arguments(s, t);
+        if g < f {
+            return greater_if(self.exceeds_from(s, t + 1, self.end(t)));
         }
-        if self.exceeds_from(s, t + 1, self.end(t)) {
-            2
-        } else {
-            0
-        }
+        self.compare_arguments(s, t)
     }
 
-    fn argument_reaches(&mut self, s: usize, t: usize) -> bool {
-        let (mut k, end) = (s + 1, self.end(s));
+    fn reaches_from(&mut self, mut k: usize, end: usize, t: usize) -> bool {
         while k < end {
             if self.exceeds(k, t) > 0 {
                 return true;
@@ -87,15 +79,23 @@ impl Terms<'_> {
     fn compare_arguments(&mut self, s: usize, t: usize) -> u8 {
         let (mut k, mut l) = (s + 1, t + 1);
         let (m, n) = (self.end(s), self.end(t));
-        while k < m && l < n {
+        while k < m {
             let verdict = self.exceeds(k, l);
-            let rest = self.end(l);
+            let (next, rest) = (self.end(k), self.end(l));
             match verdict {
-                0 => return 0,
-                1 => (k, l) = (self.end(k), rest),
-                _ => return if self.exceeds_from(s, rest, n) { 2 } else { 0 },
+                0 => return greater_if(self.reaches_from(next, m, t)),
+                1 => (k, l) = (next, rest),
+                _ => return greater_if(self.exceeds_from(s, rest, n)),
             }
         }
         1
+    }
+}
+
+fn greater_if(greater: bool) -> u8 {
+    if greater {
+        2
+    } else {
+        0
     }
 }

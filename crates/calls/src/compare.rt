@@ -1,6 +1,8 @@
 // Compare: the verdict of a task of two ground terms.
 use crate::buffer::fill;
 use crate::number::refusal_number;
+use comparing::CELLS;
+use comparing::SUBJECT;
 use comparing::exceeds;
 use comparing::measure;
 use format::byte::wide;
@@ -28,12 +30,6 @@ ghost use Rattle.calls.specs.Asked.{asked, comparison-task};
 ghost use Rattle.calls.specs.Outcome.{compare-answer, compare-call};
 ghost use Rattle.calls.specs.Comparison.{HasPair, PairIs, TwoAt};
 
-// The cells of a comparison, which stand first in scratch.
-const CELLS: usize = 50176;
-
-// The subject's first node.
-const SUBJECT: usize = 64;
-
 // Stores two terms as nodes of the subject, with their sizes; the second term's first node.
 fn store(
     sheet: &[u8],
@@ -52,7 +48,7 @@ fn store(
     SUBJECT + wide(sizes[SUBJECT])
 }
 
-// The verdict of two terms that are stored. The cells are cleared before, all of scratch behind.
+// The verdict of two terms that are stored. The cells stand first in scratch; they are cleared before, all of scratch behind.
 fn compare_stored(nodes: &[u8], sizes: &[u8], scratch: &mut [u8], second: usize) -> u8
     requires { ⌜ (length (now nodes) ≡ node-count) × (length (now sizes) ≡ node-count) × (scratch-bytes ≤ length (now scratch)) ⌝ }
     requires { ⌜ ((s : Term) × (t : Term) × TwoAt (now nodes) (now sizes) s t second) ⌝ }

@@ -5,12 +5,17 @@ use mathlib.Core.List.{List}
 use native.Mathlib.Omega.{arith}
 use lib.ListN.{getD, set}
 use Rattle.format.specs.Limits.{first-variable}
-use Rattle.terms.specs.Term.{size, sizes}
+use Rattle.terms.specs.Term.{app, nil, size, sizes}
+use Rattle.terms.specs.Theory.Append.{append}
+use Rattle.ordering.specs.Verdict.{verdict}
 use Rattle.comparing.specs.Nodes.{node-count, Memory}
-use Rattle.comparing.specs.Comparing.{resolved, HasTerm, HasTerms, HasLists, Compares, ComparesLists}
+use Rattle.comparing.specs.Comparing.{resolved, HasTerm, HasTerms, Compares}
 use Rattle.comparing.specs.Theory.Nodes.{within, ends-within, symbol-at}
 use Rattle.comparing.proofs.Weight.{term-weight, row-weight, term-weighs, row-weighs}
-use Rattle.comparing.proofs.Resolved.{resolved-node}
+use Rattle.comparing.proofs.Resolved.{resolved-symbol, resolved-node}
+use Rattle.comparing.proofs.Rows.{HasLists}
+use Rattle.comparing.proofs.Rules.{rule-same}
+use Rattle.comparing.proofs.Loops.{Comparing}
 use Rattle.comparing.proofs.Cells.{number-few, cell-known, cell-set, compares-resolved}
 
 -- A node `i` with a term, and the node `a` that it gives way to.
@@ -23,7 +28,7 @@ pub record Resolves (nodes lengths values : List ℕ) (i a : ℕ) : Type 0 where
   pub arguments : HasTerms nodes lengths values (a + 1) (a + getD lengths a 0)
   pub weight : term-weight nodes lengths values i ≡ suc (row-weight nodes lengths values (a + 1) (a + getD lengths a 0))
   pub same-weight : term-weight nodes lengths values a ≡ term-weight nodes lengths values i
-  pub size-is : size (here .term) ≡ suc (sizes (arguments .terms))
+  pub term-is : here .term ≡ app (getD nodes a 0) (arguments .terms)
 
 pub resolves : {nodes lengths values : List ℕ} {i a : ℕ} → HasTerm nodes lengths values i → a ≡ resolved nodes values i → Resolves nodes lengths values i a
 unfolding size
@@ -43,25 +48,39 @@ resolves {nodes} {lengths} {values} {i} {a} h e = subst (λ b. Resolves nodes le
           arguments = record { terms = g .arguments; stand = g .row };
           weight = term-weighs (h .stands) ∙ (z ∙ ap suc (sym (row-weighs (g .row))));
           same-weight = term-weighs (n .stands) ∙ sym (term-weighs (h .stands));
-          size-is = z;
+          term-is = g .is;
         }
 
-module _ {nodes lengths values : List ℕ} {i j a b : ℕ} (x : Resolves nodes lengths values i a) (y : Resolves nodes lengths values j b) where
-  pub argument-lists : HasLists nodes lengths values a (a + 1) (a + getD lengths a 0) (b + 1) (b + getD lengths b 0)
-  argument-lists = record {
-    term = x .here .term;
-    first = x .arguments .terms;
-    second = y .arguments .terms;
-    stands = x .here .stands;
-    first-stand = x .arguments .stand;
-    second-stand = y .arguments .stand;
-    smaller = omega (arith, x .size-is);
-  }
+-- A symbol gives way to itself.
+pub symbol-resolves : {nodes lengths values : List ℕ} {i : ℕ} → HasTerm nodes lengths values i → getD nodes i 0 < first-variable → Resolves nodes lengths values i i
+symbol-resolves {nodes} {lengths} {values} {i} h l = resolves h (sym (resolved-symbol nodes values i l))
 
-  pub lists-few : {r : ℕ} → ComparesLists nodes lengths values a (a + 1) (a + getD lengths a 0) (b + 1) (b + getD lengths b 0) r → r < 3
-  lists-few c =
-      let v = c .tells (x .here .term) (x .arguments .terms) (y .arguments .terms) (x .here .stands) (x .arguments .stand) (y .arguments .stand) in
-      omega (arith, v .number, number-few (v .verdict))
+module _ {nodes lengths values : List ℕ} {i j a b : ℕ} (x : Resolves nodes lengths values i a) (y : Resolves nodes lengths values j b) where
+  pub argument-lists : getD nodes a 0 ≡ getD nodes b 0 → HasLists nodes lengths values a (a + 1) (a + getD lengths a 0) b (b + 1) (b + getD lengths b 0)
+  unfolding append
+  argument-lists e =
+      let d : y .here .term ≡ app (getD nodes a 0) (y .arguments .terms) = y .term-is ∙ ap (λ f. app f (y .arguments .terms)) (sym e) in
+      record {
+        symbol = getD nodes a 0;
+        same = nil;
+        first = x .arguments .terms;
+        second = y .arguments .terms;
+        first-term = rw (x .term-is) at (x .here .stands);
+        first-row = x .arguments .stand;
+        second-term = rw d at (y .here .stands);
+        second-row = y .arguments .stand;
+      }
+
+  -- Two symbols that are the same, before their first arguments.
+  pub comparing-start : {cells : List ℕ} → Memory nodes lengths values cells → getD nodes a 0 ≡ getD nodes b 0
+      → Comparing nodes lengths values a b (a + getD lengths a 0) (b + getD lengths b 0) cells (a + 1) (b + 1)
+  comparing-start m e = record { memory = m; lists = argument-lists e; back = λ r o. rule-same (x .symbol) (y .symbol) e o }
+
+  pub number-below : {r : ℕ} → Compares nodes lengths values a b r → r < 3
+  number-below c =
+      let s = x .here in
+      let t = y .here in
+      omega (arith, c .number (s .term) (t .term) (s .stands) (t .stands), number-few (verdict (s .term) (t .term)))
 
   -- The verdict of the two nodes, with the memory in which it stands in its cell.
   pub settled : {cells after : List ℕ} {r q : ℕ} → Memory nodes lengths values cells → Compares nodes lengths values a b q → r ≡ q → after ≡ set cells (a * node-count + b) (q + 1)

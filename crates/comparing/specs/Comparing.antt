@@ -1,5 +1,5 @@
 -- What the functions of the comparison ask and answer, each in terms of the terms that its nodes stand for.
-use Prim.Native.Nat.{ℕ, _-_, _<_}
+use Prim.Native.Nat.{ℕ, _-_}
 use mathlib.Core.Path.{_≡_}
 use mathlib.Core.Logic.{_↔_}
 use mathlib.Core.Bool.{Bool, true, false}
@@ -7,15 +7,20 @@ use mathlib.Core.List.{List}
 use lib.ListN.{getD}
 use lib.Dec.{ltb}
 use Rattle.format.specs.Limits.{first-variable}
-use Rattle.terms.specs.Term.{Term, Terms, size, sizes}
+use Rattle.terms.specs.Term.{Term, Terms}
 use Rattle.ordering.specs.Order.{SomeReaches, ExceedsAll}
-use Rattle.ordering.specs.Verdict.{verdict, verdict-number}
+use Rattle.ordering.specs.Verdict.{smaller, greater, verdict, verdict-number}
 use Rattle.comparing.specs.Nodes.{TermAt, TermsAt}
-use Rattle.ordering.specs.Theory.Verdict.{ListVerdict}
 
 -- The node that stands for the same term as node `i` and is no variable.
 unfoldable pub resolved : (nodes values : List ℕ) → ℕ → ℕ
 resolved nodes values i = elim (ltb (getD nodes i 0) first-variable) [ true ↦ i | false ↦ getD values (getD nodes i 0 - first-variable) 0 ]
+
+-- The verdict's number of two terms that are not equal, by whether the first is greater.
+unfoldable pub greater-if : Bool → ℕ
+unfolding verdict-number
+greater-if true = verdict-number greater
+greater-if false = verdict-number smaller
 
 module _ (nodes lengths values : List ℕ) where
   -- Some term stands at node `i`; some terms stand in the row from `k` to `end`.
@@ -26,16 +31,6 @@ module _ (nodes lengths values : List ℕ) where
   pub record HasTerms (k end : ℕ) : Type 0 where
     pub terms : Terms
     pub stand : TermsAt nodes lengths values k end terms
-
-  -- At `i` stands a term that is larger than those of the first row together.
-  pub record HasLists (i k m l n : ℕ) : Type 0 where
-    pub term : Term
-    pub first : Terms
-    pub second : Terms
-    pub stands : TermAt nodes lengths values i term
-    pub first-stand : TermsAt nodes lengths values k m first
-    pub second-stand : TermsAt nodes lengths values l n second
-    pub smaller : sizes first < size term
 
   -- "Compare: 0 smaller, 1 equal, 2 greater."
   pub record Compares (i j r : ℕ) : Type 0 where
@@ -48,8 +43,3 @@ module _ (nodes lengths values : List ℕ) where
   -- L2: "s > tj for every j"
   pub record ComparesWithAll (i k end : ℕ) (r : Bool) : Type 0 where
     pub tells : (s : Term) (ts : Terms) → TermAt nodes lengths values i s → TermsAt nodes lengths values k end ts → (r ≡ true) ↔ ExceedsAll s ts
-
-  -- L3: "for some k, si = ti for i < k, sk > tk, and s > ti for k < i ≤ n"
-  pub record ComparesLists (i k m l n r : ℕ) : Type 0 where
-    pub tells : (s : Term) (ss ts : Terms) → TermAt nodes lengths values i s → TermsAt nodes lengths values k m ss → TermsAt nodes lengths values l n ts
-        → ListVerdict r s ss ts

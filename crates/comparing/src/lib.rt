@@ -7,11 +7,17 @@ ghost use lib.ListN.{length, getD, set, take, drop};
 ghost use lib.Seq.{slice};
 ghost use Rattle.format.specs.Limits.{first-variable};
 ghost use Rattle.comparing.specs.Nodes.{node-count, Memory};
-ghost use Rattle.comparing.specs.Comparing.{resolved, HasTerm, HasTerms, HasLists, Compares, FindsReaching, ComparesWithAll, ComparesLists};
+ghost use Rattle.comparing.specs.Comparing.{resolved, greater-if, HasTerm, HasTerms, Compares, FindsReaching, ComparesWithAll};
 ghost use Rattle.comparing.specs.Sizes.{Whole, Measurable, node-sizes};
 
 // The number of nodes: 64 positions of an equation, then 160 of the subject.
 const NODE_COUNT: usize = 224;
+
+// The subject's first node.
+pub const SUBJECT: usize = 64;
+
+// One cell for each pair of nodes.
+pub const CELLS: usize = 50176;
 
 const FIRST_VARIABLE: u8 = 128;
 
@@ -50,6 +56,16 @@ fn settle(cells: &mut [u8], cell: usize, verdict: u8) -> u8
     verdict
 }
 
+// The verdict of two terms that are not equal.
+fn greater_if(greater: bool) -> u8
+    ensures { λ r. ⌜ r ≡ greater-if greater ⌝ }
+{
+    if greater {
+        return GREATER;
+    }
+    SMALLER
+}
+
 // The verdict of the terms at the nodes i and j: 0 smaller, 1 equal, 2 greater.
 pub fn exceeds(
     nodes: &[u8],
@@ -72,24 +88,37 @@ pub fn exceeds(
     if 0 < known {
         return known - 1;
     }
-    let s_end = s + wide(sizes[s]);
-    let t_end = t + wide(sizes[t]);
-    if argument_reaches(nodes, sizes, values, cells, s + 1, s_end, t) {
-        return settle(cells, cell, GREATER);
-    }
-    let f = nodes[s];
-    let g = nodes[t];
+    let verdict = compare_symbols(nodes, sizes, values, cells, s, t);
+    settle(cells, cell, verdict)
+}
+
+// The verdict of the terms at two nodes that are symbols, by one question. A term that exceeds another exceeds its arguments too, so that L1 need be
+// asked only where L2 and L3 cannot hold.
+fn compare_symbols(
+    nodes: &[u8],
+    sizes: &[u8],
+    values: &[u8],
+    cells: &mut [u8],
+    i: usize,
+    j: usize,
+) -> u8
+    requires { ⌜ Memory (now nodes) (now sizes) (now values) (now cells) ⌝ }
+    requires { ⌜ HasTerm (now nodes) (now sizes) (now values) i × (getD (now nodes) i 0 < first-variable) ⌝ }
+    requires { ⌜ HasTerm (now nodes) (now sizes) (now values) j × (getD (now nodes) j 0 < first-variable) ⌝ }
+    ensures { λ r. ⌜ Compares (now (nodes .entry)) (now (sizes .entry)) (now (values .entry)) i j r ⌝ }
+    ensures { λ _. ⌜ Memory (now (nodes .entry)) (now (sizes .entry)) (now (values .entry)) (now (cells .exit)) ⌝ }
+{
+    let f = nodes[i];
+    let g = nodes[j];
     if f < g {
-        return settle(cells, cell, SMALLER);
+        let end = i + wide(sizes[i]);
+        return greater_if(argument_reaches(nodes, sizes, values, cells, i + 1, end, j));
     }
-    if f == g {
-        let verdict = compare_arguments(nodes, sizes, values, cells, s, s + 1, s_end, t + 1, t_end);
-        return settle(cells, cell, verdict);
+    if g < f {
+        let end = j + wide(sizes[j]);
+        return greater_if(exceeds_arguments(nodes, sizes, values, cells, i, j + 1, end));
     }
-    if exceeds_arguments(nodes, sizes, values, cells, s, t + 1, t_end) {
-        return settle(cells, cell, GREATER);
-    }
-    settle(cells, cell, SMALLER)
+    compare_arguments(nodes, sizes, values, cells, i, j)
 }
 
 // L1: whether one of the terms from k to end equals or exceeds the term at j.
@@ -108,11 +137,12 @@ fn argument_reaches(
     ensures { λ r. ⌜ FindsReaching (now (nodes .entry)) (now (sizes .entry)) (now (values .entry)) k end j r ⌝ }
     ensures { λ _. ⌜ Memory (now (nodes .entry)) (now (sizes .entry)) (now (values .entry)) (now (cells .exit)) ⌝ }
 {
-    if k < end {
-        if SMALLER < exceeds(nodes, sizes, values, cells, k, j) {
+    let mut at = k;
+    while at < end {
+        if SMALLER < exceeds(nodes, sizes, values, cells, at, j) {
             return true;
         }
-        return argument_reaches(nodes, sizes, values, cells, k + wide(sizes[k]), end, j);
+        at = at + wide(sizes[at]);
     }
     false
 }
@@ -133,58 +163,52 @@ fn exceeds_arguments(
     ensures { λ r. ⌜ ComparesWithAll (now (nodes .entry)) (now (sizes .entry)) (now (values .entry)) i k end r ⌝ }
     ensures { λ _. ⌜ Memory (now (nodes .entry)) (now (sizes .entry)) (now (values .entry)) (now (cells .exit)) ⌝ }
 {
-    if k < end {
-        if exceeds(nodes, sizes, values, cells, i, k) < GREATER {
+    let mut at = k;
+    while at < end {
+        if exceeds(nodes, sizes, values, cells, i, at) < GREATER {
             return false;
         }
-        return exceeds_arguments(nodes, sizes, values, cells, i, k + wide(sizes[k]), end);
+        at = at + wide(sizes[at]);
     }
     true
 }
 
-// L3: the terms from k to m, arguments of the term at i, against those from l to n, up to the first two that are not equal.
+// L3: the verdict of the terms s and t at i and j, which have the same symbol, by their first two arguments, at k and l, that are not equal.
 fn compare_arguments(
     nodes: &[u8],
     sizes: &[u8],
     values: &[u8],
     cells: &mut [u8],
     i: usize,
-    k: usize,
-    m: usize,
-    l: usize,
-    n: usize,
+    j: usize,
 ) -> u8
     requires { ⌜ Memory (now nodes) (now sizes) (now values) (now cells) ⌝ }
-    requires { ⌜ HasLists (now nodes) (now sizes) (now values) i k m l n ⌝ }
-    ensures { λ r. ⌜ ComparesLists (now (nodes .entry)) (now (sizes .entry)) (now (values .entry)) i k m l n r ⌝ }
+    requires { ⌜ HasTerm (now nodes) (now sizes) (now values) i × (getD (now nodes) i 0 < first-variable) ⌝ }
+    requires { ⌜ HasTerm (now nodes) (now sizes) (now values) j × (getD (now nodes) j 0 ≡ getD (now nodes) i 0) ⌝ }
+    ensures { λ r. ⌜ Compares (now (nodes .entry)) (now (sizes .entry)) (now (values .entry)) i j r ⌝ }
     ensures { λ _. ⌜ Memory (now (nodes .entry)) (now (sizes .entry)) (now (values .entry)) (now (cells .exit)) ⌝ }
 {
-    if k < m {
-        if l < n {
-            let verdict = exceeds(nodes, sizes, values, cells, k, l);
-            if verdict == SMALLER {
-                return SMALLER;
-            }
-            let rest = l + wide(sizes[l]);
-            if verdict == EQUAL {
-                return compare_arguments(
-                    nodes,
-                    sizes,
-                    values,
-                    cells,
-                    i,
-                    k + wide(sizes[k]),
-                    m,
-                    rest,
-                    n,
-                );
-            }
-            if exceeds_arguments(nodes, sizes, values, cells, i, rest, n) {
-                return GREATER;
-            }
-            return SMALLER;
+    let m = i + wide(sizes[i]);
+    let n = j + wide(sizes[j]);
+    let mut k = i + 1;
+    let mut l = j + 1;
+    while k < m {
+        // Equally many arguments are not asked for: where t has no more, L1 is left.
+        if n <= l {
+            return greater_if(argument_reaches(nodes, sizes, values, cells, k, m, j));
         }
-        return SMALLER;
+        let verdict = exceeds(nodes, sizes, values, cells, k, l);
+        let next = k + wide(sizes[k]);
+        // L1 is left, and t exceeds the arguments of s up to k.
+        if verdict == SMALLER {
+            return greater_if(argument_reaches(nodes, sizes, values, cells, next, m, j));
+        }
+        let rest = l + wide(sizes[l]);
+        if verdict == GREATER {
+            return greater_if(exceeds_arguments(nodes, sizes, values, cells, i, rest, n));
+        }
+        k = next;
+        l = rest;
     }
     if l < n {
         return SMALLER;

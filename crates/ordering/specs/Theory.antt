@@ -5,5 +5,6 @@ pub mod Context
 pub mod Decide
 pub mod Total
 pub mod Verdict
+pub mod Question
 pub mod Literal
 pub mod Examples

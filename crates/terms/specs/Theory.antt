@@ -5,3 +5,4 @@ pub mod Limits
 pub mod Positions
 pub mod View
 pub mod Prefix
+pub mod Append
