@@ -5,4 +5,5 @@ pub mod Stored
 pub mod Place
 pub mod Treatment
 pub mod Sound
+pub mod Walking
 pub mod Theory

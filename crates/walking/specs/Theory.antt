@@ -10,3 +10,4 @@ pub mod Treatment
 pub mod Element
 pub mod Stored
 pub mod Leftmost
+pub mod Turn

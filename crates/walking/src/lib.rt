@@ -5,3 +5,4 @@ pub mod occurs;
 pub mod reach;
 pub mod treat;
 pub mod unify;
+pub mod walk;
