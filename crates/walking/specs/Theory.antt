@@ -11,3 +11,4 @@ pub mod Element
 pub mod Stored
 pub mod Leftmost
 pub mod Turn
+pub mod Walking
