@@ -6,4 +6,5 @@ pub mod Place
 pub mod Treatment
 pub mod Sound
 pub mod Walking
+pub mod Children
 pub mod Theory

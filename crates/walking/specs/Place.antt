@@ -7,7 +7,7 @@ use Rattle.format.specs.Limits.{variable-count, max-elements}
 use Rattle.solving.specs.Line.{Element}
 use Rattle.solving.specs.Walk.{argument-choices, exceeds-each, lexicographic-choices}
 use Rattle.walking.specs.Laid.{Row}
-use Rattle.walking.specs.Stored.{marks, padding, first-element, Stored, stored-bytes}
+use Rattle.walking.specs.Stored.{equality-mark, marks, padding, first-element, Stored, stored-bytes}
 
 -- A line in scratch takes 90 bytes: its record, and the count of elements that are known to be fully reduced.
 abbrev pub line-bytes : ℕ
@@ -44,6 +44,14 @@ pub record Widened (i n : ℕ) (before after : List ℕ) : Type 0 where
       → before ≡ stored-bytes (record { bindings = bindings; elements = pre ++ e ∷ post; reduced = r })
       → Gap after (front-bytes bindings (length pre + n + length post) pre) n (back-bytes (length pre + n + length post) post)
 
+-- Terms stand in the row from `k` to `end`, and the line has room for an element for each from `at` on.
+pub record ExceedingFit (sizes : List ℕ) (at k end : ℕ) (line : List ℕ) : Type 0 where
+  pub starts : List ℕ
+  pub row : Row sizes k end starts
+  pub within : end ≤ length sizes
+  pub low : end ≤ equality-mark
+  pub room : at + 2 * length starts ≤ length line
+
 -- "all s > tj", at `at`.
 pub record FillsExceeding (sizes : List ℕ) (at p k end : ℕ) (before after : List ℕ) : Type 0 where
   pub fills : (ts front back : List ℕ) → Row sizes k end ts → length front ≡ at → Gap before front (length ts) back → after ≡ front ++ (marks (exceeds-each p ts) ++ back)
@@ -54,12 +62,38 @@ unfolding marks
 choices-bytes front back [] = []
 choices-bytes front back (cs ∷ css) = (front ++ (marks cs ++ back)) ++ choices-bytes front back css
 
--- "for each i, si > t then si = t": the lines stand from `to` on, and the room is left for the next.
-pub record PushesArguments (sizes : List ℕ) (at q k end to : ℕ) (line-before line-after records-before records-after : List ℕ) (r : ℕ) : Type 0 where
-  pub pushes : (ss front back : List ℕ) → Row sizes k end ss → length front ≡ at → Gap line-before front 1 back
-      → (records-after ≡ placed to (choices-bytes front back (argument-choices ss q)) records-before) × (r ≡ to + line-bytes * length (argument-choices ss q)) × Gap line-after front 1 back
+-- Terms stand in the row from `k` to `end`, the line has a place for an element at `at`, and the memory has room from `to` on for the lines of each argument.
+pub record ArgumentsFit (sizes : List ℕ) (at q k end to : ℕ) (line records : List ℕ) : Type 0 where
+  pub starts : List ℕ
+  pub row : Row sizes k end starts
+  pub within : end ≤ length sizes
+  pub low : end ≤ equality-mark
+  pub whole : length line ≡ line-bytes
+  pub place : at + 2 ≤ line-bytes
+  pub room : to + line-bytes * length (argument-choices starts q) ≤ length records
+
+-- "for each i, si > t then si = t": the lines stand from `to` on.
+pub record PushesArguments (sizes : List ℕ) (at q k end to : ℕ) (line before after : List ℕ) (r : ℕ) : Type 0 where
+  pub pushes : (ss front back : List ℕ) → Row sizes k end ss → length front ≡ at → Gap line front 1 back
+      → (after ≡ placed to (choices-bytes front back (argument-choices ss q)) before) × (r ≡ to + line-bytes * length (argument-choices ss q))
+
+-- Terms stand in the row from `k` to `m` and in that from `l` to `n`, the line has room for an element for each of the latter from `at` on,
+-- and the memory from `to` on for a line for each choice, whatever position `whole-side` is.
+pub record LexicographicFit (sizes : List ℕ) (at k m l n to : ℕ) (line records : List ℕ) : Type 0 where
+  pub whole-side : ℕ
+  pub left : List ℕ
+  pub right : List ℕ
+  pub left-row : Row sizes k m left
+  pub right-row : Row sizes l n right
+  pub left-within : m ≤ length sizes
+  pub right-within : n ≤ length sizes
+  pub left-low : m ≤ equality-mark
+  pub right-low : n ≤ equality-mark
+  pub whole : length line ≡ line-bytes
+  pub places : at + 2 * length right ≤ line-bytes
+  pub room : to + line-bytes * length (lexicographic-choices whole-side left right) ≤ length records
 
 -- "for each k the L3 list in argument order", where the room has all s > tj.
-pub record PushesLexicographic (sizes : List ℕ) (at p k m l n to : ℕ) (line-before records-before records-after : List ℕ) (r : ℕ) : Type 0 where
-  pub pushes : (ss ts front back : List ℕ) → Row sizes k m ss → Row sizes l n ts → length front ≡ at → line-before ≡ front ++ (marks (exceeds-each p ts) ++ back)
-      → (records-after ≡ placed to (choices-bytes front back (lexicographic-choices p ss ts)) records-before) × (r ≡ to + line-bytes * length (lexicographic-choices p ss ts))
+pub record PushesLexicographic (sizes : List ℕ) (at k m l n to : ℕ) (line before after : List ℕ) (r : ℕ) : Type 0 where
+  pub pushes : (p : ℕ) (ss ts front back : List ℕ) → Row sizes k m ss → Row sizes l n ts → length front ≡ at → line ≡ front ++ (marks (exceeds-each p ts) ++ back)
+      → (after ≡ placed to (choices-bytes front back (lexicographic-choices p ss ts)) before) × (r ≡ to + line-bytes * length (lexicographic-choices p ss ts))

@@ -11,4 +11,9 @@ pub mod Element
 pub mod Stored
 pub mod Leftmost
 pub mod Turn
+pub mod Place
+pub mod Push
+pub mod Exceeding
+pub mod Lexicographic
 pub mod Walking
+pub mod Children

@@ -3,6 +3,7 @@ pub mod element;
 pub mod leftmost;
 pub mod occurs;
 pub mod reach;
+pub mod record;
 pub mod treat;
 pub mod unify;
 pub mod walk;

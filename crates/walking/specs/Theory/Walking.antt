@@ -146,7 +146,7 @@ module _ (nodes sizes memory : List ℕ) (w : Walk) (finished : List Line) (firs
     short-table : (new : List Line) → any crowded new ≡ false → any crowded (finished ++ (new ++ map line-of others)) ≡ false
     short-table new h =
         short-append finished (new ++ map line-of others) (finished-short (view-of nodes sizes) finished (m .all-finished))
-            (short-append new (map line-of others) h (sound-short nodes sizes others (m .all-sound .1)))
+        (short-append new (map line-of others) h (sound-short nodes sizes others (m .all-sound .1)))
 
     pub refused-lines : (new : List Line) → treat-line enough (view-of nodes sizes) (line-of first) ≡ some new → any crowded new ≡ false → w .top + 1 < w .done + length new
         → whole-walk nodes sizes w ≡ refused too-many-lines
@@ -164,8 +164,7 @@ module _ (nodes sizes memory : List ℕ) (w : Walk) (finished : List Line) (firs
           let new = map line-of children in
           let l = length-map children line-of in
           let o = within-limits (finished ++ (new ++ map line-of others)) (short-table new (sound-short nodes sizes children sound)) (omega (arith, length-table new, m .top-is)) in
-          let e : suc (w .turns) ≡ w .turns + 1 = omega arith in
-          (
+          let e : suc (w .turns) ≡ w .turns + 1 = omega arith in (
             record {
               laid = laid;
               finished = finished;
@@ -231,8 +230,7 @@ module _ (nodes sizes memory : List ℕ) (w : Walk) (finished : List Line) (firs
       let s = m .all-sound .0 in
       let k : length (record-of (line-of first)) ≡ record-bytes = length-record-of (first .bindings) (first .elements) (readable-slots (s .readable)) (s .few) in
       let p : (w .done + 1) * record-bytes ≡ w .done * record-bytes + length (record-of (line-of first)) = omega arith in
-      let room : w .done * record-bytes + record-bytes ≤ length memory = omega (arith, m .length-is, m .top-is, m .ordered) in
-      (
+      let room : w .done * record-bytes + record-bytes ≤ length memory = omega (arith, m .length-is, m .top-is, m .ordered) in (
         record {
           laid = laid;
           finished = finished ++ (line-of first ∷ []);
@@ -250,10 +248,13 @@ module _ (nodes sizes memory : List ℕ) (w : Walk) (finished : List Line) (firs
             done-is = length-append finished (line-of first ∷ []) ∙ omega (arith, m .done-is);
             top-is = omega (arith, m .top-is);
             ordered = omega (arith, m .ordered);
-            all-finished = finished-append (view-of nodes sizes) finished (line-of first ∷ []) (m .all-finished) (record {
-              nothing-left = leftmost-none (view-of nodes sizes) (bindings-of (first .bindings)) (first .elements) (settled nodes sizes (first .bindings) (first .elements) r);
-              short = le-ltb max-elements (length (first .elements)) (s .few);
-            }, tt);
+            all-finished = finished-append (view-of nodes sizes) finished (line-of first ∷ []) (m .all-finished) (
+              record {
+                nothing-left = leftmost-none (view-of nodes sizes) (bindings-of (first .bindings)) (first .elements) (settled nodes sizes (first .bindings) (first .elements) r);
+                short = le-ltb max-elements (length (first .elements)) (s .few);
+              },
+              tt,
+            );
             all-sound = m .all-sound .1;
           };
           turns-within = within;
@@ -270,11 +271,10 @@ ended nodes sizes memory w k h = go (k .unfinished) refl
     go : (ls : List Stored) → k .unfinished ≡ ls
         → (whole-walk nodes sizes w ≡ solved (k .finished) (w .turns)) × (length (k .finished) ≡ w .done) × (take (w .done * record-bytes) memory ≡ records (k .finished))
     go [] e =
-        let t : k .finished ++ map line-of (k .unfinished) ≡ k .finished = ap (λ l. k .finished ++ map line-of l) e ∙ append-nil (k .finished) in
-        (
+        let t : k .finished ++ map line-of (k .unfinished) ≡ k .finished = ap (λ l. k .finished ++ map line-of l) e ∙ append-nil (k .finished) in (
           sym (k .leads)
-          ∙ (ap (walk-from enough (view-of nodes sizes) (max-turns - w .turns) (w .turns)) t
-          ∙ walk-ends (view-of nodes sizes) (k .finished) (w .turns) (max-turns - w .turns) (turn-none (view-of nodes sizes) (k .finished) (k .holds .all-finished))),
+              ∙ (ap (walk-from enough (view-of nodes sizes) (max-turns - w .turns) (w .turns)) t
+              ∙ walk-ends (view-of nodes sizes) (k .finished) (w .turns) (max-turns - w .turns) (turn-none (view-of nodes sizes) (k .finished) (k .holds .all-finished))),
           k .holds .done-is,
           k .holds .records-are,
         )

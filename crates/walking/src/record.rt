@@ -1,0 +1,127 @@
+// Lines' bytes: changed in place, and put into the memory of the walk.
+use crate::element::EQUALITY;
+use crate::element::FIRST_ELEMENT;
+use format::byte::wide;
+ghost use mathlib.Core.Path.{_≡_};
+ghost use Prim.Native.Nat.{_+_, _*_, _≤_, _<_};
+ghost use lib.ListN.{length, set};
+ghost use lib.Seq.{slice};
+ghost use Rattle.walking.specs.Place.{line-bytes, placed, ExceedingFit, FillsExceeding, ArgumentsFit, PushesArguments, LexicographicFit, PushesLexicographic};
+
+// The bytes of a line.
+pub const LINE: usize = 90;
+
+// Copies the line that stands at `at`.
+pub fn load(records: &[u8], at: usize, line: &mut [u8])
+    requires { ⌜ (at + line-bytes ≤ length (now records)) × (length (now line) ≡ line-bytes) ⌝ }
+    ensures { λ _. ⌜ now (line .exit) ≡ slice at (at + line-bytes) (now (records .entry)) ⌝ }
+{
+    let mut i = 0;
+    while i < LINE {
+        line[i] = records[at + i];
+        i = i + 1;
+    }
+}
+
+// Puts the line at `at`.
+pub fn store(line: &[u8], records: &mut [u8], at: usize)
+    requires { ⌜ (at + line-bytes ≤ length (now records)) × (length (now line) ≡ line-bytes) ⌝ }
+    ensures { λ _. ⌜ now (records .exit) ≡ placed at (now (line .entry)) (now (records .entry)) ⌝ }
+{
+    let mut i = 0;
+    while i < LINE {
+        records[at + i] = line[i];
+        i = i + 1;
+    }
+}
+
+// Puts two bytes at `at`.
+pub fn put(line: &mut [u8], at: usize, a: u8, b: u8)
+    requires { ⌜ at + 1 < length (now line) ⌝ }
+    ensures { λ _. ⌜ now (line .exit) ≡ set (set (now (line .entry)) at a) (at + 1) b ⌝ }
+{
+    line[at] = a;
+    line[at + 1] = b;
+}
+
+// Puts the line at `to`, with these two bytes at its `at`.
+fn store_with(line: &[u8], at: usize, a: u8, b: u8, records: &mut [u8], to: usize)
+    requires { ⌜ (to + line-bytes ≤ length (now records)) × (length (now line) ≡ line-bytes) × (at + 2 ≤ line-bytes) ⌝ }
+    ensures { λ _. ⌜ now (records .exit) ≡ placed to (set (set (now (line .entry)) at a) (at + 1) b) (now (records .entry)) ⌝ }
+{
+    store(line, records, to);
+    put(records, to + at, a, b);
+}
+
+// Puts p > t, for each term t from `k` to `end`, one behind the other from `at` on.
+pub fn fill_exceeding(sizes: &[u8], line: &mut [u8], at: usize, p: u8, k: usize, end: usize)
+    requires { ⌜ ExceedingFit (now sizes) at k end (now line) ⌝ }
+    ensures { λ _. ⌜ FillsExceeding (now (sizes .entry)) at p k end (now (line .entry)) (now (line .exit)) ⌝ }
+{
+    let mut t = k;
+    let mut place = at;
+    while t < end {
+        put(line, place, p, t as u8);
+        place = place + 2;
+        t = t + wide(sizes[t]);
+    }
+}
+
+// Puts the lines of the choices of each argument s, from `k` to `end`: s > q and s = q in the place at `at`. Returns where the next line goes.
+pub fn push_arguments(
+    sizes: &[u8],
+    line: &[u8],
+    at: usize,
+    q: u8,
+    k: usize,
+    end: usize,
+    records: &mut [u8],
+    to: usize,
+) -> usize
+    requires { ⌜ ArgumentsFit (now sizes) at q k end to (now line) (now records) ⌝ }
+    ensures { λ r. ⌜ PushesArguments (now (sizes .entry)) at q k end to (now (line .entry)) (now (records .entry)) (now (records .exit)) r ⌝ }
+{
+    let mut s = k;
+    let mut next = to;
+    while s < end {
+        store_with(line, at, s as u8, q, records, next);
+        store_with(line, at, s as u8 + EQUALITY, q, records, next + LINE);
+        next = next + LINE + LINE;
+        s = s + wide(sizes[s]);
+    }
+    next
+}
+
+// Puts the lines of the choices of each pair of arguments s and t, from `k` to `m` and from `l` to `n`: s > t in the place of t's element,
+// and s = t there from then on.
+pub fn push_lexicographic(
+    sizes: &[u8],
+    line: &mut [u8],
+    at: usize,
+    k: usize,
+    m: usize,
+    l: usize,
+    n: usize,
+    records: &mut [u8],
+    to: usize,
+) -> usize
+    requires { ⌜ LexicographicFit (now sizes) at k m l n to (now line) (now records) ⌝ }
+    ensures { λ r. ⌜ PushesLexicographic (now (sizes .entry)) at k m l n to (now (line .entry)) (now (records .entry)) (now (records .exit)) r ⌝ }
+{
+    let mut s = k;
+    let mut t = l;
+    let mut place = at;
+    let mut next = to;
+    while s < m {
+        if n <= t {
+            return next;
+        }
+        store_with(line, place, s as u8, t as u8, records, next);
+        put(line, place, s as u8 + EQUALITY, t as u8);
+        place = place + 2;
+        next = next + LINE;
+        s = s + wide(sizes[s]);
+        t = t + wide(sizes[t]);
+    }
+    next
+}
