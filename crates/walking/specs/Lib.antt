@@ -7,4 +7,8 @@ pub mod Treatment
 pub mod Sound
 pub mod Walking
 pub mod Children
+pub mod Count
+pub mod Rebind
+pub mod Unifier
+pub mod Splitting
 pub mod Theory

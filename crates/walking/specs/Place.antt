@@ -1,8 +1,8 @@
 -- Lines' bytes changed in place, and put into the memory of the walk.
-use Prim.Native.Nat.{ℕ, _+_, _*_, _≤_, _<_}
+use Prim.Native.Nat.{ℕ, zero, suc, _+_, _*_, _≤_, _<_}
 use mathlib.Core.Path.{_≡_}
-use mathlib.Core.List.{List, [], _∷_, _++_, map}
-use lib.ListN.{length, take, drop}
+use mathlib.Core.List.{List, [], _∷_, _++_}
+use lib.ListN.{length, getD, take, drop}
 use Rattle.format.specs.Limits.{variable-count, max-elements}
 use Rattle.solving.specs.Line.{Element}
 use Rattle.solving.specs.Walk.{argument-choices, exceeds-each, lexicographic-choices}
@@ -37,6 +37,23 @@ front-bytes bindings count pre = bindings ++ (count ∷ length pre ∷ marks pre
 unfoldable pub back-bytes : (count : ℕ) (post : List Element) → List ℕ
 unfolding marks padding
 back-bytes count post = marks post ++ padding count
+
+-- What follows the elements behind the room: shorter for a wider room, and longer by a pair of ff where the room is none.
+unfoldable pub rest-after : (n : ℕ) (rest : List ℕ) → List ℕ
+rest-after zero rest = 0xff ∷ 0xff ∷ rest
+rest-after (suc n) rest = drop (2 * n) rest
+
+-- The bytes from `from` to `end` moved, so that in the place of the pair in front of them there is room for `n` pairs.
+pub record Shifted (from end n : ℕ) (before after : List ℕ) : Type 0 where
+  pub moves : (front pair part rest : List ℕ) → length front + 2 ≡ from → length pair ≡ 2 → from + length part ≡ end → before ≡ front ++ (pair ++ (part ++ rest))
+      → Gap after front n (part ++ rest-after n rest)
+
+-- The line has an element `i`, and with `n` in the place of it no more than fit.
+pub record WideningFits (i n : ℕ) (line : List ℕ) : Type 0 where
+  pub whole : length line ≡ line-bytes
+  pub few : getD line variable-count 0 ≤ max-elements
+  pub inside : i < getD line variable-count 0
+  pub room : getD line variable-count 0 + n ≤ max-elements + 1
 
 -- Room for `n` elements in the place of element `i`.
 pub record Widened (i n : ℕ) (before after : List ℕ) : Type 0 where

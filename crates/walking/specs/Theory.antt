@@ -12,8 +12,16 @@ pub mod Stored
 pub mod Leftmost
 pub mod Turn
 pub mod Place
-pub mod Push
+pub mod Arguments
 pub mod Exceeding
 pub mod Lexicographic
+pub mod Shift
+pub mod Widened
+pub mod Count
+pub mod Front
+pub mod Record
+pub mod Rebind
+pub mod Unifier
 pub mod Walking
 pub mod Children
+pub mod Splitting

@@ -3,13 +3,16 @@ use crate::element::EQUALITY;
 use crate::element::FIRST_ELEMENT;
 use format::byte::wide;
 ghost use mathlib.Core.Path.{_≡_};
-ghost use Prim.Native.Nat.{_+_, _*_, _≤_, _<_};
+ghost use Prim.Native.Nat.{_+_, _-_, _*_, _≤_, _<_};
 ghost use lib.ListN.{length, set};
 ghost use lib.Seq.{slice};
-ghost use Rattle.walking.specs.Place.{line-bytes, placed, ExceedingFit, FillsExceeding, ArgumentsFit, PushesArguments, LexicographicFit, PushesLexicographic};
+ghost use Rattle.walking.specs.Place.{line-bytes, placed, Shifted, WideningFits, Widened, ExceedingFit, FillsExceeding, ArgumentsFit, PushesArguments, LexicographicFit, PushesLexicographic};
 
 // The bytes of a line.
 pub const LINE: usize = 90;
+
+// Where the number of elements stands; behind it, how many of the first ones are known to be fully reduced.
+pub const COUNT: usize = 8;
 
 // Copies the line that stands at `at`.
 pub fn load(records: &[u8], at: usize, line: &mut [u8])
@@ -51,6 +54,61 @@ fn store_with(line: &[u8], at: usize, a: u8, b: u8, records: &mut [u8], to: usiz
 {
     store(line, records, to);
     put(records, to + at, a, b);
+}
+
+// Moves the bytes from `from` to `end` to the left by a pair.
+fn shift_left(line: &mut [u8], from: usize, end: usize)
+    requires { ⌜ (2 ≤ from) × (from ≤ end) × (end ≤ length (now line)) ⌝ }
+    ensures { λ _. ⌜ now (line .exit) ≡ placed (from - 2) (slice from end (now (line .entry))) (now (line .entry)) ⌝ }
+{
+    let mut i = from;
+    while i < end {
+        line[i - 2] = line[i];
+        i = i + 1;
+    }
+}
+
+// Moves the bytes from `from` to `end` to the right by `by`, the last one first.
+fn shift_right(line: &mut [u8], from: usize, end: usize, by: usize)
+    requires { ⌜ (from ≤ end) × (end + by ≤ length (now line)) ⌝ }
+    ensures { λ _. ⌜ now (line .exit) ≡ placed (from + by) (slice from end (now (line .entry))) (now (line .entry)) ⌝ }
+{
+    let mut i = end;
+    while from < i {
+        i = i - 1;
+        line[i + by] = line[i];
+    }
+}
+
+// Makes room for `n` pairs in the place of the one in front of `from`. The pairs from there to `end` move; what they leave at the end is ff.
+fn shift(line: &mut [u8], from: usize, end: usize, n: usize)
+    requires { ⌜ (2 ≤ from) × (from ≤ end) × (end ≤ length (now line)) × (end + 2 * n ≤ length (now line) + 2) ⌝ }
+    ensures { λ _. ⌜ Shifted from end n (now (line .entry)) (now (line .exit)) ⌝ }
+{
+    if n == 1 {
+        return;
+    }
+    if n == 0 {
+        shift_left(line, from, end);
+        put(line, end - 2, 255, 255);
+        return;
+    }
+    shift_right(line, from, end, 2 * (n - 1));
+}
+
+// Makes room for `n` elements in the place of element `i`. Those in front of it are known to be fully reduced.
+pub fn make_room(line: &mut [u8], i: usize, n: usize)
+    requires { ⌜ WideningFits i n (now line) ⌝ }
+    ensures { λ _. ⌜ Widened i n (now (line .entry)) (now (line .exit)) ⌝ }
+{
+    let count = wide(line[COUNT]);
+    shift(
+        line,
+        2 * i + FIRST_ELEMENT + 2,
+        2 * count + FIRST_ELEMENT,
+        n,
+    );
+    put(line, COUNT, (count + n - 1) as u8, i as u8);
 }
 
 // Puts p > t, for each term t from `k` to `end`, one behind the other from `at` on.

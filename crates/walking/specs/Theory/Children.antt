@@ -23,15 +23,11 @@ use Rattle.walking.specs.Place.{lines-bytes, front-bytes, back-bytes, ch
 use Rattle.walking.specs.Sound.{AllReduced, Sound}
 use Rattle.walking.specs.Walking.{AllSound}
 use Rattle.walking.specs.Children.{child}
+use Rattle.walking.specs.Splitting.{AllLong, lesser}
 use Rattle.walking.specs.Theory.Laid.{laid-layout}
 use Rattle.walking.specs.Theory.Stored.{marks-append}
 use Rattle.walking.specs.Theory.Turn.{around, leftmost-some}
 use Rattle.walking.specs.Theory.Walking.{settled}
-
--- Lists of `n` elements.
-abbrev pub AllLong : ℕ → List (List Element) → Type 0
-AllLong n [] = Unit {0}
-AllLong n (cs ∷ css) = (length cs ≡ n) × AllLong n css
 
 -- 1. What they say.
 pub first-treated : (nodes sizes : List ℕ) (l : Stored) (pre : List Element) (e : Element) (post : List Element) (ms : List Line) → l .elements ≡ pre ++ (e ∷ post)
@@ -125,7 +121,7 @@ module _ {nodes sizes : List ℕ} (l : Stored) (s : Sound nodes sizes l) (pre : 
   fitting-all n (cs ∷ css) h k = (omega (arith, h .0), fitting-all n css (h .1) k)
 
 -- 3. Their bytes, where all choices have `n` elements.
-child-bytes : (bs : List ℕ) (pre post cs : List Element) → stored-bytes (child bs pre post cs)
+pub child-bytes : (bs : List ℕ) (pre post cs : List Element) → stored-bytes (child bs pre post cs)
     ≡ front-bytes bs (length pre + length cs + length post) pre ++ (marks cs ++ back-bytes (length pre + length cs + length post) post)
 unfolding stored-bytes front-bytes back-bytes
 child-bytes bs pre post cs =
@@ -171,11 +167,6 @@ unfolding lexicographic-choices
 lexicographic-long p [] ts = tt
 lexicographic-long p (s ∷ ss) [] = tt
 lexicographic-long p (s ∷ ss) (t ∷ ts) = (omega (arith, exceeds-long p ts), long-map (length ts) (equal s t) (lexicographic-choices p ss ts) (lexicographic-long p ss ts))
-
-unfoldable pub lesser : ℕ → ℕ → ℕ
-lesser zero n = 0
-lesser (suc m) zero = 0
-lesser (suc m) (suc n) = suc (lesser m n)
 
 pub lexicographic-count : (p : ℕ) (ss ts : List ℕ) → length (lexicographic-choices p ss ts) ≡ lesser (length ss) (length ts)
 unfolding lexicographic-choices lesser

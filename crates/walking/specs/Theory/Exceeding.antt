@@ -1,16 +1,14 @@
 -- The laws of the room that is filled with all s > tj.
-use Prim.Native.Nat.{ℕ, zero, suc, _+_, _*_, _≤_, _<_}
+use Prim.Native.Nat.{ℕ, _+_, _*_, _≤_, _<_}
 use mathlib.Core.Path.{_≡_, refl, sym, ap, _∙_}
 use mathlib.Core.List.{List, [], _∷_, _++_, append-assoc}
 use lib.ListN.{length, getD, set, length-append, length-set}
 use native.Mathlib.Omega.{arith}
 use Rattle.solving.specs.Walk.{exceeds-each}
-use Rattle.walking.specs.Laid.{Row}
-use Rattle.walking.specs.Stored.{equality-mark, marks}
-use Rattle.walking.specs.Place.{Gap, ExceedingFit, FillsExceeding}
+use Rattle.walking.specs.Stored.{marks}
+use Rattle.walking.specs.Place.{ExceedingFit, FillsExceeding}
 use Rattle.walking.specs.Theory.Laid.{row-ordered, row-empty, row-next, row-first-some}
-use Rattle.walking.specs.Theory.Place.{set-pair}
-use Rattle.walking.specs.Theory.Push.{two-bytes, no-bytes}
+use Rattle.walking.specs.Theory.Place.{set-pair, two-bytes, no-bytes}
 
 module _ (sizes : List ℕ) (p end : ℕ) where
   pub exceeding-done : (k at : ℕ) (line : List ℕ) → end ≤ k → FillsExceeding sizes at p k end line line

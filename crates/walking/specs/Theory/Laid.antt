@@ -48,6 +48,12 @@ module _ {sizes : List ℕ} where
   row-empty (none e) h = refl
   row-empty (more l r) h = absurd (omega (arith, row-ordered r))
 
+  pub row-unique : {k end : ℕ} {ps qs : List ℕ} → Row sizes k end ps → Row sizes k end qs → ps ≡ qs
+  row-unique (none e) (none d) = refl
+  row-unique (none e) (more h r) = absurd (omega (arith, row-ordered r))
+  row-unique (more h r) (none e) = absurd (omega (arith, row-ordered r))
+  row-unique (more {k = k} h r) (more g q) = ap (k ∷_) (row-unique r q)
+
   pub row-first-some : {k end : ℕ} {ps : List ℕ} → Row sizes k end ps → k < end → 0 < getD sizes k 0
   row-first-some (none e) h = absurd (omega arith)
   row-first-some (more l r) h = l

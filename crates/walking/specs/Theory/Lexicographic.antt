@@ -1,12 +1,11 @@
 -- The laws of the lines of the lexicographic choices: each differs from the one before it in two places only.
-use Prim.Native.Nat.{ℕ, zero, suc, _+_, _*_, _≤_, _<_}
+use Prim.Native.Nat.{ℕ, suc, _+_, _≤_, _<_}
 use mathlib.Core.Path.{_≡_, refl, sym, ap, _∙_}
 use mathlib.Core.List.{List, [], _∷_, _++_, map, append-assoc}
 use lib.ListN.{length, getD, set, length-append, length-set, length-map}
 use native.Mathlib.Omega.{arith}
 use Rattle.solving.specs.Line.{Element, equal, greater}
 use Rattle.solving.specs.Walk.{exceeds-each, lexicographic-choices}
-use Rattle.walking.specs.Laid.{Row}
 use Rattle.walking.specs.Stored.{equality-mark, marks}
 use Rattle.walking.specs.Place.{line-bytes, placed, choices-bytes, LexicographicFit, PushesLexicographic}
 use Rattle.walking.specs.Theory.Laid.{row-ordered, row-empty, row-next, row-first-some}

@@ -1,28 +1,19 @@
 -- The laws of lines' bytes in the memory of the walk: copied from it, and put into it one behind the other.
-use Prim.Native.Nat.{ℕ, zero, suc, _+_, _-_, _*_, _≤_, _<_}
+use Prim.Native.Nat.{ℕ, suc, _+_, _*_, _≤_, _<_}
 use mathlib.Core.Path.{_≡_, refl, sym, ap, _∙_}
 use mathlib.Core.List.{List, [], _∷_, _++_, append-assoc}
-use lib.ListN.{length, getD, set, take, drop, length-append, length-set, length-drop, take-append-drop}
+use lib.ListN.{length, getD, set, take, drop, length-append, length-set, take-append-drop}
 use lib.Seq.{slice, slice-empty, paste, paste-zero, paste-suc, length-paste, length-take-le, take-suc, take-suc-set, take-all, drop-append-le, take-at, drop-at, drop-drop, set-append-left, set-at}
 use native.Mathlib.Nat.{add-zero, zero-add, suc-add}
 use native.Mathlib.Numerals.{add-one}
 use native.Mathlib.Omega.{arith}
-use Rattle.walking.specs.Place.{line-bytes, placed}
+use Rattle.walking.specs.Place.{line-bytes, placed, Gap}
 
 -- One more element of a part.
 pub slice-suc : (f t : ℕ) (l : List ℕ) → f ≤ t → t < length l → slice f (suc t) l ≡ slice f t l ++ (getD l t 0 ∷ [])
 slice-suc f t l h k =
     let e = length-take-le t l (omega arith) in
     ap (drop f) (take-suc l t 0 k) ∙ drop-append-le f (take t l) (getD l t 0 ∷ []) (omega arith)
-
-pub length-placed : (at : ℕ) (part buffer : List ℕ) → at + length part ≤ length buffer → length (placed at part buffer) ≡ length buffer
-unfolding placed
-length-placed at part buffer h =
-    let a = length-append (take at buffer) (part ++ drop (at + length part) buffer) in
-    let b = length-append part (drop (at + length part) buffer) in
-    let d = length-take-le at buffer (omega arith) in
-    let e = length-drop (at + length part) buffer in
-    omega arith
 
 pub placed-none : (at : ℕ) (buffer : List ℕ) → placed at [] buffer ≡ buffer
 unfolding placed
@@ -81,6 +72,24 @@ set-pair front x y a b back at e =
     ∙ (ap (λ l. set l (at + 1) b) (sym (append-assoc front (a ∷ []) (y ∷ back)))
     ∙ (set-at (front ++ (a ∷ [])) y back b (at + 1) l
     ∙ append-assoc front (a ∷ []) (b ∷ back)))
+
+-- The room of one element has two bytes, and no room has none.
+pub two-bytes : (gap : List ℕ) (n : ℕ) → length gap ≡ 2 * suc n → (x : ℕ) × (y : ℕ) × (rest : List ℕ) × (gap ≡ x ∷ y ∷ rest) × (length rest ≡ 2 * n)
+two-bytes [] n h = absurd (omega arith)
+two-bytes (x ∷ []) n h = absurd (omega arith)
+two-bytes (x ∷ y ∷ rest) n h = (x, y, rest, refl, omega arith)
+
+pub no-bytes : (gap : List ℕ) → length gap ≡ 0 → gap ≡ []
+no-bytes [] h = refl
+no-bytes (x ∷ gap) h = absurd (omega arith)
+
+-- The line with two bytes in its room for one element.
+pub gap-filled : {line front back : List ℕ} {at : ℕ} (a b : ℕ) → length front ≡ at → Gap line front 1 back → set (set line at a) (at + 1) b ≡ front ++ (a ∷ b ∷ back)
+gap-filled {front = front} {back = back} {at = at} a b e g =
+    let (x, y, rest, h, l) = two-bytes (g .gap) 0 (g .room) in
+    let n = no-bytes rest l in
+    let i : (g .gap) ++ back ≡ x ∷ y ∷ back = ap (_++ back) h ∙ ap (λ r. x ∷ y ∷ (r ++ back)) n in
+    ap (λ l. set (set l at a) (at + 1) b) (g .is ∙ ap (front ++_) i) ∙ set-pair front x y a b back at e
 
 -- A line is copied from the memory, its first `i` bytes so far.
 pub record Loading (records : List ℕ) (at : ℕ) (before line : List ℕ) (i : ℕ) : Type 0 where

@@ -6,11 +6,6 @@ use borrow.Author.Needs.{needs}
 use Rattle.walking.specs.Theory.Lexicographic.{lexicographic-room, lexicographic-sizes, PushingLexicographic, pushing-start, pushing-next, pushing-left-done, pushing-right-done}
 use Rattle.walking.proofs.record.push_lexicographic.Statement.{statement}
 use Rattle.walking.proofs.record.push_lexicographic.Tie as tie
-use Rattle.walking.proofs.record.push_lexicographic.Reads as reads
-use Rattle.walking.proofs.record.push_lexicographic.Lts as lts
-use Rattle.format.proofs.byte.wide.Reads as wide-reads
-use Rattle.walking.proofs.record.put.Reads as put-reads
-use Rattle.walking.proofs.record.store_with.Reads as store-with-reads
 
 abbrev Inv-loop : tie.InvT-loop
 Inv-loop sizes line₀ at k m l n records₀ to s₀ t₀ place₀ next₀ line records s t place next = PushingLexicographic sizes m n k l at to line₀ records₀ s t place next line records
@@ -18,95 +13,35 @@ Inv-loop sizes line₀ at k m l n records₀ to s₀ t₀ place₀ next₀ line 
 abbrev μ-loop : tie.MeasureT-loop
 μ-loop sizes line₀ at k m l n records₀ to s₀ t₀ place₀ next₀ line records s t place next = m - s
 
--- src/record.rt:122:5
 loop-holds : tie.Need-loop-holds Inv-loop μ-loop
 loop-holds c = pushing-start _ _ _ (c .before .before .before .pre)
 
--- src/record.rt:124:13
 same-length : tie.Need-same-length Inv-loop μ-loop
 same-length c = c .before .before .loop .inv .line-kept
 
--- src/record.rt:124:13
 same-length-2 : tie.Need-same-length-2 Inv-loop μ-loop
 same-length-2 c = c .before .before .loop .inv .kept
 
--- src/record.rt:124:13
 returns : tie.Need-returns Inv-loop μ-loop
 returns c = pushing-right-done _ _ _ (c .before .before .loop .inv) (c .if1 .taken)
 
--- src/record.rt:126:33
-cast-store-with : tie.Need-cast-store-with Inv-loop μ-loop
-cast-store-with c = search needs
-
--- src/record.rt:126:42
-cast-store-with-2 : tie.Need-cast-store-with-2 Inv-loop μ-loop
-cast-store-with-2 c = search needs
-
--- src/record.rt:126:9
 store-with-requires : tie.Need-store-with-requires Inv-loop μ-loop
 store-with-requires c κs =
     let loop = c .before .before .before .before .loop in
     let e = lexicographic-room _ _ _ (loop .inv .fits) (c .before .before .before .loop-test .taken) (c .before .before .if1 .left) in
     (e .0, loop .inv .fits .whole, e .1)
 
--- src/record.rt:127:26
-cast-put : tie.Need-cast-put Inv-loop μ-loop
-cast-put c = search needs
-
--- src/record.rt:127:26
-add-put : tie.Need-add-put Inv-loop μ-loop
-add-put c = search needs
-
--- src/record.rt:127:46
-cast-put-2 : tie.Need-cast-put-2 Inv-loop μ-loop
-cast-put-2 c = search needs
-
--- src/record.rt:127:9
 put-requires : tie.Need-put-requires Inv-loop μ-loop
 put-requires c κs =
     let loop = c .before .before .before .before .before .before .before .before .loop in
     let e = lexicographic-room _ _ _ (loop .inv .fits) (c .before .before .before .before .before .before .before .loop-test .taken) (c .before .before .before .before .before .before .if1 .left) in
     omega (arith, loop .inv .fits .whole)
 
--- src/record.rt:128:17
-add-place : tie.Need-add-place Inv-loop μ-loop
-add-place c = search needs
-
--- src/record.rt:129:16
-add-next : tie.Need-add-next Inv-loop μ-loop
-add-next c = search needs
-
--- src/record.rt:130:22
-shared-slice-read-wide : tie.Need-shared-slice-read-wide Inv-loop μ-loop
-shared-slice-read-wide c = search needs
-
--- src/record.rt:130:17
-wide-requires : tie.Need-wide-requires Inv-loop μ-loop
-wide-requires c κs = search needs
-
--- src/record.rt:130:13
-add-s : tie.Need-add-s Inv-loop μ-loop
-add-s c = search needs
-
--- src/record.rt:131:22
-shared-slice-read-wide-2 : tie.Need-shared-slice-read-wide-2 Inv-loop μ-loop
-shared-slice-read-wide-2 c = search needs
-
--- src/record.rt:131:17
-wide-requires-2 : tie.Need-wide-requires-2 Inv-loop μ-loop
-wide-requires-2 c κs = search needs
-
--- src/record.rt:131:13
-add-t : tie.Need-add-t Inv-loop μ-loop
-add-t c = search needs
-
--- src/record.rt:122:5
 loop-less : tie.Need-loop-less Inv-loop μ-loop
 loop-less c =
     let e = lexicographic-sizes _ _ _ (c .before .before .before .before .before .before .before .before .before .before .before .before .before .before .before .loop .inv .fits) (c .before .before .before .before .before .before .before .before .before .before .before .before .before .before .loop-test .taken) (c .before .before .before .before .before .before .before .before .before .before .before .before .before .if1 .left) in
     omega (arith, c .before .before .wide .ensures .0, c .before .before .before .before .before .before .before .before .before .before .before .before .before .before .loop-test .taken)
 
--- src/record.rt:122:5
 loop-again : tie.Need-loop-again Inv-loop μ-loop
 loop-again c =
     let loop = c .before .before .before .before .before .before .before .before .before .before .before .before .before .before .before .loop in
@@ -115,15 +50,12 @@ loop-again c =
     pushing-next _ _ _ (c .before .before .wide .result) (c .wide2 .result) (loop .place + 2) (loop .next + 90) (new .last .0) (first .last .1 .1 .1 .1 .0) (loop .inv) (c .before .before .before .before .before .before .before .before .before .before .before .before .before .before .loop-test .taken) (c .before .before .before .before .before .before .before .before .before .before .before .before .before .if1 .left)
     (first .ensures) (first .kept .1 .1 .1 .1 .0) (new .ensures) (c .before .before .wide .ensures .0) (c .wide2 .ensures .0) (omega arith) (omega arith)
 
--- src/record.rt:104:1
 same-length-3 : tie.Need-same-length-3 Inv-loop μ-loop
 same-length-3 c = c .before .loop .inv .line-kept
 
--- src/record.rt:104:1
 same-length-4 : tie.Need-same-length-4 Inv-loop μ-loop
 same-length-4 c = c .before .loop .inv .kept
 
--- src/record.rt:104:1
 returns-2 : tie.Need-returns-2 Inv-loop μ-loop
 returns-2 c = pushing-left-done _ _ _ (c .before .loop .inv) (c .loop-test .left)
 
@@ -137,21 +69,21 @@ push-lexicographic-spec =
     same-length
     same-length-2
     returns
-    cast-store-with
-    cast-store-with-2
+    (λ c. search needs)
+    (λ c. search needs)
     store-with-requires
-    cast-put
-    add-put
-    cast-put-2
+    (λ c. search needs)
+    (λ c. search needs)
+    (λ c. search needs)
     put-requires
-    add-place
-    add-next
-    shared-slice-read-wide
-    wide-requires
-    add-s
-    shared-slice-read-wide-2
-    wide-requires-2
-    add-t
+    (λ c. search needs)
+    (λ c. search needs)
+    (λ c. search needs)
+    (λ c κs. search needs)
+    (λ c. search needs)
+    (λ c. search needs)
+    (λ c κs. search needs)
+    (λ c. search needs)
     loop-less
     loop-again
     same-length-3

@@ -6,8 +6,6 @@ use Rattle.walking.specs.Place.{line-bytes}
 use Rattle.walking.specs.Theory.Place.{Storing, storing-start, storing-next, storing-done, storing-length}
 use Rattle.walking.proofs.record.store.Statement.{statement}
 use Rattle.walking.proofs.record.store.Tie as tie
-use Rattle.walking.proofs.record.store.Reads as reads
-use Rattle.walking.proofs.record.store.Lts as lts
 
 abbrev Inv-loop : tie.InvT-loop
 Inv-loop line records₀ at i₀ records i = Storing line at records₀ records i
@@ -15,39 +13,18 @@ Inv-loop line records₀ at i₀ records i = Storing line at records₀ records 
 abbrev μ-loop : tie.MeasureT-loop
 μ-loop line records₀ at i₀ records i = line-bytes - i
 
--- src/record.rt:32:5
 loop-holds : tie.Need-loop-holds Inv-loop μ-loop
 loop-holds c = storing-start _ _ _ (c .pre .0) (c .pre .1)
 
--- src/record.rt:33:27
-shared-slice-read-records : tie.Need-shared-slice-read-records Inv-loop μ-loop
-shared-slice-read-records c = search needs
-
--- src/record.rt:33:17
-add-records : tie.Need-add-records Inv-loop μ-loop
-add-records c = search needs
-
--- src/record.rt:33:9
 slice-write-records : tie.Need-slice-write-records Inv-loop μ-loop
 slice-write-records c = omega (arith, storing-length (c .before .before .loop .inv), c .before .before .loop .inv .room)
 
--- src/record.rt:34:13
-add-i : tie.Need-add-i Inv-loop μ-loop
-add-i c = search needs
-
--- src/record.rt:32:5
-loop-less : tie.Need-loop-less Inv-loop μ-loop
-loop-less c = search needs
-
--- src/record.rt:32:5
 loop-again : tie.Need-loop-again Inv-loop μ-loop
 loop-again c = storing-next (c .before .before .loop .inv) (c .before .loop-test .taken)
 
--- src/record.rt:27:1
 same-length : tie.Need-same-length Inv-loop μ-loop
 same-length c = storing-length (c .before .loop .inv)
 
--- src/record.rt:27:1
 returns : tie.Need-returns Inv-loop μ-loop
 returns c = storing-done (c .before .loop .inv) (c .loop-test .left)
 
@@ -58,11 +35,11 @@ store-spec =
     Inv-loop
     μ-loop
     loop-holds
-    shared-slice-read-records
-    add-records
+    (λ c. search needs)
+    (λ c. search needs)
     slice-write-records
-    add-i
-    loop-less
+    (λ c. search needs)
+    (λ c. search needs)
     loop-again
     same-length
     returns)

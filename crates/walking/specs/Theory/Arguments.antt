@@ -1,34 +1,14 @@
--- The laws of the lines that a turn puts into the memory.
-use Prim.Native.Nat.{ℕ, zero, suc, _+_, _-_, _*_, _≤_, _<_}
+-- The laws of the lines of the choices of each argument.
+use Prim.Native.Nat.{ℕ, suc, _+_, _*_, _≤_, _<_}
 use mathlib.Core.Path.{_≡_, refl, sym, ap, _∙_}
-use mathlib.Core.List.{List, [], _∷_, _++_, map, append-assoc}
-use lib.ListN.{length, getD, set, length-append, length-set, length-map}
+use mathlib.Core.List.{List, _∷_, _++_, append-assoc}
+use lib.ListN.{length, getD, set, length-append, length-set}
 use native.Mathlib.Omega.{arith}
-use Rattle.solving.specs.Line.{Element, equal, greater}
-use Rattle.solving.specs.Walk.{argument-choices, exceeds-each, lexicographic-choices}
-use Rattle.walking.specs.Laid.{Row}
-use Rattle.walking.specs.Stored.{equality-mark, marks}
-use Rattle.walking.specs.Place.{line-bytes, placed, Gap, choices-bytes, ArgumentsFit, PushesArguments}
+use Rattle.solving.specs.Walk.{argument-choices}
+use Rattle.walking.specs.Stored.{equality-mark}
+use Rattle.walking.specs.Place.{line-bytes, placed, choices-bytes, ArgumentsFit, PushesArguments}
 use Rattle.walking.specs.Theory.Laid.{row-ordered, row-empty, row-next, row-first-some}
-use Rattle.walking.specs.Theory.Place.{placed-none, placed-behind, length-placed, set-pair}
-
--- Room for one element has two bytes.
-pub two-bytes : (gap : List ℕ) (n : ℕ) → length gap ≡ 2 * suc n → (x : ℕ) × (y : ℕ) × (rest : List ℕ) × (gap ≡ x ∷ y ∷ rest) × (length rest ≡ 2 * n)
-two-bytes [] n h = absurd (omega arith)
-two-bytes (x ∷ []) n h = absurd (omega arith)
-two-bytes (x ∷ y ∷ rest) n h = (x, y, rest, refl, omega arith)
-
-pub no-bytes : (gap : List ℕ) → length gap ≡ 0 → gap ≡ []
-no-bytes [] h = refl
-no-bytes (x ∷ gap) h = absurd (omega arith)
-
--- The line with two bytes in its room for one element.
-pub gap-filled : {line front back : List ℕ} {at : ℕ} (a b : ℕ) → length front ≡ at → Gap line front 1 back → set (set line at a) (at + 1) b ≡ front ++ (a ∷ b ∷ back)
-gap-filled {front = front} {back = back} {at = at} a b e g =
-    let (x, y, rest, h, l) = two-bytes (g .gap) 0 (g .room) in
-    let n = no-bytes rest l in
-    let i : (g .gap) ++ back ≡ x ∷ y ∷ back = ap (_++ back) h ∙ ap (λ r. x ∷ y ∷ (r ++ back)) n in
-    ap (λ l. set (set l at a) (at + 1) b) (g .is ∙ ap (front ++_) i) ∙ set-pair front x y a b back at e
+use Rattle.walking.specs.Theory.Place.{placed-none, placed-behind, gap-filled}
 
 module _ (sizes : List ℕ) (at q end : ℕ) (line : List ℕ) where
   -- The lines of the first argument are put into the memory.

@@ -1,0 +1,20 @@
+-- `lesser` meets its contract.
+use mathlib.Core.Path.{sym}
+use native.Mathlib.Omega.{arith}
+use borrow.Author.Needs.{needs}
+use Rattle.walking.specs.Theory.Children.{lesser-left, lesser-right}
+use Rattle.walking.proofs.split.lesser.Statement.{statement}
+use Rattle.walking.proofs.split.lesser.Tie as tie
+use Rattle.walking.proofs.split.lesser.Reads as reads
+use Rattle.walking.proofs.split.lesser.Lts as lts
+
+-- src/split.rt:16:9
+returns : tie.Need-returns
+returns c = sym (lesser-left (c .before .args .a) (c .before .args .b) (omega (arith, c .if1 .taken)))
+
+-- src/split.rt:12:1
+returns-2 : tie.Need-returns-2
+returns-2 c = sym (lesser-right (c .before .args .a) (c .before .args .b) (c .if1 .left))
+
+pub lesser-spec : {M : Type 1} → statement M
+lesser-spec = tie.close (tie.spec returns returns-2)

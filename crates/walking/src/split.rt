@@ -1,0 +1,68 @@
+// The lines of the choices of an inequality.
+use crate::element::FIRST_ELEMENT;
+use crate::leftmost::REDUCED;
+use crate::record::fill_exceeding;
+use crate::record::make_room;
+use crate::record::push_arguments;
+use crate::record::push_lexicographic;
+use crate::record::store;
+ghost use mathlib.Core.Path.{_≡_};
+ghost use Rattle.walking.specs.Splitting.{lesser, LastCount, ChoicesFit, PushesChoices};
+
+fn lesser(a: usize, b: usize) -> usize
+    ensures { λ r. ⌜ r ≡ lesser a b ⌝ }
+{
+    if a < b {
+        return a;
+    }
+    b
+}
+
+// How many choices there are besides those of the arguments of f, which has `m` and g `n`.
+pub fn last_count(f: u8, g: u8, m: usize, n: usize) -> usize
+    ensures { λ r. ⌜ LastCount f g m n r ⌝ }
+{
+    if g < f {
+        return 1;
+    }
+    if f == g {
+        return lesser(m, n);
+    }
+    0
+}
+
+// Puts the lines of all choices of the element `at`, p > q, where the arguments of f stand from `k` to `m` and the `count` of g from `l` to `n`.
+pub fn push_choices(
+    sizes: &[u8],
+    line: &mut [u8],
+    memory: &mut [u8],
+    at: usize,
+    p: u8,
+    q: u8,
+    f: u8,
+    g: u8,
+    k: usize,
+    m: usize,
+    l: usize,
+    n: usize,
+    count: usize,
+    last: usize,
+    to: usize,
+)
+    requires { ⌜ ChoicesFit (now sizes) (now line) (now memory) at p q f g k m l n count last to ⌝ }
+    ensures { λ _. ⌜ PushesChoices (now (sizes .entry)) (now (line .entry)) (now (memory .entry)) at p q f g k m l n count last to (now (memory .exit)) ⌝ }
+{
+    line[REDUCED] = at as u8;
+    let place = 2 * at + FIRST_ELEMENT;
+    let next = push_arguments(sizes, line, place, q, k, m, memory, to);
+    if last == 0 {
+        return;
+    }
+    make_room(line, at, count);
+    fill_exceeding(sizes, line, place, p, l, n);
+    if g < f {
+        store(line, memory, next);
+        return;
+    }
+    push_lexicographic(sizes, line, place, k, m, l, n, memory, next);
+}
