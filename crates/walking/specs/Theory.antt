@@ -25,3 +25,4 @@ pub mod Unifier
 pub mod Walking
 pub mod Children
 pub mod Splitting
+pub mod Treating

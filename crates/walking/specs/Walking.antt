@@ -52,6 +52,18 @@ pub record Walking (nodes sizes memory : List ℕ) (w : Walk) : Type 0 where
   pub turns-within : w .turns ≤ max-turns
   pub leads : walk-from enough (view-of nodes sizes) (max-turns - w .turns) (w .turns) (finished ++ map line-of unfinished) ≡ whole-walk nodes sizes w
 
+-- The first unfinished line is taken out, and all its elements are fully reduced.
+pub record Finishing (nodes sizes line memory : List ℕ) (w : Walk) : Type 0 where
+  pub laid : Laid nodes sizes
+  pub finished : List Line
+  pub first : Stored
+  pub others : List Stored
+  pub holds : Memory nodes sizes memory (w .done) (w .top) finished (first ∷ others)
+  pub line-is : line ≡ stored-bytes first
+  pub turns-within : w .turns ≤ max-turns
+  pub leads : walk-from enough (view-of nodes sizes) (max-turns - w .turns) (w .turns) (finished ++ map line-of (first ∷ others)) ≡ whole-walk nodes sizes w
+  pub all-reduced : AllReduced nodes sizes (first .bindings) (first .elements)
+
 -- The first unfinished line is taken out, and element number `at` of it is to be treated.
 pub record Treating (nodes sizes line memory : List ℕ) (w : Walk) (at : ℕ) (t : Treatment) : Type 0 where
   pub laid : Laid nodes sizes
@@ -78,8 +90,12 @@ pub record Further (w v : Walk) : Type 0 where
   pub falls : 300 * (max-turns - v .turns) + (max-lines - v .top) < 300 * (max-turns - w .turns) + (max-lines - w .top)
 
 -- The walk goes on from a new table, or it is refused.
+pub record GoesOn (nodes sizes memory : List ℕ) (w v : Walk) : Type 0 where
+  pub walking : Walking nodes sizes memory v
+  pub further : Further w v
+
 abbrev pub Outcome : (nodes sizes memory : List ℕ) (w v : Walk) → Progress → Type 0
-Outcome nodes sizes memory w v Going = Walking nodes sizes memory v × Further w v
+Outcome nodes sizes memory w v Going = GoesOn nodes sizes memory w v
 Outcome nodes sizes memory w v (Refused r) = whole-walk nodes sizes w ≡ refused r
 
 pub record Advances (nodes sizes memory : List ℕ) (w : Walk) (a : Advanced) : Type 0 where

@@ -1,5 +1,29 @@
 // The walk's cursor and count, and its turns.
+use crate::count::row_count;
+use crate::finish::write_record;
+use crate::leftmost::COUNT;
+use crate::leftmost::Leftmost;
+use crate::leftmost::find_leftmost;
+use crate::rebind::rebind;
+use crate::record::LINE;
+use crate::record::load;
+use crate::record::make_room;
+use crate::record::store;
+use crate::split::last_count;
+use crate::split::push_choices;
+use crate::treat::Treatment;
+use crate::unifier::unify_positions;
+use crate::unify::Answer;
+use format::byte::wide;
+use format::limits::Limits;
 use format::refusal::Refusal;
+ghost use mathlib.Core.Path.{_≡_};
+ghost use Prim.Native.Nat.{_+_, _<_};
+ghost use lib.ListN.{length};
+ghost use Rattle.format.specs.Limits.{max-lines};
+ghost use Rattle.walking.specs.declared.treat.Treatment.the-variants.{DropElement, DropLine, Reduced, Split, Unify};
+ghost use Rattle.walking.specs.Place.{line-bytes};
+ghost use Rattle.walking.specs.Walking.{Walking, Finishing, Treating, GoesOn, Advances};
 
 // Where the walk stands: the two sides' positions, how many lines are finished, the place of the first unfinished line, and how many turns are taken.
 // Finished lines' records stand from the front of the memory, unfinished lines as a stack from the back, so that no line is ever moved for another.
@@ -20,4 +44,87 @@ pub enum Progress {
 pub struct Advanced {
     pub progress: Progress,
     pub walk: Walk,
+}
+
+// The bytes of a record, and the places for lines.
+const RECORD: usize = 89;
+
+pub const LINES: usize = 255;
+
+const TURNS: usize = 10000;
+
+const ELEMENTS: usize = 40;
+
+impl Walk {
+    // The line is finished, which costs no turn: its record stands behind those of the others.
+    fn finish(self, nodes: &[u8], sizes: &[u8], line: &[u8], memory: &mut [u8]) -> Walk
+        requires { ⌜ Finishing (now nodes) (now sizes) (now line) (now memory) self ⌝ }
+        ensures { λ r. ⌜ GoesOn (now (nodes .entry)) (now (sizes .entry)) (now (memory .exit)) self r ⌝ }
+    {
+        write_record(line, memory, self.done * RECORD);
+        Walk {
+            source: self.source,
+            target: self.target,
+            done: self.done + 1,
+            top: self.top + 1,
+            turns: self.turns,
+        }
+    }
+
+    // A turn after which the first unfinished line is at `top`.
+    fn turned(self, top: usize) -> Walk
+        requires { ⌜ self .turns < 10000 ⌝ }
+        ensures { λ r. ⌜ r ≡ record { source = self .source; target = self .target; done = self .done; top = top; turns = self .turns + 1 } ⌝ }
+    {
+        Walk {
+            source: self.source,
+            target: self.target,
+            done: self.done,
+            top: top,
+            turns: self.turns + 1,
+        }
+    }
+
+    // "delete the element"
+    fn drop_element(
+        self,
+        nodes: &[u8],
+        sizes: &[u8],
+        line: &mut [u8],
+        memory: &mut [u8],
+        at: usize,
+    ) -> Walk
+        requires { ⌜ Treating (now nodes) (now sizes) (now line) (now memory) self at DropElement ⌝ }
+        ensures { λ r. ⌜ GoesOn (now (nodes .entry)) (now (sizes .entry)) (now (memory .exit)) self r ⌝ }
+    {
+        make_room(line, at, 0);
+        store(line, memory, self.top * LINE);
+        self.turned(self.top)
+    }
+
+    // "Failure deletes the line, success the element."
+    fn unify(
+        self,
+        nodes: &[u8],
+        sizes: &[u8],
+        line: &mut [u8],
+        memory: &mut [u8],
+        at: usize,
+        p: usize,
+        q: usize,
+    ) -> Walk
+        requires { ⌜ Treating (now nodes) (now sizes) (now line) (now memory) self at (Unify p q) ⌝ }
+        ensures { λ r. ⌜ GoesOn (now (nodes .entry)) (now (sizes .entry)) (now (memory .exit)) self r ⌝ }
+    {
+        let unifier = unify_positions(nodes, sizes, &line[..8], p, q);
+        let answer = unifier.answer;
+        let Answer::Unified = answer else {
+            return self.turned(self.top + 1);
+        };
+        let bindings = unifier.bindings;
+        make_room(line, at, 0);
+        rebind(line, &bindings);
+        store(line, memory, self.top * LINE);
+        self.turned(self.top)
+    }
 }

@@ -16,13 +16,12 @@ use Rattle.format.specs.declared.refusal.Refusal.the-variants.{TooManyTurns as 
 use Rattle.solving.specs.Line.{Bindings, Element, equal, greater, Line, line, binding-byte, element-bytes, record-of, records}
 use Rattle.solving.specs.Walk.{enough, treat-line, turn, crowded, over-limit, Walked, solved, refused, walk-from, walk}
 use Rattle.walking.specs.declared.walk.Walk.{Walk}
-use Rattle.walking.specs.declared.walk.Progress.the-variants.{Going}
 use Rattle.walking.specs.Laid.{view-of, Laid}
 use Rattle.walking.specs.Bound.{bindings-of}
 use Rattle.walking.specs.Stored.{Stored, line-of, stored-bytes}
 use Rattle.walking.specs.Place.{line-bytes, placed, lines-bytes}
 use Rattle.walking.specs.Sound.{AllReduced, Sound}
-use Rattle.walking.specs.Walking.{memory-bytes, AllSound, Memory, whole-walk, Walking, Further, Outcome}
+use Rattle.walking.specs.Walking.{memory-bytes, AllSound, Memory, whole-walk, Walking, Further, GoesOn}
 use Rattle.walking.specs.Theory.Bound.{length-bindings}
 use Rattle.walking.specs.Theory.Stored.{readable-slots, length-stored}
 use Rattle.walking.specs.Theory.Turn.{Settled, leftmost-none, Finished, AllFinished, finished-append, turn-none, turn-some, short-append, finished-short, crowded-middle, over-elements, over-lines, within-limits, walk-ends, walk-too-long, walk-over, walk-on}
@@ -159,13 +158,14 @@ module _ (nodes sizes memory : List ℕ) (w : Walk) (finished : List Line) (firs
       abbrev further-on : Walk
       further-on = record { source = w .source; target = w .target; done = w .done; top = top′; turns = w .turns + 1 }
 
-      pub turned : Outcome nodes sizes memory′ w further-on Going
+      pub turned : GoesOn nodes sizes memory′ w further-on
       turned =
           let new = map line-of children in
           let l = length-map children line-of in
           let o = within-limits (finished ++ (new ++ map line-of others)) (short-table new (sound-short nodes sizes children sound)) (omega (arith, length-table new, m .top-is)) in
-          let e : suc (w .turns) ≡ w .turns + 1 = omega arith in (
-            record {
+          let e : suc (w .turns) ≡ w .turns + 1 = omega arith in
+          record {
+            walking = record {
               laid = laid;
               finished = finished;
               unfinished = children ++ others;
@@ -177,9 +177,9 @@ module _ (nodes sizes memory : List ℕ) (w : Walk) (finished : List Line) (firs
                   ∙ (sym (walk-on (view-of nodes sizes) (finished ++ map line-of (first ∷ others)) (w .turns) (finished ++ (new ++ map line-of others)) (table-turns new x) (max-turns - (w .turns + 1)) o)
                   ∙ (ap (λ n. walk-from enough (view-of nodes sizes) n (w .turns) (finished ++ map line-of (first ∷ others))) (sym one-left)
                   ∙ leads)));
-            },
-            record { same-source = refl; same-target = refl; top-within = omega (arith, m .top-is); falls = omega (arith, m .top-is) },
-          )
+            };
+            further = record { same-source = refl; same-target = refl; top-within = omega (arith, m .top-is); falls = omega (arith, m .top-is) };
+          }
 
 -- 5. The line is finished.
 length-record-of : (bs : List ℕ) (es : List Element) → length bs ≡ variable-count → length es ≤ max-elements → length (record-of (line (bindings-of bs) es)) ≡ record-bytes
@@ -224,14 +224,15 @@ module _ (nodes sizes memory : List ℕ) (w : Walk) (finished : List Line) (firs
   line-on = record { source = w .source; target = w .target; done = w .done + 1; top = w .top + 1; turns = w .turns }
 
   pub finished-on : Laid nodes sizes → w .turns ≤ max-turns → (memory′ : List ℕ) → AllReduced nodes sizes (first .bindings) (first .elements)
-      → memory′ ≡ placed (w .done * record-bytes) (record-of (line-of first)) memory → Outcome nodes sizes memory′ w line-on Going
+      → memory′ ≡ placed (w .done * record-bytes) (record-of (line-of first)) memory → GoesOn nodes sizes memory′ w line-on
   unfolding line-of treat-line crowded
   finished-on laid within memory′ r e =
       let s = m .all-sound .0 in
       let k : length (record-of (line-of first)) ≡ record-bytes = length-record-of (first .bindings) (first .elements) (readable-slots (s .readable)) (s .few) in
       let p : (w .done + 1) * record-bytes ≡ w .done * record-bytes + length (record-of (line-of first)) = omega arith in
-      let room : w .done * record-bytes + record-bytes ≤ length memory = omega (arith, m .length-is, m .top-is, m .ordered) in (
-        record {
+      let room : w .done * record-bytes + record-bytes ≤ length memory = omega (arith, m .length-is, m .top-is, m .ordered) in
+      record {
+        walking = record {
           laid = laid;
           finished = finished ++ (line-of first ∷ []);
           unfinished = others;
@@ -259,9 +260,9 @@ module _ (nodes sizes memory : List ℕ) (w : Walk) (finished : List Line) (firs
           };
           turns-within = within;
           leads = ap (walk-from enough (view-of nodes sizes) (max-turns - w .turns) (w .turns)) (append-assoc finished (line-of first ∷ []) (map line-of others)) ∙ leads;
-        },
-        record { same-source = refl; same-target = refl; top-within = omega (arith, m .top-is); falls = omega (arith, m .top-is) },
-      )
+        };
+        further = record { same-source = refl; same-target = refl; top-within = omega (arith, m .top-is); falls = omega (arith, m .top-is) };
+      }
 
 -- 6. Where no line is left the walk has ended, and what it ended with stands in the memory.
 pub ended : (nodes sizes memory : List ℕ) (w : Walk) (k : Walking nodes sizes memory w) → max-lines ≤ w .top
