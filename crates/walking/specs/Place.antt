@@ -2,7 +2,7 @@
 use Prim.Native.Nat.{ℕ, zero, suc, _+_, _*_, _≤_, _<_}
 use mathlib.Core.Path.{_≡_}
 use mathlib.Core.List.{List, [], _∷_, _++_}
-use lib.ListN.{length, getD, take, drop}
+use lib.ListN.{length, getD, set, take, drop}
 use Rattle.format.specs.Limits.{variable-count, max-elements}
 use Rattle.solving.specs.Line.{Element}
 use Rattle.solving.specs.Walk.{argument-choices, exceeds-each, lexicographic-choices}
@@ -94,8 +94,24 @@ pub record PushesArguments (sizes : List ℕ) (at q k end to : ℕ) (line before
   pub pushes : (ss front back : List ℕ) → Row sizes k end ss → length front ≡ at → Gap line front 1 back
       → (after ≡ placed to (choices-bytes front back (argument-choices ss q)) before) × (r ≡ to + line-bytes * length (argument-choices ss q))
 
+-- The bytes with an equality marked for each position, at every other byte from `at` on.
+unfoldable pub marked-equal : (ss : List ℕ) (at : ℕ) (bytes : List ℕ) → List ℕ
+marked-equal [] at bytes = bytes
+marked-equal (s ∷ ss) at bytes = marked-equal ss (at + 2) (set bytes at (s + equality-mark))
+
+-- Terms stand in the row from `k` to `end`, and there is a place for each from `at` on.
+pub record EqualFit (sizes : List ℕ) (at k end : ℕ) (bytes : List ℕ) : Type 0 where
+  pub starts : List ℕ
+  pub row : Row sizes k end starts
+  pub within : end ≤ length sizes
+  pub low : end ≤ equality-mark
+  pub room : at + 2 * length starts ≤ length bytes
+
+pub record MarksEqual (sizes : List ℕ) (at k end : ℕ) (before after : List ℕ) : Type 0 where
+  pub marks-each : (ss : List ℕ) → Row sizes k end ss → after ≡ marked-equal ss at before
+
 -- Terms stand in the row from `k` to `m` and in that from `l` to `n`, the line has room for an element for each of the latter from `at` on,
--- and the memory from `to` on for a line for each choice, whatever position `whole-side` is.
+-- and the memory from `to` on for a line for each choice. `whole-side` is the position of s in "all s > tj".
 pub record LexicographicFit (sizes : List ℕ) (at k m l n to : ℕ) (line records : List ℕ) : Type 0 where
   pub whole-side : ℕ
   pub left : List ℕ

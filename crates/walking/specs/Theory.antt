@@ -14,6 +14,7 @@ pub mod Turn
 pub mod Place
 pub mod Arguments
 pub mod Exceeding
+pub mod Marked
 pub mod Lexicographic
 pub mod Shift
 pub mod Widened

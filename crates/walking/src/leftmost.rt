@@ -1,14 +1,11 @@
 // The leftmost element of a line that is not fully reduced.
 use crate::element::element_at;
+use crate::record::COUNT;
+use crate::record::REDUCED;
 use crate::treat::Treatment;
 use crate::treat::treatment_of;
 use format::byte::wide;
 ghost use Rattle.walking.specs.Sound.{HasLine, FindsLeftmost};
-
-// Where the counts of a line stand: of its elements, and of the first ones that are known to be fully reduced.
-pub const COUNT: usize = 8;
-
-pub const REDUCED: usize = 9;
 
 // The element's number, and what it asks for; the count and nothing, where all are fully reduced.
 pub struct Leftmost {

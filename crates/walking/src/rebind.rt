@@ -1,5 +1,5 @@
 // A line with other bindings.
-use crate::leftmost::REDUCED;
+use crate::record::REDUCED;
 use format::limits::Limits;
 ghost use mathlib.Core.Path.{_≡_};
 ghost use lib.ListN.{length};

@@ -6,13 +6,15 @@ ghost use mathlib.Core.Path.{_≡_};
 ghost use Prim.Native.Nat.{_+_, _-_, _*_, _≤_, _<_};
 ghost use lib.ListN.{length, set};
 ghost use lib.Seq.{slice};
-ghost use Rattle.walking.specs.Place.{line-bytes, placed, Shifted, WideningFits, Widened, ExceedingFit, FillsExceeding, ArgumentsFit, PushesArguments, LexicographicFit, PushesLexicographic};
+ghost use Rattle.walking.specs.Place.{line-bytes, placed, Shifted, WideningFits, Widened, ExceedingFit, FillsExceeding, ArgumentsFit, PushesArguments, EqualFit, MarksEqual, LexicographicFit, PushesLexicographic};
 
 // The bytes of a line.
 pub const LINE: usize = 90;
 
-// Where the number of elements stands; behind it, how many of the first ones are known to be fully reduced.
+// Where the number of elements stands, and how many of the first ones are known to be fully reduced.
 pub const COUNT: usize = 8;
+
+pub const REDUCED: usize = 9;
 
 // Copies the line that stands at `at`.
 pub fn load(records: &[u8], at: usize, line: &mut [u8])
@@ -96,6 +98,17 @@ fn shift(line: &mut [u8], from: usize, end: usize, n: usize)
     shift_right(line, from, end, 2 * (n - 1));
 }
 
+// A byte that stands there already is not put again, which would delay a copy of the line.
+fn put_if_new(line: &mut [u8], at: usize, a: u8)
+    requires { ⌜ at < length (now line) ⌝ }
+    ensures { λ _. ⌜ now (line .exit) ≡ set (now (line .entry)) at a ⌝ }
+{
+    if line[at] == a {
+        return;
+    }
+    line[at] = a;
+}
+
 // Makes room for `n` elements in the place of element `i`. Those in front of it are known to be fully reduced.
 pub fn make_room(line: &mut [u8], i: usize, n: usize)
     requires { ⌜ WideningFits i n (now line) ⌝ }
@@ -108,7 +121,8 @@ pub fn make_room(line: &mut [u8], i: usize, n: usize)
         2 * count + FIRST_ELEMENT,
         n,
     );
-    put(line, COUNT, (count + n - 1) as u8, i as u8);
+    put_if_new(line, COUNT, (count + n - 1) as u8);
+    put_if_new(line, REDUCED, i as u8);
 }
 
 // Puts p > t, for each term t from `k` to `end`, one behind the other from `at` on.
@@ -150,11 +164,25 @@ pub fn push_arguments(
     next
 }
 
+// Marks an equality for each term from `k` to `end`, at every other byte from `at` on.
+fn mark_equal(sizes: &[u8], bytes: &mut [u8], at: usize, k: usize, end: usize)
+    requires { ⌜ EqualFit (now sizes) at k end (now bytes) ⌝ }
+    ensures { λ _. ⌜ MarksEqual (now (sizes .entry)) at k end (now (bytes .entry)) (now (bytes .exit)) ⌝ }
+{
+    let mut s = k;
+    let mut place = at;
+    while s < end {
+        bytes[place] = s as u8 + EQUALITY;
+        place = place + 2;
+        s = s + wide(sizes[s]);
+    }
+}
+
 // Puts the lines of the choices of each pair of arguments s and t, from `k` to `m` and from `l` to `n`: s > t in the place of t's element,
-// and s = t there from then on.
+// behind the equalities of the pairs before it. The line is copied as it is: a byte that was just changed would delay the copy.
 pub fn push_lexicographic(
     sizes: &[u8],
-    line: &mut [u8],
+    line: &[u8],
     at: usize,
     k: usize,
     m: usize,
@@ -175,7 +203,7 @@ pub fn push_lexicographic(
             return next;
         }
         store_with(line, place, s as u8, t as u8, records, next);
-        put(line, place, s as u8 + EQUALITY, t as u8);
+        mark_equal(sizes, records, next + at, k, s);
         place = place + 2;
         next = next + LINE;
         s = s + wide(sizes[s]);

@@ -1,6 +1,6 @@
 // The lines of the choices of an inequality.
 use crate::element::FIRST_ELEMENT;
-use crate::leftmost::REDUCED;
+use crate::record::REDUCED;
 use crate::record::fill_exceeding;
 use crate::record::make_room;
 use crate::record::push_arguments;

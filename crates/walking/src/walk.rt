@@ -1,10 +1,10 @@
 // The walk's cursor and count, and its turns.
 use crate::count::row_count;
 use crate::finish::write_record;
-use crate::leftmost::COUNT;
 use crate::leftmost::Leftmost;
 use crate::leftmost::find_leftmost;
 use crate::rebind::rebind;
+use crate::record::COUNT;
 use crate::record::LINE;
 use crate::record::load;
 use crate::record::make_room;

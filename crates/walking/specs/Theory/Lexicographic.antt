@@ -1,13 +1,16 @@
 -- The laws of the lines of the lexicographic choices: each differs from the one before it in two places only.
-use Prim.Native.Nat.{ℕ, suc, _+_, _≤_, _<_}
+use Prim.Native.Nat.{ℕ, suc, _+_, _*_, _≤_, _<_}
 use mathlib.Core.Path.{_≡_, refl, sym, ap, _∙_}
 use mathlib.Core.List.{List, [], _∷_, _++_, map, append-assoc}
+use lib.Seq.{set-at}
 use lib.ListN.{length, getD, set, length-append, length-set, length-map}
 use native.Mathlib.Omega.{arith}
 use Rattle.solving.specs.Line.{Element, equal, greater}
 use Rattle.solving.specs.Walk.{exceeds-each, lexicographic-choices}
 use Rattle.walking.specs.Stored.{equality-mark, marks}
-use Rattle.walking.specs.Place.{line-bytes, placed, choices-bytes, LexicographicFit, PushesLexicographic}
+use Rattle.walking.specs.Laid.{Row, none}
+use Rattle.walking.specs.Place.{line-bytes, placed, choices-bytes, marked-equal, EqualFit, MarksEqual, LexicographicFit, PushesLexicographic}
+use Rattle.walking.specs.Theory.Marked.{length-marked, marked-last, marked-set, marked-placed, row-last}
 use Rattle.walking.specs.Theory.Laid.{row-ordered, row-empty, row-next, row-first-some}
 use Rattle.walking.specs.Theory.Place.{placed-none, placed-behind, set-pair}
 
@@ -53,7 +56,7 @@ module _ (sizes : List ℕ) (m n : ℕ) where
 
   pub lexicographic-next : (k l at to s-size t-size place next r : ℕ) (line records first after : List ℕ) → k < m → l < n → length line ≡ line-bytes → to ≤ length records
       → first ≡ placed to (set (set line at k) (at + 1) l) records → s-size ≡ getD sizes k 0 → t-size ≡ getD sizes l 0 → place ≡ at + 2 → next ≡ to + line-bytes
-      → PushesLexicographic sizes place (k + s-size) m (l + t-size) n next (set (set line at (k + equality-mark)) (at + 1) l) first after r
+      → PushesLexicographic sizes place (k + s-size) m (l + t-size) n next (set line at (k + equality-mark)) first after r
       → PushesLexicographic sizes at k m l n to line records after r
   unfolding choices-bytes lexicographic-choices exceeds-each marks
   lexicographic-next k l at to s-size t-size place next r line records first after h i w u e x y j v f = record {
@@ -66,9 +69,9 @@ module _ (sizes : List ℕ) (m n : ℕ) where
         let wide : length (front ++ (k ∷ l ∷ others)) ≡ line-bytes = sym (ap length one) ∙ (length-set (set line at k) (at + 1) l ∙ (length-set line at k ∙ w)) in
         let c : k + equality-mark ≡ equality-mark + k = omega arith in
         let new = front ++ ((equality-mark + k) ∷ l ∷ []) in
-        let two : set (set line at (k + equality-mark)) (at + 1) l ≡ new ++ others =
-        ap (λ z. set (set z at (k + equality-mark)) (at + 1) l) is
-        ∙ (set-pair front p l (k + equality-mark) l others at a
+        let two : set line at (k + equality-mark) ≡ new ++ others =
+        ap (λ z. set z at (k + equality-mark)) is
+        ∙ (set-at front p (l ∷ others) (k + equality-mark) at a
         ∙ (ap (λ z. front ++ (z ∷ l ∷ others)) c
         ∙ sym (append-assoc front ((equality-mark + k) ∷ l ∷ []) others))) in
         let seam : length new ≡ place = omega (arith, length-append front ((equality-mark + k) ∷ l ∷ [])) in
@@ -113,54 +116,95 @@ module _ (sizes : List ℕ) (m n : ℕ) where
       let d = ap length y in
       (omega (arith, f .room), omega (arith, f .places))
 
-  -- The lines of the pairs up to `k` and `l` are in the memory: what is still to be done does the whole.
-  pub record PushingLexicographic (k₀ l₀ at₀ to₀ : ℕ) (line₀ before : List ℕ) (k l at to : ℕ) (line records : List ℕ) : Type 0 where
-    pub fits : LexicographicFit sizes at k m l n to line records
-    pub line-kept : length line ≡ length line₀
+  -- The lines of the pairs up to `k` and `l` are in the memory: what is still to be done, with a line that has the equalities of those pairs, does the whole.
+  pub record PushingLexicographic (k₀ l₀ at₀ to₀ : ℕ) (line before : List ℕ) (k l at to : ℕ) (records : List ℕ) : Type 0 where
+    pub done : List ℕ
+    pub done-row : Row sizes k₀ k done
+    pub reached : at ≡ at₀ + 2 * length done
+    pub fits : LexicographicFit sizes at k m l n to (marked-equal done at₀ line) records
     pub kept : length records ≡ length before
-    pub rest : (after : List ℕ) (r : ℕ) → PushesLexicographic sizes at k m l n to line records after r → PushesLexicographic sizes at₀ k₀ m l₀ n to₀ line₀ before after r
+    pub rest : (after : List ℕ) (r : ℕ) → PushesLexicographic sizes at k m l n to (marked-equal done at₀ line) records after r → PushesLexicographic sizes at₀ k₀ m l₀ n to₀ line before after r
 
-  pub pushing-start : {k l at to : ℕ} {line records : List ℕ} → LexicographicFit sizes at k m l n to line records → PushingLexicographic k l at to line records k l at to line records
-  pushing-start f = record { fits = f; line-kept = refl; kept = refl; rest = λ after r x. x }
+  pub pushing-start : {k l at to : ℕ} {line records : List ℕ} → LexicographicFit sizes at k m l n to line records → PushingLexicographic k l at to line records k l at to records
+  unfolding marked-equal
+  pushing-start f = record { done = []; done-row = none refl; reached = omega arith; fits = f; kept = refl; rest = λ after r x. x }
 
-  pub pushing-next : {k₀ l₀ at₀ to₀ k l at to : ℕ} {line₀ before line records : List ℕ} (s-size t-size place next : ℕ) (new first : List ℕ)
-      → PushingLexicographic k₀ l₀ at₀ to₀ line₀ before k l at to line records → k < m → l < n
-      → first ≡ placed to (set (set line at k) (at + 1) l) records → length first ≡ length records → new ≡ set (set line at (k + equality-mark)) (at + 1) l
-      → s-size ≡ getD sizes k 0 → t-size ≡ getD sizes l 0 → place ≡ at + 2 → next ≡ to + line-bytes
-      → PushingLexicographic k₀ l₀ at₀ to₀ line₀ before (k + s-size) (l + t-size) place next new first
-  pushing-next {k = k} {l = l} {at = at} {to = to} {line = line} {records = records} s-size t-size place next new first p h i e w d x y j v =
-      let f = p .fits in
-      let (ss, u, rest) = row-next (f .left-row) h in
-      let (ts, o, others) = row-next (f .right-row) i in
-      let c = one-more f u o in
-      let g : length new ≡ length line = ap length d ∙ (length-set (set line at (k + equality-mark)) (at + 1) l ∙ length-set line at (k + equality-mark)) in
-      let b = ap length o in
-      let q = f .room in
-      record {
-        fits =
-            record {
-              whole-side = f .whole-side;
-              left = ss;
-              right = ts;
-              left-row = rw x rest;
-              right-row = rw y others;
-              left-within = f .left-within;
-              right-within = f .right-within;
-              left-low = f .left-low;
-              right-low = f .right-low;
-              whole = g ∙ f .whole;
-              places = omega (arith, f .places);
-              room = omega arith;
-            };
-        line-kept = g ∙ p .line-kept;
-        kept = w ∙ p .kept;
-        rest = λ after r z. p .rest after r (lexicographic-next k l at to s-size t-size place next r line records first after h i (f .whole) (omega arith) e x y j v (rw d at z));
-      }
+  module _ {k₀ l₀ at₀ to₀ k l at to : ℕ} {line before records : List ℕ} (p : PushingLexicographic k₀ l₀ at₀ to₀ line before k l at to records) where
+    pub pushing-whole : length line ≡ line-bytes
+    pushing-whole = sym (length-marked (p .done) at₀ line) ∙ p .fits .whole
 
-  pub pushing-left-done : {k₀ l₀ at₀ to₀ k l at to : ℕ} {line₀ before line records : List ℕ} → PushingLexicographic k₀ l₀ at₀ to₀ line₀ before k l at to line records → m ≤ k
-      → PushesLexicographic sizes at₀ k₀ m l₀ n to₀ line₀ before records to
-  pushing-left-done {k = k} {l = l} {at = at} {to = to} {line = line} {records = records} p h = p .rest records to (lexicographic-left-done k l at to line records h)
+    pub pushing-left-done : m ≤ k → PushesLexicographic sizes at₀ k₀ m l₀ n to₀ line before records to
+    pushing-left-done h = p .rest records to (lexicographic-left-done k l at to (marked-equal (p .done) at₀ line) records h)
 
-  pub pushing-right-done : {k₀ l₀ at₀ to₀ k l at to : ℕ} {line₀ before line records : List ℕ} → PushingLexicographic k₀ l₀ at₀ to₀ line₀ before k l at to line records → n ≤ l
-      → PushesLexicographic sizes at₀ k₀ m l₀ n to₀ line₀ before records to
-  pushing-right-done {k = k} {l = l} {at = at} {to = to} {line = line} {records = records} p h = p .rest records to (lexicographic-right-done k l at to line records h)
+    pub pushing-right-done : n ≤ l → PushesLexicographic sizes at₀ k₀ m l₀ n to₀ line before records to
+    pushing-right-done h = p .rest records to (lexicographic-right-done k l at to (marked-equal (p .done) at₀ line) records h)
+
+    module _ (h : k < m) (i : l < n) where
+      -- The pairs before this one can be marked in the line that was put.
+      pub pushing-marks : (first : List ℕ) → length first ≡ length records → EqualFit sizes (to + at₀) k₀ k first
+      pushing-marks first e =
+          let (room, place) = lexicographic-room (p .fits) h i in
+          record {
+            starts = p .done;
+            row = p .done-row;
+            within = omega (arith, p .fits .left-within);
+            low = omega (arith, p .fits .left-low);
+            room = omega (arith, p .reached);
+          }
+
+      -- The line that was put and then marked is the marked line with this pair.
+      pub pushing-put : (first second : List ℕ) → first ≡ placed to (set (set line at k) (at + 1) l) records → MarksEqual sizes (to + at₀) k₀ k first second
+          → second ≡ placed to (set (set (marked-equal (p .done) at₀ line) at k) (at + 1) l) records
+      pushing-put first second e f =
+          let (room, place) = lexicographic-room (p .fits) h i in
+          let done = p .done in
+          let r = p .reached in
+          let one = set line at k in
+          let w = pushing-whole in
+          let u = length-set line at k in
+          let v = length-set one (at + 1) l in
+          f .marks-each done (p .done-row)
+          ∙ (ap (marked-equal done (to + at₀)) e
+          ∙ (marked-placed done at₀ to (set one (at + 1) l) records (omega arith) (omega arith)
+          ∙ (ap (λ z. placed to z records) (marked-set done at₀ (at + 1) l one (omega arith))
+          ∙ ap (λ z. placed to (set z (at + 1) l) records) (marked-set done at₀ at k line (omega arith)))))
+
+      pub pushing-next : (s-size t-size place next : ℕ) (first second : List ℕ) → first ≡ placed to (set (set line at k) (at + 1) l) records
+          → MarksEqual sizes (to + at₀) k₀ k first second → length second ≡ length records
+          → s-size ≡ getD sizes k 0 → t-size ≡ getD sizes l 0 → place ≡ at + 2 → next ≡ to + line-bytes
+          → PushingLexicographic k₀ l₀ at₀ to₀ line before (k + s-size) (l + t-size) place next second
+      pushing-next s-size t-size place next first second e g w x y j v =
+          let f = p .fits in
+          let done = p .done in
+          let new = done ++ (k ∷ []) in
+          let (ss, u, rest) = row-next (f .left-row) h in
+          let (ts, o, others) = row-next (f .right-row) i in
+          let c = one-more f u o in
+          let b = ap length o in
+          let q = f .room in
+          let z = length-append done (k ∷ []) in
+          let marks-new : marked-equal new at₀ line ≡ set (marked-equal done at₀ line) at (k + equality-mark) =
+          marked-last done k at₀ line ∙ ap (λ d. set (marked-equal done at₀ line) d (k + equality-mark)) (sym (p .reached)) in
+          record {
+            done = new;
+            done-row = rw x (row-last (p .done-row) (row-first-some (f .left-row) h));
+            reached = omega (arith, p .reached);
+            fits =
+                record {
+                  whole-side = f .whole-side;
+                  left = ss;
+                  right = ts;
+                  left-row = rw x rest;
+                  right-row = rw y others;
+                  left-within = f .left-within;
+                  right-within = f .right-within;
+                  left-low = f .left-low;
+                  right-low = f .right-low;
+                  whole = length-marked new at₀ line ∙ pushing-whole;
+                  places = omega (arith, f .places);
+                  room = omega arith;
+                };
+            kept = w ∙ p .kept;
+            rest = λ after r d.
+                p .rest after r (lexicographic-next k l at to s-size t-size place next r (marked-equal done at₀ line) records second after h i (f .whole) (omega arith) (pushing-put first second e g) x y j v (rw marks-new at d));
+          }

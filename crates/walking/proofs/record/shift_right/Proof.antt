@@ -1,5 +1,4 @@
 -- `walking::record::shift_right` moves bytes to the right. The loop's invariant, `ShiftingRight`: what is still to be moved gives the whole.
-use Prim.Native.Nat.{_-_}
 use borrow.Author.Needs.{needs}
 use Rattle.walking.specs.Theory.Shift.{ShiftingRight, right-start, right-next, right-done}
 use Rattle.walking.proofs.record.shift_right.Statement.{statement}

@@ -86,7 +86,7 @@ push-lexicographic-requires c κs =
 
 -- src/split.rt:35:1
 same-length-5 : tie.Need-same-length-5
-same-length-5 c = let a = c .before .before .before .before .before .before .before .before .before .before .before .before .before .before .before .before .before .before .before .before .before .before .before .before .before in c .before .before .before .before .push-lexicographic .kept .1 .0 ∙ (c .before .before .before .before .before .before .before .before .before .before .fill-exceeding .kept .1 .0 ∙ (c .before .before .before .before .before .before .before .before .before .before .before .before .before .before .make-room .kept .0 ∙ length-set (a .args .line .now) 9 (a .args .at)))
+same-length-5 c = let a = c .before .before .before .before .before .before .before .before .before .before .before .before .before .before .before .before .before .before .before .before .before .before .before in c .before .before .before .before .before .before .before .before .fill-exceeding .kept .1 .0 ∙ (c .before .before .before .before .before .before .before .before .before .before .before .before .make-room .kept .0 ∙ length-set (a .args .line .now) 9 (a .args .at))
 
 -- src/split.rt:35:1
 same-length-6 : tie.Need-same-length-6
@@ -95,8 +95,8 @@ same-length-6 c = search needs
 -- src/split.rt:35:1
 returns-3 : tie.Need-returns-3
 returns-3 c =
-    let a = c .before .before .before .before .before .before .before .before .before .before .before .before .before .before .before .before .before .before .before .before .before .before .before .before .before in
-    record { pushes = λ bindings pre post ss ts s. pushed-same s (set (a .args .line .now) 9 (a .args .at)) (c .before .before .before .before .before .before .before .before .before .before .before .before .before .before .make-room .last .0) (c .before .before .before .before .before .before .before .before .before .before .fill-exceeding .last .1 .0) (a .args .memory .now) (c .before .before .before .before .before .before .before .before .before .before .before .before .before .before .before .before .before .before .before .push-arguments .last .1 .1 .1 .1 .1 .1 .0) (a .args .to) (2 * a .args .at + 10) (c .before .before .before .before .before .before .before .before .before .before .before .before .before .before .before .before .before .before .before .push-arguments .result) refl refl (positive (c .before .before .before .before .before .before .before .before .before .before .before .before .before .before .before .before .if1 .left)) (room-for s (a .pre)) (c .before .before .before .before .before .before .before .before .before .before .before .before .before .before .before .before .before .before .before .push-arguments .ensures) (c .before .before .before .before .before .before .before .before .before .before .before .before .before .before .make-room .ensures) (c .before .before .before .before .before .before .before .before .before .before .fill-exceeding .ensures) (c .before .before .before .before .push-lexicographic .last .1 .1 .1 .1 .1 .1 .1 .0) (c .before .before .before .before .push-lexicographic .result) (c .before .before .before .before .before .before .before .if2 .left) (c .before .before .before .before .push-lexicographic .ensures) }
+    let a = c .before .before .before .before .before .before .before .before .before .before .before .before .before .before .before .before .before .before .before .before .before .before .before in
+    record { pushes = λ bindings pre post ss ts s. pushed-same s (set (a .args .line .now) 9 (a .args .at)) (c .before .before .before .before .before .before .before .before .before .before .before .before .make-room .last .0) (c .before .before .before .before .before .before .before .before .fill-exceeding .last .1 .0) (a .args .memory .now) (c .before .before .before .before .before .before .before .before .before .before .before .before .before .before .before .before .before .push-arguments .last .1 .1 .1 .1 .1 .1 .0) (a .args .to) (2 * a .args .at + 10) (c .before .before .before .before .before .before .before .before .before .before .before .before .before .before .before .before .before .push-arguments .result) refl refl (positive (c .before .before .before .before .before .before .before .before .before .before .before .before .before .before .if1 .left)) (room-for s (a .pre)) (c .before .before .before .before .before .before .before .before .before .before .before .before .before .before .before .before .before .push-arguments .ensures) (c .before .before .before .before .before .before .before .before .before .before .before .before .make-room .ensures) (c .before .before .before .before .before .before .before .before .fill-exceeding .ensures) (c .before .before .push-lexicographic .last .1 .1 .1 .1 .1 .1 .1 .0) (c .before .before .push-lexicographic .result) (c .before .before .before .before .before .if2 .left) (c .before .before .push-lexicographic .ensures) }
 
 pub push-choices-spec : {M : Type 1} → statement M
 push-choices-spec =
