@@ -2,6 +2,7 @@ pub mod Laid
 pub mod Bound
 pub mod Unify
 pub mod Stored
+pub mod Named
 pub mod Place
 pub mod Treatment
 pub mod Sound

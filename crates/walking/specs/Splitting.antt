@@ -1,6 +1,7 @@
 -- The choices of an inequality between two terms that are no variables.
 use Prim.Native.Nat.{ℕ, zero, suc, _+_, _*_, _≤_, _<_}
 use mathlib.Core.Path.{_≡_}
+use mathlib.Core.Bool.{Bool, true, false}
 use mathlib.Core.List.{List, [], _∷_, _++_, map}
 use lib.ListN.{length}
 use Rattle.format.specs.Limits.{variable-count, max-elements}
@@ -30,6 +31,12 @@ pub record Lasts (p q f g : ℕ) (ss ts : List ℕ) (last : ℕ) : Type 0 where
 
 pub record LastCount (f g m n r : ℕ) : Type 0 where
   pub counts : (p q : ℕ) (ss ts : List ℕ) → length ss ≡ m → length ts ≡ n → Lasts p q f g ss ts r
+  pub few : r ≤ m + 1
+
+-- Whether some choice of `elements` elements comes last and is too long.
+pub record TooLong (last elements : ℕ) (r : Bool) : Type 0 where
+  pub tells : r ≡ true → (0 < last) × (max-elements < elements)
+  pub fits : r ≡ false → 0 < last → elements ≤ max-elements
 
 -- Element `at` of the line, p > q, is to be replaced by the choices of f(ss) and g(ts); the terms of `ss` stand from `k` to `m`, those of `ts` from `l` to `n`.
 pub record Splitting (sizes line : List ℕ) (at p q f g k m l n count last : ℕ) (bindings : List ℕ) (pre post : List Element) (ss ts : List ℕ) : Type 0 where

@@ -23,7 +23,9 @@ pub mod Front
 pub mod Record
 pub mod Rebind
 pub mod Unifier
+pub mod Named
 pub mod Walking
 pub mod Children
 pub mod Splitting
 pub mod Treating
+pub mod Split

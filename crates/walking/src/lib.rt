@@ -3,6 +3,7 @@ pub mod count;
 pub mod element;
 pub mod finish;
 pub mod leftmost;
+pub mod line;
 pub mod occurs;
 pub mod reach;
 pub mod rebind;

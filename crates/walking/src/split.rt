@@ -7,7 +7,10 @@ use crate::record::push_arguments;
 use crate::record::push_lexicographic;
 use crate::record::store;
 ghost use mathlib.Core.Path.{_≡_};
-ghost use Rattle.walking.specs.Splitting.{lesser, LastCount, ChoicesFit, PushesChoices};
+ghost use Rattle.walking.specs.Splitting.{lesser, LastCount, TooLong, ChoicesFit, PushesChoices};
+
+// "up to 40 elements"
+const ELEMENTS: usize = 40;
 
 fn lesser(a: usize, b: usize) -> usize
     ensures { λ r. ⌜ r ≡ lesser a b ⌝ }
@@ -29,6 +32,16 @@ pub fn last_count(f: u8, g: u8, m: usize, n: usize) -> usize
         return lesser(m, n);
     }
     0
+}
+
+// Whether a line of a choice that comes last is too long with `elements` elements.
+pub fn too_long(last: usize, elements: usize) -> bool
+    ensures { λ r. ⌜ TooLong last elements r ⌝ }
+{
+    if last == 0 {
+        return false;
+    }
+    ELEMENTS < elements
 }
 
 // Puts the lines of all choices of the element `at`, p > q, where the arguments of f stand from `k` to `m` and the `count` of g from `l` to `n`.

@@ -11,6 +11,7 @@ use crate::record::make_room;
 use crate::record::store;
 use crate::split::last_count;
 use crate::split::push_choices;
+use crate::split::too_long;
 use crate::treat::Treatment;
 use crate::unifier::unify_positions;
 use crate::unify::Answer;
@@ -52,8 +53,6 @@ const RECORD: usize = 89;
 pub const LINES: usize = 255;
 
 const TURNS: usize = 10000;
-
-const ELEMENTS: usize = 40;
 
 impl Walk {
     // The line is finished, which costs no turn: its record stands behind those of the others.
@@ -126,5 +125,66 @@ impl Walk {
         rebind(line, &bindings);
         store(line, memory, self.top * LINE);
         self.turned(self.top)
+    }
+
+    // "the line is replaced, in its place, by one line per choice"
+    fn split(
+        self,
+        nodes: &[u8],
+        sizes: &[u8],
+        line: &mut [u8],
+        memory: &mut [u8],
+        at: usize,
+        p: usize,
+        q: usize,
+        s: usize,
+        t: usize,
+    ) -> Advanced
+        requires { ⌜ Treating (now nodes) (now sizes) (now line) (now memory) self at (Split p q s t) ⌝ }
+        ensures { λ r. ⌜ Advances (now (nodes .entry)) (now (sizes .entry)) (now (memory .exit)) self r ⌝ }
+    {
+        let f = nodes[s];
+        let g = nodes[t];
+        let m = s + wide(sizes[s]);
+        let n = t + wide(sizes[t]);
+        let left = row_count(sizes, s + 1, m);
+        let right = row_count(sizes, t + 1, n);
+        let last = last_count(f, g, left, right);
+        if too_long(last, wide(line[COUNT]) - 1 + right) {
+            return Advanced {
+                progress: Progress::Refused(Refusal::TooManyElements),
+                walk: self,
+            };
+        }
+        let choices = left + left + last;
+        if self.top + 1 < self.done + choices {
+            return Advanced {
+                progress: Progress::Refused(Refusal::TooManyLines),
+                walk: self,
+            };
+        }
+        let first = self.top + 1 - choices;
+        push_choices(
+            sizes,
+            line,
+            memory,
+            at,
+            p as u8,
+            q as u8,
+            f,
+            g,
+            s + 1,
+            m,
+            t + 1,
+            n,
+            right,
+            last,
+            first * LINE,
+        );
+        let walk = self.turned(first);
+        Advanced {
+            progress: Progress::Going,
+            walk: walk,
+        }
     }
 }

@@ -95,7 +95,7 @@ module _ {nodes sizes : List ℕ} (l : Stored) (s : Sound nodes sizes l) (pre : 
       }
 
   -- The choices that the treatment of an inequality gives.
-  abbrev Fitting : List (List Element) → Type 0
+  abbrev pub Fitting : List (List Element) → Type 0
   Fitting [] = Unit {0}
   Fitting (cs ∷ css) = (length pre + (length cs + length post) ≤ max-elements) × Fitting css
 
@@ -173,6 +173,12 @@ unfolding lexicographic-choices lesser
 lexicographic-count p [] ts = refl
 lexicographic-count p (s ∷ ss) [] = refl
 lexicographic-count p (s ∷ ss) (t ∷ ts) = ap suc (length-map (lexicographic-choices p ss ts) (equal s t ∷_) ∙ lexicographic-count p ss ts)
+
+pub lesser-le : (m n : ℕ) → lesser m n ≤ m
+unfolding lesser
+lesser-le zero n = omega arith
+lesser-le (suc m) zero = omega arith
+lesser-le (suc m) (suc n) = omega (arith, lesser-le m n)
 
 pub lesser-left : (m n : ℕ) → m ≤ n → lesser m n ≡ m
 unfolding lesser

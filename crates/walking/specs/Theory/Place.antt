@@ -2,7 +2,7 @@
 use Prim.Native.Nat.{ℕ, suc, _+_, _*_, _≤_, _<_}
 use mathlib.Core.Path.{_≡_, refl, sym, ap, _∙_}
 use mathlib.Core.List.{List, [], _∷_, _++_, append-assoc}
-use lib.ListN.{length, getD, set, take, drop, length-append, length-set, take-append-drop}
+use lib.ListN.{length-drop, length, getD, set, take, drop, length-append, length-set, take-append-drop}
 use lib.Seq.{slice, slice-empty, paste, paste-zero, paste-suc, length-paste, length-take-le, take-suc, take-suc-set, take-all, drop-append-le, take-at, drop-at, drop-drop, set-append-left, set-at}
 use native.Mathlib.Nat.{add-zero, zero-add, suc-add}
 use native.Mathlib.Numerals.{add-one}
@@ -14,6 +14,11 @@ pub slice-suc : (f t : ℕ) (l : List ℕ) → f ≤ t → t < length l → slic
 slice-suc f t l h k =
     let e = length-take-le t l (omega arith) in
     ap (drop f) (take-suc l t 0 k) ∙ drop-append-le f (take t l) (getD l t 0 ∷ []) (omega arith)
+
+pub placed-length : (at : ℕ) (part buffer : List ℕ) → at + length part ≤ length buffer → length (placed at part buffer) ≡ length buffer
+unfolding placed
+placed-length at part buffer h =
+    simp (length-append) (omega (arith, length-take-le at buffer (omega arith), length-drop (at + length part) buffer))
 
 pub placed-none : (at : ℕ) (buffer : List ℕ) → placed at [] buffer ≡ buffer
 unfolding placed

@@ -4,6 +4,8 @@ use mathlib.Core.Path.{_≡_, refl, sym, ap, ap₂, subst, _∙_}
 use mathlib.Core.List.{List, [], _∷_, _++_, map, map-append, append-assoc, append-nil}
 use lib.ListN.{length, getD, set, length-append, length-set, length-map}
 use lib.Seq.{set-at}
+use lib.Dec.{ltb, ltb→lt, nltb→le}
+use mathlib.Core.Bool.{true, false}
 use native.Mathlib.Decide.{ℕ-discrete, decLt}
 use native.Mathlib.Omega.{arith}
 use Rattle.format.specs.Limits.{variable-count, max-elements}
@@ -13,17 +15,18 @@ use Rattle.walking.specs.Laid.{Row}
 use Rattle.walking.specs.Stored.{equality-mark, marks, padding, Stored, stored-bytes}
 use Rattle.walking.specs.Place.{line-bytes, placed, lines-bytes, Gap, front-bytes, back-bytes, WideningFits, Widened, ExceedingFit, FillsExceeding, choices-bytes, ArgumentsFit, PushesArguments, LexicographicFit, PushesLexicographic}
 use Rattle.walking.specs.Children.{child}
-use Rattle.walking.specs.Splitting.{lesser, AllLong, Lasts, LastCount, Splitting, ChoicesFit, PushesChoices}
+use Rattle.walking.specs.Splitting.{lesser, AllLong, Lasts, LastCount, TooLong, Splitting, ChoicesFit, PushesChoices}
 use Rattle.walking.specs.Theory.Laid.{row-unique}
 use Rattle.walking.specs.Theory.Stored.{length-marks, length-stored, count-there}
-use Rattle.walking.specs.Theory.Place.{placed-behind}
-use Rattle.walking.specs.Theory.Walking.{lines-append, placed-length}
-use Rattle.walking.specs.Theory.Children.{child-bytes, children-bytes, argument-long, argument-count, exceeds-long, lexicographic-long, lexicographic-count, choices-less, choices-more, choices-same}
+use Rattle.walking.specs.Theory.Place.{placed-behind, placed-length}
+use Rattle.walking.specs.Theory.Walking.{lines-append}
+use Rattle.walking.specs.Theory.Children.{child-bytes, children-bytes, argument-long, argument-count, exceeds-long, lexicographic-long, lexicographic-count, lesser-le, choices-less, choices-more, choices-same}
 
 -- 1. How many choices come last.
 pub last-more : (f g m n : ℕ) → g < f → LastCount f g m n 1
 last-more f g m n h = record {
   counts = λ p q ss ts x y. record { lasts = exceeds-each p ts ∷ []; are = choices-more p q f g ss ts h; long = (exceeds-long p ts, tt); count = refl };
+  few = omega arith;
 }
 
 pub last-same : (f g m n r : ℕ) → f ≡ g → r ≡ lesser m n → LastCount f g m n r
@@ -34,11 +37,13 @@ last-same f g m n r h e = record {
     long = lexicographic-long p ss ts;
     count = lexicographic-count p ss ts ∙ (ap₂ lesser x y ∙ sym e);
   };
+  few = omega (arith, e, lesser-le m n);
 }
 
 pub last-none : (f g m n : ℕ) → f ≤ g → (f ≡ g → ⊥) → LastCount f g m n 0
 last-none f g m n h k = record {
   counts = λ p q ss ts x y. record { lasts = []; are = choices-less p q f g ss ts (less f g h k) ∙ sym (append-nil (argument-choices ss q)); long = tt; count = refl };
+  few = omega arith;
 }
   where
     less : (f g : ℕ) → f ≤ g → (f ≡ g → ⊥) → f < g
@@ -57,6 +62,12 @@ pub room-for : {sizes line memory : List ℕ} {at p q f g k m l n count last to 
     → Splitting sizes line at p q f g k m l n count last bindings pre post ss ts → ChoicesFit sizes line memory at p q f g k m l n count last to
     → to + line-bytes * length (choices p q f g ss ts) ≤ length memory
 room-for s c = rw (row-unique (s .left-row) (c .facts .left-row), row-unique (s .right-row) (c .facts .right-row)) (c .room)
+
+pub too-long-none : (last elements : ℕ) → last ≡ 0 → TooLong last elements false
+too-long-none last elements e = record { tells = λ h. let z : _≡_ {A = ℕ} 0 1 = cc in absurd (omega arith); fits = λ h i. absurd (omega arith) }
+
+pub too-long-some : (last elements : ℕ) → (last ≡ 0 → ⊥) → TooLong last elements (ltb max-elements elements)
+too-long-some last elements n = record { tells = λ h. (positive n, ltb→lt max-elements elements (rw h tt)); fits = λ h i. nltb→le max-elements elements (rw h tt) }
 
 -- 2. The line with the count of its reduced elements changed.
 set-reduced : (bs : List ℕ) (c r x : ℕ) (rest : List ℕ) → length bs ≡ variable-count → set (bs ++ (c ∷ r ∷ rest)) 9 x ≡ bs ++ (c ∷ x ∷ rest)

@@ -73,12 +73,12 @@ module _ {nodes sizes line memory : List ℕ} {w : Walk} {at : ℕ} {t : Treatme
   pub treating-place : w .top * line-bytes + line-bytes ≤ length memory
   treating-place = omega (arith, g .holds .top-is, g .holds .length-is)
 
-  count-byte : getD line 8 0 ≡ length (g .pre) + (1 + length (g .post))
+  pub count-byte : getD line 8 0 ≡ length (g .pre) + (1 + length (g .post))
   count-byte =
       ap (λ b. getD b 8 0) (g .line-is)
       ∙ (count-there (g .first) (readable-slots (sound-first .readable)) ∙ length-split (g .first) sound-first (g .pre) (g .element) (g .post) (g .split))
 
-  few-elements : length (g .pre) + (1 + length (g .post)) ≤ max-elements
+  pub few-elements : length (g .pre) + (1 + length (g .post)) ≤ max-elements
   few-elements = omega (arith, sound-first .few, length-split (g .first) sound-first (g .pre) (g .element) (g .post) (g .split))
 
   pub treating-count : (at < getD line 8 0) × (getD line 8 0 ≤ max-elements)

@@ -23,6 +23,7 @@ use Rattle.walking.specs.Place.{line-bytes, placed, lines-bytes}
 use Rattle.walking.specs.Sound.{AllReduced, Sound}
 use Rattle.walking.specs.Walking.{memory-bytes, AllSound, Memory, whole-walk, Walking, Further, GoesOn}
 use Rattle.walking.specs.Theory.Bound.{length-bindings}
+use Rattle.walking.specs.Theory.Place.{placed-length}
 use Rattle.walking.specs.Theory.Stored.{readable-slots, length-stored}
 use Rattle.walking.specs.Theory.Turn.{Settled, leftmost-none, Finished, AllFinished, finished-append, turn-none, turn-some, short-append, finished-short, crowded-middle, over-elements, over-lines, within-limits, walk-ends, walk-too-long, walk-over, walk-on}
 
@@ -36,11 +37,6 @@ placed-front k at part buffer h l =
 pub placed-back : (at : ℕ) (part buffer : List ℕ) → at ≤ length buffer → drop at (placed at part buffer) ≡ part ++ drop (at + length part) buffer
 unfolding placed
 placed-back at part buffer l = drop-at (take at buffer) (part ++ drop (at + length part) buffer) at (length-take-le at buffer l)
-
-pub placed-length : (at : ℕ) (part buffer : List ℕ) → at + length part ≤ length buffer → length (placed at part buffer) ≡ length buffer
-unfolding placed
-placed-length at part buffer h =
-    simp (length-append) (omega (arith, length-take-le at buffer (omega arith), length-drop (at + length part) buffer))
 
 slice-is : (f n : ℕ) (l : List ℕ) → f ≤ length l → slice f (f + n) l ≡ take n (drop f l)
 slice-is f n l h = ap (drop f) (take-add f n l) ∙ drop-at (take f l) (take n (drop f l)) f (length-take-le f l h)
@@ -63,7 +59,7 @@ pub sound-append : (nodes sizes : List ℕ) (xs ys : List Stored) → AllSound n
 sound-append nodes sizes [] ys h k = k
 sound-append nodes sizes (l ∷ xs) ys h k = (h .0, sound-append nodes sizes xs ys (h .1) k)
 
-sound-short : (nodes sizes : List ℕ) (ls : List Stored) → AllSound nodes sizes ls → any crowded (map line-of ls) ≡ false
+pub sound-short : (nodes sizes : List ℕ) (ls : List Stored) → AllSound nodes sizes ls → any crowded (map line-of ls) ≡ false
 unfolding any line-of crowded
 sound-short nodes sizes [] h = refl
 sound-short nodes sizes (l ∷ ls) h = rw (le-ltb max-elements (length (l .elements)) (h .0 .few), sound-short nodes sizes ls (h .1), any)
