@@ -29,3 +29,4 @@ pub mod Children
 pub mod Splitting
 pub mod Treating
 pub mod Split
+pub mod Step

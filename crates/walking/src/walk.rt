@@ -1,7 +1,6 @@
 // The walk's cursor and count, and its turns.
 use crate::count::row_count;
 use crate::finish::write_record;
-use crate::leftmost::Leftmost;
 use crate::leftmost::find_leftmost;
 use crate::rebind::rebind;
 use crate::record::COUNT;
@@ -23,6 +22,7 @@ ghost use Prim.Native.Nat.{_+_, _<_};
 ghost use lib.ListN.{length};
 ghost use Rattle.format.specs.Limits.{max-lines};
 ghost use Rattle.walking.specs.declared.treat.Treatment.the-variants.{DropElement, DropLine, Reduced, Split, Unify};
+ghost use Rattle.walking.specs.declared.walk.Progress.the-variants.{Going};
 ghost use Rattle.walking.specs.Place.{line-bytes};
 ghost use Rattle.walking.specs.Walking.{Walking, Finishing, Treating, GoesOn, Advances};
 
@@ -186,5 +186,60 @@ impl Walk {
             progress: Progress::Going,
             walk: walk,
         }
+    }
+
+    // Does what the element asks for.
+    fn treat(
+        self,
+        nodes: &[u8],
+        sizes: &[u8],
+        line: &mut [u8],
+        memory: &mut [u8],
+        at: usize,
+        treatment: Treatment,
+    ) -> Advanced
+        requires { ⌜ Treating (now nodes) (now sizes) (now line) (now memory) self at treatment × (treatment ≡ Reduced → ⊥) ⌝ }
+        ensures { λ r. ⌜ Advances (now (nodes .entry)) (now (sizes .entry)) (now (memory .exit)) self r ⌝ }
+    {
+        match treatment {
+            Treatment::Reduced => Advanced {
+                progress: Progress::Going,
+                walk: self,
+            },
+            Treatment::DropLine => going(self.turned(self.top + 1)),
+            Treatment::DropElement => going(self.drop_element(nodes, sizes, line, memory, at)),
+            Treatment::Unify(p, q) => going(self.unify(nodes, sizes, line, memory, at, p, q)),
+            Treatment::Split(p, q, s, t) => self.split(nodes, sizes, line, memory, at, p, q, s, t),
+        }
+    }
+
+    // "Take the first unfinished line and in it the leftmost element that is not fully reduced. Treating it is one turn." A line that has none is finished.
+    pub fn turn(self, nodes: &[u8], sizes: &[u8], line: &mut [u8], memory: &mut [u8]) -> Advanced
+        requires { ⌜ Walking (now nodes) (now sizes) (now memory) self ⌝ }
+        requires { ⌜ (self .top < max-lines) × (length (now line) ≡ line-bytes) ⌝ }
+        ensures { λ r. ⌜ Advances (now (nodes .entry)) (now (sizes .entry)) (now (memory .exit)) self r ⌝ }
+    {
+        load(memory, self.top * LINE, line);
+        let found = find_leftmost(nodes, sizes, line);
+        let treatment = found.treatment;
+        let Treatment::Reduced = treatment else {
+            if self.turns == TURNS {
+                return Advanced {
+                    progress: Progress::Refused(Refusal::TooManyTurns),
+                    walk: self,
+                };
+            }
+            return self.treat(nodes, sizes, line, memory, found.at, treatment);
+        };
+        going(self.finish(nodes, sizes, line, memory))
+    }
+}
+
+fn going(walk: Walk) -> Advanced
+    ensures { λ r. ⌜ r ≡ record { progress = Going; walk = walk } ⌝ }
+{
+    Advanced {
+        progress: Progress::Going,
+        walk: walk,
     }
 }

@@ -60,6 +60,9 @@ module _ {nodes sizes line memory : List ℕ} {w : Walk} (f : Finishing nodes si
       finished-on nodes sizes memory w (f .finished) (f .first) (f .others) (f .holds) (f .leads) (f .laid) (f .turns-within) memory′ (f .all-reduced)
       (e ∙ ap (λ part. placed (w .done * record-bytes) part memory) r)
 
+pub treating-as : {nodes sizes line memory : List ℕ} {w : Walk} {at : ℕ} {t u : Treatment} → Treating nodes sizes line memory w at t → t ≡ u → Treating nodes sizes line memory w at u
+treating-as {nodes = nodes} {sizes = sizes} {line = line} {memory = memory} {w = w} {at = at} g e = subst (Treating nodes sizes line memory w at) e g
+
 module _ {nodes sizes line memory : List ℕ} {w : Walk} {at : ℕ} {t : Treatment} (g : Treating nodes sizes line memory w at t) where
   sound-first : Sound nodes sizes (g .first)
   sound-first = g .holds .all-sound .0
