@@ -4,6 +4,7 @@ pub mod Check
 pub mod Compare
 pub mod CompareTask
 pub mod Fill
+pub mod Equation
 pub mod Solve
 pub mod Walks
 pub mod Run

@@ -6,6 +6,7 @@ use lib.ListN.{length, getD, take, drop, length-append}
 use lib.Seq.{slice, length-take-le, take-append-add, take-at, drop-at}
 use native.Mathlib.Omega.{arith}
 use Rattle.format.specs.Limits.{max-symbols, max-task-nodes, position-count, variable-count, scratch-bytes}
+use Rattle.format.specs.Buffer.{written}
 use Rattle.terms.specs.Term.{Term, Terms, nil, cons, size, sizes, Ground, Grounds}
 use Rattle.terms.specs.Position.{subterms-of}
 use Rattle.terms.specs.Prefix.{prefix, prefixes, terms-of}
@@ -30,13 +31,14 @@ pub record Placed (nodes bs : List ℕ) : Type 0 where
   pub at : length before ≡ position-count
   pub is : nodes ≡ before ++ (bs ++ after)
 
-pub placed : (nodes part rest after bs : List ℕ) → position-count ≤ length nodes → part ≡ bs ++ rest → Placed (take position-count nodes ++ (part ++ after)) bs
-placed nodes part rest after bs h e =
+pub placed : (nodes part former after bs : List ℕ) → position-count ≤ length nodes → part ≡ written bs former → Placed (take position-count nodes ++ (part ++ after)) bs
+unfolding written
+placed nodes part former after bs h e =
     record {
       before = take position-count nodes;
-      after = rest ++ after;
+      after = drop (length bs) former ++ after;
       at = length-take-le position-count nodes h;
-      is = ap (λ p. take position-count nodes ++ p) (ap (_++ after) e ∙ append-assoc bs rest after);
+      is = ap (λ p. take position-count nodes ++ p) (ap (_++ after) e ∙ append-assoc bs (drop (length bs) former) after);
     }
 
 placed-slice : (nodes bs : List ℕ) → Placed nodes bs → (n : ℕ) → n ≡ length bs → slice position-count (position-count + n) nodes ≡ bs

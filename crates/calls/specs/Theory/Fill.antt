@@ -6,7 +6,8 @@ use lib.ListN.{length, getD, take, drop, set, replicate, length-replicate, lengt
 use lib.Seq.{drop-cons, set-append-seam, take-append-le, drop-append-add, drop-drop, drop-at}
 use native.Mathlib.Numerals.{add-one}
 use native.Mathlib.Omega.{arith}
-use Rattle.calls.specs.Buffer.{written, filled, cleared}
+use Rattle.format.specs.Buffer.{written}
+use Rattle.calls.specs.Buffer.{filled, cleared}
 
 filled-is : (n b : ℕ) (buffer : List ℕ) → filled n b buffer ≡ replicate n b ++ drop n buffer
 unfolding filled written
