@@ -39,6 +39,12 @@ entry-found [] i h = absurd (omega arith)
 entry-found (y ∷ xs) zero h = (y, refl)
 entry-found (y ∷ xs) (suc i) h = entry-found xs i (omega arith)
 
+pub entry-none : {A : Type 0} (xs : List A) (i : ℕ) → length xs ≤ i → entry xs i ≡ none
+unfolding entry
+entry-none [] i h = refl
+entry-none (x ∷ xs) zero h = absurd (omega arith)
+entry-none (x ∷ xs) (suc i) h = entry-none xs i (omega arith)
+
 -- A conjunction that is true, taken apart.
 pub and-true : (a b : Bool) → (a && b) ≡ true → (a ≡ true) × (b ≡ true)
 and-true true true e = (refl, refl)
