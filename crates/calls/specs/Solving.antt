@@ -5,15 +5,15 @@ use mathlib.Core.List.{List}
 use lib.ListN.{length}
 use Rattle.format.specs.Limits.{max-symbols, max-lines}
 use Rattle.terms.specs.Equation.{Equation}
+use Rattle.terms.specs.Prefix.{equation-bytes}
 use Rattle.terms.specs.Theory.Limits.{WithinLimits}
 use Rattle.terms.specs.Theory.Prefix.{Fits}
 use Rattle.walking.specs.Place.{line-bytes}
-use Rattle.walking.specs.Equation.{equation-nodes}
 
 module _ (bytes arities : List ℕ) where
   -- These are the bytes of this equation, which is over symbols with these arities and within the limits.
   pub record EquationIs (e : Equation) : Type 0 where
-    pub spelled : bytes ≡ equation-nodes e
+    pub spelled : bytes ≡ equation-bytes e
     pub limits : WithinLimits e
     pub left-fits : Fits arities (e .left)
     pub right-fits : Fits arities (e .right)

@@ -6,28 +6,28 @@ use lib.ListN.{length}
 use Rattle.format.specs.Limits.{max-symbols}
 use Rattle.terms.specs.Term.{Terms, nil, cons, size}
 use Rattle.terms.specs.Position.{subterms, subterms-of}
-use Rattle.terms.specs.Prefix.{prefix, prefixes, terms-of}
+use Rattle.terms.specs.Prefix.{prefix, prefixes, equation-bytes, terms-of}
 use Rattle.terms.specs.Equation.{Equation}
 use Rattle.terms.specs.Theory.Prefix.{Fits, AllFit, terms-of-spelled}
 use Rattle.comparing.specs.Sizes.{Whole, node-sizes}
 use Rattle.comparing.specs.Theory.Sizes.{whole}
-use Rattle.walking.specs.Equation.{equation-nodes, equation-sizes}
+use Rattle.walking.specs.Equation.{equation-sizes}
 
 module _ (arities : List ℕ) (known : length arities ≤ max-symbols) (e : Equation) (left-fits : Fits arities (e .left)) (right-fits : Fits arities (e .right)) where
   abbrev sides : Terms
   sides = cons (e .left) (cons (e .right) nil)
 
-  nodes-spelled : equation-nodes e ≡ prefixes sides
-  unfolding equation-nodes prefix
+  nodes-spelled : equation-bytes e ≡ prefixes sides
+  unfolding equation-bytes prefix
   nodes-spelled = ap (prefix (e .left) ++_) (sym (append-nil (prefix (e .right))))
 
   sides-fit : AllFit arities sides
   sides-fit = (left-fits, (right-fits, tt))
 
-  pub equation-whole : Whole arities (equation-nodes e)
+  pub equation-whole : Whole arities (equation-bytes e)
   equation-whole = subst (Whole arities) (sym nodes-spelled) (whole arities known sides sides-fit)
 
-  pub equation-measured : node-sizes arities (equation-nodes e) ≡ equation-sizes e
+  pub equation-measured : node-sizes arities (equation-bytes e) ≡ equation-sizes e
   unfolding node-sizes equation-sizes subterms
   equation-measured =
       ap (λ bs. map size (subterms-of (terms-of arities bs))) nodes-spelled

@@ -15,7 +15,7 @@ use Rattle.terms.specs.Theory.Positions.{left-at}
 use Rattle.comparing.specs.Sizes.{Whole, Measurable, node-sizes}
 use Rattle.solving.specs.Walk.{Walked, enough, walk, solve}
 use Rattle.walking.specs.Laid.{view-of, Laid}
-use Rattle.walking.specs.Equation.{equation-nodes, equation-sizes}
+use Rattle.walking.specs.Equation.{equation-sizes}
 use Rattle.walking.specs.Theory.Equation.{length-nodes, length-sizes, size-at, equation-walk, equation-laid}
 use Rattle.calls.specs.declared.walked.Walked.{Walked as Told}
 use Rattle.calls.specs.Walked.{Tells, WalkedAs}

@@ -16,12 +16,12 @@ use Rattle.format.specs.declared.refusal.Refusal.the-variants.{ShortBuffer as s
 use Rattle.format.specs.Lists.{entry}
 use Rattle.format.specs.Theory.Lists.{entry-none, every-entry}
 use Rattle.terms.specs.Equation.{Equation, Direction, left-right, right-left, direction-of}
+use Rattle.terms.specs.Prefix.{equation-bytes}
 use Rattle.sheet.specs.declared.known.Known.{Known}
 use Rattle.sheet.specs.declared.read.Reading.{Reading as Read}
 use Rattle.sheet.specs.declared.read.Reading.the-variants.{Accepted, Refused as Sheet-Refused}
 use Rattle.sheet.specs.Sheet.{Sheet}
 use Rattle.sheet.specs.Reading.{accepted, read}
-use Rattle.sheet.specs.Frames.{equation-bytes}
 use Rattle.sheet.specs.Scan.{known-arities}
 use Rattle.sheet.specs.Reader.{SheetRead, KnowsSheet, Roomy}
 use Rattle.sheet.specs.Seek.{Accepts, EquationIn, Decoded}
@@ -31,7 +31,6 @@ use Rattle.sheet.specs.Theory.Found.{equation-few, equation-asked}
 use Rattle.solving.specs.Line.{Line, records}
 use Rattle.solving.specs.Walk.{Walked, solved, refused, solve}
 use Rattle.solving.specs.Theory.Solve.{solved-line-count, solved-turn-count}
-use Rattle.walking.specs.Equation.{equation-nodes}
 use Rattle.calls.specs.declared.walked.Ending.the-variants.{Solved, Refused}
 use Rattle.calls.specs.declared.walked.Walked.{Walked as Told}
 use Rattle.calls.specs.Buffer.{fields, refusal-number, filled, cleared, blanked}
@@ -105,7 +104,7 @@ module _ (sheet : List ℕ) (equation : ℕ) (known : Known) (a : Accepts sheet 
   bytes-taken l = sym (length-take-le n bytes (bytes-room l))
 
   pub equation-is : (q : Equation) → EquationIn sheet equation q → EquationIs (take n bytes) (take (known .symbols) (known .arities)) q
-  unfolding equation-nodes equation-bytes written
+  unfolding equation-bytes written
   equation-is q i =
       let (l, b) = each q i in
       let (s, r, x) = i in

@@ -9,9 +9,10 @@ use borrow.Author.Tests.{lt-ltb, le-ltb}
 use native.Mathlib.Omega.{arith}
 use native.Mathlib.Decide.{decLt}
 use Rattle.format.specs.Limits.{first-variable, variable-count, max-symbols, position-count}
+use Rattle.format.specs.Theory.Lists.{Every, every-append, every-getD, getD-map}
 use Rattle.terms.specs.Term.{Term, Terms, var, app, nil, cons, size, sizes}
 use Rattle.terms.specs.Position.{subterms, subterms-of, starts, Node, var-node, app-node, node-at}
-use Rattle.terms.specs.Prefix.{prefix, prefixes}
+use Rattle.terms.specs.Prefix.{prefix, prefixes, equation-bytes}
 use Rattle.terms.specs.Equation.{Equation, Direction, term-at, source-position, target-position, view}
 use Rattle.terms.specs.Theory.Limits.{WithinLimits, positions, positions-few}
 use Rattle.terms.specs.Theory.Position.{size-pos}
@@ -19,13 +20,8 @@ use Rattle.terms.specs.Theory.Positions.{Segment, term-head, first-segment, res
 use Rattle.terms.specs.Theory.Prefix.{Fits, AllFit}
 use Rattle.solving.specs.Walk.{enough, walk, solve}
 use Rattle.walking.specs.Laid.{row, arguments-of, view-of, Row, none, more, Laid}
-use Rattle.walking.specs.Equation.{equation-nodes, equation-sizes}
+use Rattle.walking.specs.Equation.{equation-sizes}
 use Rattle.walking.specs.Theory.Laid.{row-ordered, row-empty, getD-any, symbol-seen, variable-seen}
-
-getD-map : {A B : Type 0} (f : A → B) (xs : List A) (i : ℕ) (d : A) → getD (map f xs) i (f d) ≡ f (getD xs i d)
-getD-map f [] i d = refl
-getD-map f (x ∷ xs) zero d = refl
-getD-map f (x ∷ xs) (suc i) d = getD-map f xs i d
 
 -- 1. The byte at a position is that of the term there.
 unfoldable first-byte : Term → ℕ
@@ -45,29 +41,16 @@ mutual
 
 -- 2. Every subterm of a term over some symbols is one.
 module _ (arities : List ℕ) where
-  abbrev EachFits : List Term → Type 0
-  EachFits [] = Unit {0}
-  EachFits (t ∷ ts) = Fits arities t × EachFits ts
-
-  each-append : (a b : List Term) → EachFits a → EachFits b → EachFits (a ++ b)
-  each-append [] b h k = k
-  each-append (t ∷ a) b h k = (h .0, each-append a b (h .1) k)
-
   mutual
     unfolding subterms
 
-    subterms-fit : (t : Term) → Fits arities t → EachFits (subterms t)
+    subterms-fit : (t : Term) → Fits arities t → Every (Fits arities) (subterms t)
     subterms-fit (var v) h = (h, tt)
     subterms-fit (app f ts) h = (h, subterms-of-fit ts (h .2))
 
-    subterms-of-fit : (ts : Terms) → AllFit arities ts → EachFits (subterms-of ts)
+    subterms-of-fit : (ts : Terms) → AllFit arities ts → Every (Fits arities) (subterms-of ts)
     subterms-of-fit nil h = tt
-    subterms-of-fit (cons t ts) h = each-append (subterms t) (subterms-of ts) (subterms-fit t (h .0)) (subterms-of-fit ts (h .1))
-
-  each-getD : (a : List Term) (p : ℕ) (d : Term) → EachFits a → Fits arities d → Fits arities (getD a p d)
-  each-getD [] p d h k = k
-  each-getD (t ∷ a) zero d h k = h .0
-  each-getD (t ∷ a) (suc p) d h k = each-getD a p d (h .1) k
+    subterms-of-fit (cons t ts) h = every-append (Fits arities) (subterms t) (subterms-of ts) (subterms-fit t (h .0)) (subterms-of-fit ts (h .1))
 
 -- 3. The positions of a row, with steps to spare.
 pub row-is : {sizes : List ℕ} (m : ℕ) {k end : ℕ} {ps : List ℕ} → Row sizes k end ps → end ≤ k + m → row m sizes k end ≡ ps
@@ -77,18 +60,18 @@ row-is {sizes} (suc m) {k} {end} (none e) h = rw (le-ltb k end (omega arith), ro
 row-is {sizes} (suc m) {k} {end} (more l r) h = rw (lt-ltb k end (omega (arith, row-ordered r)), row) (ap (k ∷_) (row-is m r (omega arith)))
 
 module _ (e : Equation) where
-  nodes-bytes : equation-nodes e ≡ map first-byte (all-subterms e)
-  unfolding equation-nodes
+  nodes-bytes : equation-bytes e ≡ map first-byte (all-subterms e)
+  unfolding equation-bytes
   nodes-bytes = cc (prefix-bytes (e .left), prefix-bytes (e .right), map-append first-byte (subterms (e .left)) (subterms (e .right)))
 
-  pub length-nodes : length (equation-nodes e) ≡ positions e
+  pub length-nodes : length (equation-bytes e) ≡ positions e
   length-nodes = ap length nodes-bytes ∙ (length-map (all-subterms e) first-byte ∙ length-all e)
 
   pub length-sizes : length (equation-sizes e) ≡ positions e
   unfolding equation-sizes
   length-sizes = length-map (all-subterms e) size ∙ length-all e
 
-  byte-at : (p : ℕ) → getD (equation-nodes e) p first-variable ≡ first-byte (term-at e p)
+  byte-at : (p : ℕ) → getD (equation-bytes e) p first-variable ≡ first-byte (term-at e p)
   unfolding term-at first-byte
   byte-at p = ap (λ l. getD l p first-variable) nodes-bytes ∙ getD-map first-byte (all-subterms e) p (var 0)
 
@@ -135,30 +118,30 @@ module _ (e : Equation) where
     unfolding term-at
     term-fits p =
         let low : 0 < variable-count = omega arith in
-        each-getD arities (all-subterms e) p (var 0) (each-append arities (subterms (e .left)) (subterms (e .right)) (subterms-fit arities (e .left) left-fits) (subterms-fit arities (e .right) right-fits)) low
+        every-getD (Fits arities) (all-subterms e) p (var 0) (every-append (Fits arities) (subterms (e .left)) (subterms (e .right)) (subterms-fit arities (e .left) left-fits) (subterms-fit arities (e .right) right-fits)) low
 
     -- What the code sees at a position is what stands there.
-    seen-at : (p : ℕ) → view-of (equation-nodes e) (equation-sizes e) p ≡ view e p
+    seen-at : (p : ℕ) → view-of (equation-bytes e) (equation-sizes e) p ≡ view e p
     unfolding view node-at first-byte
     seen-at p = go (term-at e p) refl (term-fits p)
       where
-        go : (t : Term) → term-at e p ≡ t → Fits arities t → view-of (equation-nodes e) (equation-sizes e) p ≡ view e p
+        go : (t : Term) → term-at e p ≡ t → Fits arities t → view-of (equation-bytes e) (equation-sizes e) p ≡ view e p
         go (var v) x h =
-            let b : getD (equation-nodes e) p first-variable ≡ first-variable + v = byte-at p ∙ ap first-byte x in
-            let n : getD (equation-nodes e) p first-variable - first-variable ≡ v = omega arith in
-            variable-seen (equation-nodes e) (equation-sizes e) p (omega arith) ∙ (ap var-node n ∙ ap (node-at p) (sym x))
+            let b : getD (equation-bytes e) p first-variable ≡ first-variable + v = byte-at p ∙ ap first-byte x in
+            let n : getD (equation-bytes e) p first-variable - first-variable ≡ v = omega arith in
+            variable-seen (equation-bytes e) (equation-sizes e) p (omega arith) ∙ (ap var-node n ∙ ap (node-at p) (sym x))
         go (app f ts) x h =
-            let b : getD (equation-nodes e) p first-variable ≡ f = byte-at p ∙ ap first-byte x in
-            symbol-seen (equation-nodes e) (equation-sizes e) p (omega (arith, h .0)) ∙ (cc (b, symbol-arguments p f ts x) ∙ ap (node-at p) (sym x))
+            let b : getD (equation-bytes e) p first-variable ≡ f = byte-at p ∙ ap first-byte x in
+            symbol-seen (equation-bytes e) (equation-sizes e) p (omega (arith, h .0)) ∙ (cc (b, symbol-arguments p f ts x) ∙ ap (node-at p) (sym x))
 
-    pub equation-view : view-of (equation-nodes e) (equation-sizes e) ≡ view e
+    pub equation-view : view-of (equation-bytes e) (equation-sizes e) ≡ view e
     equation-view = fun-ext seen-at
 
-    pub equation-walk : (d : Direction) → walk enough (view-of (equation-nodes e) (equation-sizes e)) (source-position e d) (target-position e d) ≡ solve e d
+    pub equation-walk : (d : Direction) → walk enough (view-of (equation-bytes e) (equation-sizes e)) (source-position e d) (target-position e d) ≡ solve e d
     unfolding solve
     equation-walk d = ap (λ v. walk enough v (source-position e d) (target-position e d)) equation-view
 
-    pub equation-laid : WithinLimits e → Laid (equation-nodes e) (equation-sizes e)
+    pub equation-laid : WithinLimits e → Laid (equation-bytes e) (equation-sizes e)
     unfolding first-byte size
     equation-laid w = record {
       same-length = length-sizes ∙ sym length-nodes;
@@ -169,16 +152,16 @@ module _ (e : Equation) where
       ends-within = λ p l. ends p (omega (arith, length-nodes)) (term-at e p) refl;
     }
       where
-        variable-byte : (p : ℕ) (t : Term) → term-at e p ≡ t → Fits arities t → first-variable ≤ getD (equation-nodes e) p first-variable
-            → (getD (equation-nodes e) p first-variable < first-variable + variable-count) × (size (term-at e p) ≡ 1)
+        variable-byte : (p : ℕ) (t : Term) → term-at e p ≡ t → Fits arities t → first-variable ≤ getD (equation-bytes e) p first-variable
+            → (getD (equation-bytes e) p first-variable < first-variable + variable-count) × (size (term-at e p) ≡ 1)
         variable-byte p (var v) x h l = (omega (arith, byte-at p ∙ ap first-byte x), ap size x)
         variable-byte p (app f ts) x h l = absurd (omega (arith, byte-at p ∙ ap first-byte x, h .0))
 
-        symbol-byte : (p : ℕ) (t : Term) → term-at e p ≡ t → getD (equation-nodes e) p first-variable < first-variable
+        symbol-byte : (p : ℕ) (t : Term) → term-at e p ≡ t → getD (equation-bytes e) p first-variable < first-variable
             → Row (equation-sizes e) (p + 1) (p + getD (equation-sizes e) p 0) (arguments-of (equation-sizes e) p)
         symbol-byte p (var v) x l = absurd (omega (arith, byte-at p ∙ ap first-byte x))
         symbol-byte p (app f ts) x l = rw (symbol-arguments p f ts x) (symbol-row p f ts x)
 
-        ends : (p : ℕ) → p < positions e → (t : Term) → term-at e p ≡ t → p + getD (equation-sizes e) p 0 ≤ length (equation-nodes e)
+        ends : (p : ℕ) → p < positions e → (t : Term) → term-at e p ≡ t → p + getD (equation-sizes e) p 0 ≤ length (equation-bytes e)
         ends p l (var v) x = omega (arith, length-nodes, size-at p l ∙ ap size x)
         ends p l (app f ts) x = omega (arith, length-nodes, symbol-size p f ts x, segment-within e ts (arguments-at e p f ts x))
