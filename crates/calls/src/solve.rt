@@ -18,7 +18,7 @@ ghost use mathlib.Core.Bool.{true};
 ghost use mathlib.Core.Option.{some};
 ghost use Prim.Native.Nat.{_≤_, _<_};
 ghost use lib.ListN.{length, drop};
-ghost use Rattle.format.specs.Limits.{table-bytes, scratch-bytes};
+ghost use Rattle.format.specs.Limits.{max-equations, table-bytes, scratch-bytes};
 ghost use Rattle.terms.specs.Equation.{Equation, Direction, direction-of};
 ghost use Rattle.sheet.specs.Seek.{Accepts};
 ghost use Rattle.solving.specs.Walk.{solve};
@@ -62,7 +62,7 @@ fn solve_bytes(
     table: &mut [u8],
     scratch: &mut [u8],
 ) -> u64
-    requires { ⌜ HasEquation (now bytes) (now arities) × (equation < 16) × (direction < 2) ⌝ }
+    requires { ⌜ HasEquation (now bytes) (now arities) × (equation < max-equations) × (direction < 2) ⌝ }
     requires { ⌜ (table-bytes ≤ length (now table)) × (scratch-bytes ≤ length (now scratch)) ⌝ }
     ensures { λ r. ⌜ ((e : Equation) (d : Direction) → EquationIs (now (bytes .entry)) (now (arities .entry)) e → direction-of direction ≡ some d → solve-walked equation (now (table .entry)) (now (scratch .entry)) (solve e d) ≡ record { returned = r; table = now (table .exit); scratch = now (scratch .exit) }) ⌝ }
 {

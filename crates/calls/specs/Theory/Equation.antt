@@ -1,6 +1,6 @@
 -- The bytes of an equation over the sheet's symbols are whole terms, and what `measure` fills in beside them is their sizes.
-use Prim.Native.Nat.{ℕ, _+_, _≤_, _<_}
-use mathlib.Core.Path.{_≡_, refl, sym, ap, subst, _∙_}
+use Prim.Native.Nat.{ℕ, _≤_}
+use mathlib.Core.Path.{_≡_, sym, ap, subst, _∙_}
 use mathlib.Core.List.{List, _++_, map, append-nil}
 use lib.ListN.{length}
 use Rattle.format.specs.Limits.{max-symbols}

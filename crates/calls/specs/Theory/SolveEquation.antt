@@ -13,12 +13,12 @@ use Rattle.terms.specs.Theory.Limits.{positions, positions-few}
 use Rattle.terms.specs.Theory.Position.{size-pos}
 use Rattle.terms.specs.Theory.Positions.{left-at}
 use Rattle.comparing.specs.Sizes.{Whole, Measurable, node-sizes}
-use Rattle.solving.specs.Walk.{Walked, enough, walk, solve}
+use Rattle.solving.specs.Walk.{enough, walk, solve}
 use Rattle.walking.specs.Laid.{view-of, Laid}
 use Rattle.walking.specs.Equation.{equation-sizes}
 use Rattle.walking.specs.Theory.Equation.{length-nodes, length-sizes, size-at, equation-walk, equation-laid}
 use Rattle.calls.specs.declared.walked.Walked.{Walked as Told}
-use Rattle.calls.specs.Walked.{Tells, WalkedAs}
+use Rattle.calls.specs.Walked.{Tells}
 use Rattle.calls.specs.Solving.{EquationIs, walk-bytes}
 use Rattle.calls.specs.Theory.Equation.{equation-whole, equation-measured}
 

@@ -1,5 +1,5 @@
 -- Laws for the call solve: what it earns, by the walk and by the equation that is found.
-use Prim.Native.Nat.{ℕ, zero, suc, _+_, _-_, _≤_, _<_}
+use Prim.Native.Nat.{ℕ, zero, suc, _+_, _≤_, _<_}
 use mathlib.Core.Path.{_≡_, refl, sym, ap, subst, _∙_}
 use mathlib.Core.Bool.{Bool, true, false, _&&_}
 use mathlib.Core.Option.{Option, none, some}
@@ -19,16 +19,16 @@ use Rattle.terms.specs.Equation.{Equation, Direction, left-right, right-left, d
 use Rattle.terms.specs.Prefix.{equation-bytes}
 use Rattle.sheet.specs.declared.known.Known.{Known}
 use Rattle.sheet.specs.declared.read.Reading.{Reading as Read}
-use Rattle.sheet.specs.declared.read.Reading.the-variants.{Accepted, Refused as Sheet-Refused}
+use Rattle.sheet.specs.declared.read.Reading.the-variants.{Refused as Sheet-Refused}
 use Rattle.sheet.specs.Sheet.{Sheet}
 use Rattle.sheet.specs.Reading.{accepted, read}
 use Rattle.sheet.specs.Scan.{known-arities}
-use Rattle.sheet.specs.Reader.{SheetRead, KnowsSheet, Roomy}
+use Rattle.sheet.specs.Reader.{SheetRead, Roomy}
 use Rattle.sheet.specs.Seek.{Accepts, EquationIn, Decoded}
 use Rattle.sheet.specs.Theory.Valid.{ValidEquation}
 use Rattle.sheet.specs.Theory.Accepted.{accepted-valid}
 use Rattle.sheet.specs.Theory.Found.{equation-few, equation-asked}
-use Rattle.solving.specs.Line.{Line, records}
+use Rattle.solving.specs.Line.{records}
 use Rattle.solving.specs.Walk.{Walked, solved, refused, solve}
 use Rattle.solving.specs.Theory.Solve.{solved-line-count, solved-turn-count}
 use Rattle.calls.specs.declared.walked.Ending.the-variants.{Solved, Refused}

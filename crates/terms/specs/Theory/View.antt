@@ -1,8 +1,7 @@
 -- What stands at the positions of an equation: arguments behind their symbol, variables that are numbered, and the instances of the terms.
-use Prim.Native.Nat.{ℕ, zero, suc, _+_, _≤_, _<_}
+use Prim.Native.Nat.{ℕ, _+_, _≤_, _<_}
 use mathlib.Core.Path.{_≡_, refl, ap}
-use mathlib.Core.List.{List, [], _∷_, _++_}
-use lib.ListN.{getD}
+use mathlib.Core.List.{List, [], _∷_}
 use native.Mathlib.Omega.{arith}
 use Rattle.format.specs.Limits.{variable-count}
 use Rattle.format.specs.Theory.Lists.{Every, every-append, every-getD}

@@ -1,17 +1,15 @@
 -- An equation's bytes and sizes are laid out, and what the walk's code sees of them is what the walk sees of the equation.
 use Prim.Native.Nat.{ℕ, zero, suc, _+_, _-_, _≤_, _<_}
 use mathlib.Core.Path.{_≡_, refl, sym, ap, fun-ext, _∙_}
-use mathlib.Core.Bool.{Bool, true, false}
-use mathlib.Core.List.{List, [], _∷_, _++_, map, map-append}
-use lib.ListN.{length, getD, length-map, length-append}
-use lib.Dec.{ltb}
+use mathlib.Core.List.{List, [], _∷_, map, map-append}
+use lib.ListN.{length, getD, length-map}
 use borrow.Author.Tests.{lt-ltb, le-ltb}
 use native.Mathlib.Omega.{arith}
 use native.Mathlib.Decide.{decLt}
-use Rattle.format.specs.Limits.{first-variable, variable-count, max-symbols, position-count}
+use Rattle.format.specs.Limits.{first-variable, variable-count, max-symbols}
 use Rattle.format.specs.Theory.Lists.{Every, every-append, every-getD, getD-map}
 use Rattle.terms.specs.Term.{Term, Terms, var, app, nil, cons, size, sizes}
-use Rattle.terms.specs.Position.{subterms, subterms-of, starts, Node, var-node, app-node, node-at}
+use Rattle.terms.specs.Position.{subterms, subterms-of, starts, var-node, node-at}
 use Rattle.terms.specs.Prefix.{prefix, prefixes, equation-bytes}
 use Rattle.terms.specs.Equation.{Equation, Direction, term-at, source-position, target-position, view}
 use Rattle.terms.specs.Theory.Limits.{WithinLimits, positions, positions-few}

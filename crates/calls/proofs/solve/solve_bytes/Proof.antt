@@ -1,5 +1,4 @@
 -- `calls::solve::solve_bytes` is solve on an equation's bytes.
-use mathlib.Core.Path.{_≡_}
 use native.Mathlib.Omega.{arith}
 use borrow.Author.Needs.{needs}
 use Rattle.calls.specs.Theory.SolveTask.{walk-cleared, walk-solved, walk-refused, counts-low, some-direction}

@@ -1,5 +1,4 @@
 -- `calls::solve::solve_equation` walks one direction of the equation with these bytes.
-use Prim.Native.Nat.{ℕ}
 use mathlib.Core.Path.{_≡_, refl, sym}
 use native.Mathlib.Omega.{arith}
 use borrow.Author.Needs.{needs}

@@ -1,4 +1,3 @@
-use borrow.Author.Needs.{needs}
 use Rattle.calls.proofs.walked.solve_positions.Statement.{statement}
 use Rattle.calls.proofs.walked.solve_positions.Tie as tie
 use Rattle.calls.proofs.walked.solve_positions.Reads as reads
