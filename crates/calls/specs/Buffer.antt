@@ -1,8 +1,9 @@
 -- Numbers returned and lent buffers (document 01, 'Calls and lent memory').
 use Prim.Native.Nat.{ℕ, _+_, _*_, _%_, _^_}
-use mathlib.Core.List.{List, _++_}
-use lib.ListN.{length, drop, replicate}
+use mathlib.Core.List.{List}
+use lib.ListN.{replicate}
 use Rattle.format.specs.Limits.{table-bytes, scratch-bytes}
+use Rattle.format.specs.Buffer.{written}
 use Rattle.format.specs.Refusal.{number}
 use Rattle.format.specs.declared.refusal.Refusal.{Refusal}
 
@@ -18,10 +19,6 @@ refusal-number r line = number r + fields line 0 0
 -- "lowest byte the refusal, or 0"
 unfoldable pub refusal-byte : ℕ → ℕ
 refusal-byte n = n % 256
-
--- The buffer with `bytes` first and the rest unchanged: "Longer buffers are served and their excess is untouched."
-unfoldable pub written : (bytes buffer : List ℕ) → List ℕ
-written bytes buffer = bytes ++ drop (length bytes) buffer
 
 -- The buffer with its first `n` bytes `b`.
 unfoldable pub filled : (n b : ℕ) → List ℕ → List ℕ

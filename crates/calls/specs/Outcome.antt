@@ -7,6 +7,7 @@ use mathlib.Core.List.{List, [], _∷_}
 use lib.ListN.{length}
 use lib.Dec.{leb}
 use Rattle.format.specs.Limits.{table-bytes, scratch-bytes, term-bytes, log-bytes}
+use Rattle.format.specs.Buffer.{written}
 use Rattle.format.specs.declared.refusal.Refusal.{Refusal}
 use Rattle.terms.specs.Term.{Term, size}
 use Rattle.terms.specs.Equation.{direction-number}
@@ -18,7 +19,7 @@ use Rattle.solving.specs.Line.{records}
 use Rattle.solving.specs.Walk.{Walked, solved, refused, solve}
 use Rattle.reducing.specs.Run.{Step, Run, ending-number, last-term}
 use Rattle.reducing.specs.Test.{holding-line, line-run}
-use Rattle.calls.specs.Buffer.{fields, refusal-number, written, cleared, blanked}
+use Rattle.calls.specs.Buffer.{fields, refusal-number, cleared, blanked}
 use Rattle.calls.specs.Asked.{asked, Pair, comparison-task, Directed, solve-directed, Judgement, judgement-task, Reduction, reduction-task, equation-line, WalkRefusal, first-refusal}
 
 -- Check: "(refusal, line)". It is lent nothing but the sheet.

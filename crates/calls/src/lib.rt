@@ -3,3 +3,5 @@ pub mod buffer;
 pub mod check;
 pub mod compare;
 pub mod number;
+pub mod solve;
+pub mod walked;

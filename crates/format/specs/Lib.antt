@@ -2,4 +2,5 @@ pub mod Limits
 pub mod Refusal
 pub mod Byte
 pub mod Lists
+pub mod Buffer
 pub mod Theory

@@ -1,6 +1,6 @@
 // The fixed numbers that belong to the sheet, the walk and the calls.
 ghost use mathlib.Core.Path.{_≡_};
-ghost use Rattle.format.specs.Limits.{max-text, max-line-digits, max-symbols, max-arity, variable-count, max-equations, max-tasks, max-side-nodes, max-task-nodes, scratch-bytes};
+ghost use Rattle.format.specs.Limits.{max-text, max-line-digits, max-symbols, max-arity, variable-count, max-equations, max-tasks, max-side-nodes, max-task-nodes, table-bytes, scratch-bytes};
 
 pub struct Limits {
     pub nothing: (),
@@ -28,7 +28,9 @@ impl Limits {
 
     pub const TASK_NODES: usize = 160;
 
-    // The bytes of scratch.
+    // The bytes of the table and of scratch.
+    pub const TABLE: usize = 22695;
+
     pub const SCRATCH: usize = 57344;
 
     // Each number is the one of the definitions.
@@ -42,6 +44,7 @@ impl Limits {
         ensures { λ _. do ⌜ (← ⟦Limits::TASKS⟧ .entry) ≡ max-tasks ⌝ }
         ensures { λ _. do ⌜ (← ⟦Limits::SIDE_NODES⟧ .entry) ≡ max-side-nodes ⌝ }
         ensures { λ _. do ⌜ (← ⟦Limits::TASK_NODES⟧ .entry) ≡ max-task-nodes ⌝ }
+        ensures { λ _. do ⌜ (← ⟦Limits::TABLE⟧ .entry) ≡ table-bytes ⌝ }
         ensures { λ _. do ⌜ (← ⟦Limits::SCRATCH⟧ .entry) ≡ scratch-bytes ⌝ }
     {}
 }

@@ -2,14 +2,9 @@
 use Prim.Native.Nat.{ℕ}
 use mathlib.Core.List.{List, _∷_, _++_, map}
 use lib.ListN.{length}
-use Rattle.terms.specs.Equation.{Equation, direction-number}
-use Rattle.terms.specs.Prefix.{prefix, prefixes}
+use Rattle.terms.specs.Equation.{direction-number}
+use Rattle.terms.specs.Prefix.{prefix, prefixes, equation-bytes}
 use Rattle.sheet.specs.Sheet.{Task, run, judgement, comparison, Sheet}
-
--- "02: an equation, left term then right term."
-unfoldable pub equation-bytes : Equation → List ℕ
-unfolding prefix
-equation-bytes e = prefix (e .left) ++ prefix (e .right)
 
 -- "03: a run: step limit k, a ground term", "04: a judgement: equation number, direction, then ground values", "05: two ground terms to compare".
 unfoldable pub task-frame : Task → List ℕ
@@ -18,7 +13,7 @@ task-frame (run k s) = 3 ∷ k ∷ prefix s
 task-frame (judgement e d ts) = 4 ∷ e ∷ direction-number d ∷ prefixes ts
 task-frame (comparison s t) = 5 ∷ prefix s ++ prefix t
 
--- "Frame 01 comes first, once; then 1 to 16 of 02; then 0 to 32 tasks".
+-- "02: an equation, left term then right term." "Frame 01 comes first, once; then 1 to 16 of 02; then 0 to 32 tasks".
 unfoldable pub frames-of : Sheet → List (List ℕ)
 unfolding equation-bytes task-frame
 frames-of s = (1 ∷ length (s .arities) ∷ s .arities) ∷ map (λ e. 2 ∷ equation-bytes e) (s .equations) ++ map task-frame (s .tasks)

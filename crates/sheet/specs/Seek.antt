@@ -3,7 +3,8 @@ use Prim.Native.Nat.{ℕ}
 use mathlib.Core.Path.{_≡_}
 use mathlib.Core.Option.{some}
 use mathlib.Core.List.{List, _++_}
-use lib.ListN.{length, drop}
+use lib.ListN.{length}
+use Rattle.format.specs.Buffer.{written}
 use Rattle.format.specs.Lists.{entry}
 use Rattle.terms.specs.Equation.{Equation, direction-number}
 use Rattle.terms.specs.Prefix.{prefix, prefixes}
@@ -37,9 +38,9 @@ pub record Spans (text : List ℕ) (from end : ℕ) (bs : List ℕ) : Type 0 whe
   pub ready : BodyReady text from end
   pub writes : bytes-between text from end ≡ bs
 
--- The bytes stand first in the buffer, and the rest of it is unchanged.
+-- The bytes stand first in the buffer, `n` of them, and the rest of it is unchanged.
 abbrev pub Decoded : (bs before after : List ℕ) → ℕ → Type 0
-Decoded bs before after n = (n ≡ length bs) × (after ≡ bs ++ drop (length bs) before)
+Decoded bs before after n = (n ≡ length bs) × (after ≡ written bs before)
 
 -- A task without its terms, and the bytes of its terms.
 abbrev pub task-head : Task → TaskHead

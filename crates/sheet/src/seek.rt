@@ -10,9 +10,10 @@ ghost use Prim.Native.Nat.{ℕ, _≤_, _<_};
 ghost use lib.ListN.{length, drop};
 ghost use Rattle.format.specs.Lists.{entry};
 ghost use Rattle.terms.specs.Equation.{Equation};
+ghost use Rattle.terms.specs.Prefix.{equation-bytes};
 ghost use Rattle.sheet.specs.Text.{Row, rows};
 ghost use Rattle.sheet.specs.Sheet.{Task};
-ghost use Rattle.sheet.specs.Frames.{equation-bytes, task-frame};
+ghost use Rattle.sheet.specs.Frames.{task-frame};
 ghost use Rattle.sheet.specs.Seek.{Accepts, FrameIn, EquationIn, TaskIn, Spans, Decoded, TaskAt};
 
 // The digits from `from` to `end`.

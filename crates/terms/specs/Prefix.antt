@@ -6,6 +6,7 @@ use Rattle.format.specs.Byte.{class-of}
 use Rattle.format.specs.declared.byte.Class.{Class}
 use Rattle.format.specs.declared.byte.Class.the-variants.{Symbol as symbol, Variable as variable, Foreign as foreign}
 use Rattle.terms.specs.Term.{Term, Terms, var, app, nil, cons, arity}
+use Rattle.terms.specs.Equation.{Equation}
 
 -- "A term is in prefix form: a symbol byte followed by its arguments, or a variable."
 unfoldable mutual
@@ -16,6 +17,11 @@ unfoldable mutual
   pub prefixes : Terms → List ℕ
   prefixes nil = []
   prefixes (cons t ts) = prefix t ++ prefixes ts
+
+-- "an equation, left term then right term"
+unfoldable pub equation-bytes : Equation → List ℕ
+unfolding prefix
+equation-bytes e = prefix (e .left) ++ prefix (e .right)
 
 -- Back from bytes to terms. From the last byte to the first: a symbol takes as many of the terms behind it as its arity says.
 unfoldable pub take-terms : ℕ → Terms → Terms

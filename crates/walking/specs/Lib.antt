@@ -1,4 +1,5 @@
 pub mod Laid
+pub mod Equation
 pub mod Bound
 pub mod Unify
 pub mod Stored

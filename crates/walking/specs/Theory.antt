@@ -1,5 +1,6 @@
 -- The laws of what the walk's code sees.
 pub mod Laid
+pub mod Equation
 pub mod Bound
 pub mod Follow
 pub mod Unify

@@ -1,11 +1,12 @@
 -- Laws for the call compare: the terms that its code stores are those of the task.
-use Prim.Native.Nat.{ℕ, zero, suc, _+_, _≤_}
+use Prim.Native.Nat.{ℕ, _+_, _≤_}
 use mathlib.Core.Path.{_≡_, refl, sym, ap, subst, _∙_}
-use mathlib.Core.List.{List, [], _∷_, _++_, map, append-assoc, append-nil}
+use mathlib.Core.List.{List, _++_, map, append-assoc, append-nil}
 use lib.ListN.{length, getD, take, drop, length-append}
 use lib.Seq.{slice, length-take-le, take-append-add, take-at, drop-at}
 use native.Mathlib.Omega.{arith}
 use Rattle.format.specs.Limits.{max-symbols, max-task-nodes, position-count, variable-count, scratch-bytes}
+use Rattle.format.specs.Buffer.{written}
 use Rattle.terms.specs.Term.{Term, Terms, nil, cons, size, sizes, Ground, Grounds}
 use Rattle.terms.specs.Position.{subterms-of}
 use Rattle.terms.specs.Prefix.{prefix, prefixes, terms-of}
@@ -16,12 +17,12 @@ use Rattle.comparing.specs.Theory.Nodes.{ground-stands}
 use Rattle.comparing.specs.Theory.Sizes.{whole}
 use Rattle.comparing.specs.Theory.Stored.{StoredAt, ground-row-stands, fresh-memory}
 use Rattle.sheet.specs.declared.known.Known.{Known}
-use Rattle.sheet.specs.Scan.{listed, known-arities}
+use Rattle.sheet.specs.Scan.{known-arities}
 use Rattle.sheet.specs.Reader.{Roomy}
-use Rattle.sheet.specs.Theory.Listed.{length-listed}
 use Rattle.calls.specs.Buffer.{filled, cleared}
 use Rattle.calls.specs.Theory.Fill.{filled-again, filled-front, length-filled, cleared-is}
 use Rattle.calls.specs.Comparison.{PairIs, HasPair, TwoAt}
+use Rattle.calls.specs.Theory.Arities.{arities-taken}
 
 -- These bytes stand in the nodes from the subject's first node on.
 pub record Placed (nodes bs : List ℕ) : Type 0 where
@@ -30,13 +31,14 @@ pub record Placed (nodes bs : List ℕ) : Type 0 where
   pub at : length before ≡ position-count
   pub is : nodes ≡ before ++ (bs ++ after)
 
-pub placed : (nodes part rest after bs : List ℕ) → position-count ≤ length nodes → part ≡ bs ++ rest → Placed (take position-count nodes ++ (part ++ after)) bs
-placed nodes part rest after bs h e =
+pub placed : (nodes part former after bs : List ℕ) → position-count ≤ length nodes → part ≡ written bs former → Placed (take position-count nodes ++ (part ++ after)) bs
+unfolding written
+placed nodes part former after bs h e =
     record {
       before = take position-count nodes;
-      after = rest ++ after;
+      after = drop (length bs) former ++ after;
       at = length-take-le position-count nodes h;
-      is = ap (λ p. take position-count nodes ++ p) (ap (_++ after) e ∙ append-assoc bs rest after);
+      is = ap (λ p. take position-count nodes ++ p) (ap (_++ after) e ∙ append-assoc bs (drop (length bs) former) after);
     }
 
 placed-slice : (nodes bs : List ℕ) → Placed nodes bs → (n : ℕ) → n ≡ length bs → slice position-count (position-count + n) nodes ≡ bs
@@ -122,19 +124,6 @@ module _ (scratch first : List ℕ) (room : scratch-bytes ≤ length scratch) (f
       ∙ filled-again scratch-bytes cell-count 0 0 scratch front (omega arith) (l ∙ cells-there)
       ∙ sym (cleared-is scratch)
 
--- The arities that are known stand first in their array.
-listed-taken : (n : ℕ) (xs : List ℕ) → n ≤ length xs → listed n xs ≡ take n xs
-unfolding listed
-listed-taken zero xs h = refl
-listed-taken (suc n) [] h = absurd (omega arith)
-listed-taken (suc n) (x ∷ xs) h = ap (x ∷_) (listed-taken n xs (omega arith))
-
-module _ {sheet : List ℕ} {known : Known} {from end : ℕ} (roomy : Roomy known) where
-  pub symbols-room : {s t : Term} → PairIs sheet (known-arities known) from end s t → known .symbols ≤ length (known .arities)
-  symbols-room p = omega (arith, p .few-symbols, length-listed (known .symbols) (known .arities), roomy .arities-room)
-
-  pub symbols-taken : {s t : Term} → PairIs sheet (known-arities known) from end s t → known .symbols ≡ length (take (known .symbols) (known .arities))
-  symbols-taken p = sym (length-take-le (known .symbols) (known .arities) (symbols-room p))
-
-  pub pair-taken : {s t : Term} → PairIs sheet (known-arities known) from end s t → PairIs sheet (take (known .symbols) (known .arities)) from end s t
-  pair-taken {s} {t} p = subst (λ a. PairIs sheet a from end s t) (listed-taken (known .symbols) (known .arities) (symbols-room p)) p
+pub pair-taken : {sheet : List ℕ} {known : Known} {from end : ℕ} {s t : Term} → Roomy known
+    → PairIs sheet (known-arities known) from end s t → PairIs sheet (take (known .symbols) (known .arities)) from end s t
+pair-taken {sheet} {known} {from} {end} {s} {t} roomy p = subst (λ a. PairIs sheet a from end s t) (arities-taken roomy (p .few-symbols)) p

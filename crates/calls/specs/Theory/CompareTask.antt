@@ -11,7 +11,7 @@ use Rattle.format.specs.Limits.{scratch-bytes}
 use Rattle.format.specs.declared.refusal.Refusal.{Refusal}
 use Rattle.format.specs.declared.refusal.Refusal.the-variants.{ShortBuffer as short-buffer, AbsentArgument as absent-argument}
 use Rattle.format.specs.Lists.{entry}
-use Rattle.format.specs.Theory.Lists.{entry-length, every-entry}
+use Rattle.format.specs.Theory.Lists.{entry-none, every-entry}
 use Rattle.terms.specs.Term.{Term, Ground}
 use Rattle.ordering.specs.Verdict.{verdict, verdict-number}
 use Rattle.sheet.specs.declared.known.Known.{Known}
@@ -34,14 +34,6 @@ use Rattle.calls.specs.Comparison.{PairIs, HasPair}
 
 abbrev outcome : ℕ → List ℕ → CompareOutcome
 outcome n scratch = record { returned = n; scratch = scratch }
-
--- Fewer tasks than that: there is none.
-entry-none : (ts : List Task) (k : ℕ) → length ts ≤ k → entry ts k ≡ none
-entry-none ts k h = go (entry ts k) refl
-  where
-    go : (o : Option Task) → entry ts k ≡ o → entry ts k ≡ none
-    go none e = e
-    go (some t) e = absurd (omega (arith, entry-length ts k e))
 
 module _ (sheet scratch : List ℕ) (task : ℕ) where
   abbrev answered : CompareOutcome

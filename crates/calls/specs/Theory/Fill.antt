@@ -6,7 +6,8 @@ use lib.ListN.{length, getD, take, drop, set, replicate, length-replicate, lengt
 use lib.Seq.{drop-cons, set-append-seam, take-append-le, drop-append-add, drop-drop, drop-at}
 use native.Mathlib.Numerals.{add-one}
 use native.Mathlib.Omega.{arith}
-use Rattle.calls.specs.Buffer.{written, filled, cleared}
+use Rattle.format.specs.Buffer.{written}
+use Rattle.calls.specs.Buffer.{filled, cleared}
 
 filled-is : (n b : ℕ) (buffer : List ℕ) → filled n b buffer ≡ replicate n b ++ drop n buffer
 unfolding filled written
@@ -49,6 +50,13 @@ filled-again n k b c buffer front h e =
   where
     parts : n ≡ k + (n - k)
     parts = omega arith
+
+-- What stands in the part that is filled does not matter.
+pub filled-behind : (n k b : ℕ) (xs ys : List ℕ) → k ≤ n → drop k xs ≡ drop k ys → filled n b xs ≡ filled n b ys
+filled-behind n k b xs ys h e = filled-is n b xs ∙ ap (replicate n b ++_) (behind xs ∙ (ap (drop (n - k)) e ∙ sym (behind ys))) ∙ sym (filled-is n b ys)
+  where
+    behind : (zs : List ℕ) → drop n zs ≡ drop (n - k) (drop k zs)
+    behind zs = let parts : n ≡ k + (n - k) = omega arith in ap (λ m. drop m zs) parts ∙ sym (drop-drop (n - k) k zs)
 
 taken : (n k i b : ℕ) → getD (take k (replicate n b)) i b ≡ b
 taken zero zero i b = refl

@@ -11,6 +11,7 @@ use Rattle.format.specs.Limits.{table-bytes, scratch-bytes}
 use Rattle.format.specs.Refusal.{number}
 use Rattle.format.specs.declared.refusal.Refusal.{Refusal}
 use Rattle.format.specs.declared.refusal.Refusal.the-variants.{ShortBuffer as short-buffer, AbsentArgument as absent-argument}
+use Rattle.format.specs.Buffer.{written}
 use Rattle.format.specs.Lists.{entry}
 use Rattle.format.specs.Theory.Lists.{every-entry}
 use Rattle.terms.specs.Term.{Term, Values, inst}
@@ -25,7 +26,7 @@ use Rattle.solving.specs.Line.{Line, records}
 use Rattle.solving.specs.Walk.{Walked, solved, refused, solve}
 use Rattle.solving.specs.Holds.{SomeLineHolds}
 use Rattle.solving.specs.Theory.Solve.{solve-exact}
-use Rattle.calls.specs.Buffer.{fields, refusal-number, refusal-byte, written, cleared}
+use Rattle.calls.specs.Buffer.{fields, refusal-number, refusal-byte, cleared}
 use Rattle.calls.specs.Asked.{found, find, asked, Directed, directed-in, solve-directed}
 use Rattle.calls.specs.Outcome.{TableOutcome, table-fits, table-unsolved, solve-walked, solve-answer, solve-call}
 use Rattle.calls.specs.Theory.Number.{fields-byte, refused-byte, refused-not-zero}

@@ -3,8 +3,8 @@ use Prim.Native.Nat.{ℕ, zero, suc, _≤_, _<_}
 use mathlib.Core.Path.{_≡_, refl}
 use mathlib.Core.Bool.{Bool, true, false, _&&_, _||_}
 use mathlib.Core.Option.{Option, none, some}
-use mathlib.Core.List.{List, [], _∷_, _++_}
-use lib.ListN.{length}
+use mathlib.Core.List.{List, [], _∷_, _++_, map}
+use lib.ListN.{length, getD}
 use native.Mathlib.Omega.{arith}
 use Rattle.format.specs.Lists.{any, all, entry}
 
@@ -27,6 +27,16 @@ every-entry P [] i h e = let z : _≡_ {A = ℕ} 0 1 = cc in absurd (omega arith
 every-entry P (y ∷ xs) zero {x} h e = let d : y ≡ x = cc in rw (← d) (h .0)
 every-entry P (y ∷ xs) (suc i) h e = every-entry P xs i (h .1) e
 
+pub every-getD : {A : Type 0} (P : A → Type 0) (xs : List A) (i : ℕ) (d : A) → Every P xs → P d → P (getD xs i d)
+every-getD P [] i d h k = k
+every-getD P (x ∷ xs) zero d h k = h .0
+every-getD P (x ∷ xs) (suc i) d h k = every-getD P xs i d (h .1) k
+
+pub getD-map : {A B : Type 0} (f : A → B) (xs : List A) (i : ℕ) (d : A) → getD (map f xs) i (f d) ≡ f (getD xs i d)
+getD-map f [] i d = refl
+getD-map f (x ∷ xs) zero d = refl
+getD-map f (x ∷ xs) (suc i) d = getD-map f xs i d
+
 pub entry-length : {A : Type 0} (xs : List A) (i : ℕ) {x : A} → entry xs i ≡ some x → i < length xs
 unfolding entry
 entry-length [] i e = let z : _≡_ {A = ℕ} 0 1 = cc in absurd (omega arith)
@@ -38,6 +48,12 @@ unfolding entry
 entry-found [] i h = absurd (omega arith)
 entry-found (y ∷ xs) zero h = (y, refl)
 entry-found (y ∷ xs) (suc i) h = entry-found xs i (omega arith)
+
+pub entry-none : {A : Type 0} (xs : List A) (i : ℕ) → length xs ≤ i → entry xs i ≡ none
+unfolding entry
+entry-none [] i h = refl
+entry-none (x ∷ xs) zero h = absurd (omega arith)
+entry-none (x ∷ xs) (suc i) h = entry-none xs i (omega arith)
 
 -- A conjunction that is true, taken apart.
 pub and-true : (a b : Bool) → (a && b) ≡ true → (a ≡ true) × (b ≡ true)

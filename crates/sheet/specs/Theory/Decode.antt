@@ -9,6 +9,7 @@ use lib.Dec.{leb}
 use borrow.Author.Tests.{leb-true, leb-false}
 use native.Mathlib.Numerals.{add-one}
 use native.Mathlib.Omega.{arith}
+use Rattle.format.specs.Buffer.{written}
 use Rattle.sheet.specs.Cursor.{pair-at, bytes-between}
 use Rattle.sheet.specs.Reader.{BodyReady}
 use Rattle.sheet.specs.Seek.{Spans, Decoded}
@@ -62,6 +63,7 @@ module _ (text : List ℕ) (from end : ℕ) (before after : List ℕ) (at n : �
       omega (arith, ap length (g .stands), length-append (g .done) (drop n before), length-drop n before, ap length (g .split), length-append (g .done) (bytes-between text at end), g .counted, g .room)
 
   pub decoding-done : end ≤ at → (bs : List ℕ) → Spans text from end bs → Decoded bs before after n
+  unfolding written
   decoding-done h bs x =
       let e : bs ≡ g .done = sym (x .writes) ∙ g .split ∙ ap (g .done ++_) (between-end text at end h) ∙ append-nil (g .done) in
       (g .counted ∙ ap length (sym e), g .stands ∙ ap (λ m. g .done ++ drop m before) (g .counted) ∙ ap (λ ds. ds ++ drop (length ds) before) (sym e))

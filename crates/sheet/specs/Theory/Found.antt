@@ -8,12 +8,12 @@ use Rattle.format.specs.Limits.{max-equations, max-tasks, position-count, max-t
 use Rattle.format.specs.Theory.Lists.{entry-found, every-entry}
 use Rattle.terms.specs.Term.{Term, Terms}
 use Rattle.terms.specs.Equation.{Equation, Direction, direction-number}
-use Rattle.terms.specs.Prefix.{prefix, prefixes}
+use Rattle.terms.specs.Prefix.{prefix, prefixes, equation-bytes}
 use Rattle.terms.specs.Theory.Prefix.{length-prefix, length-prefixes}
 use Rattle.sheet.specs.declared.known.Known.{Known}
 use Rattle.sheet.specs.declared.seek.TaskHead.the-variants.{Run, Judgement, Comparison}
 use Rattle.sheet.specs.Sheet.{Task, run, judgement, comparison, Sheet}
-use Rattle.sheet.specs.Frames.{equation-bytes, task-frame}
+use Rattle.sheet.specs.Frames.{task-frame}
 use Rattle.sheet.specs.Reading.{accepted}
 use Rattle.sheet.specs.Cursor.{pair-at}
 use Rattle.sheet.specs.Seek.{Accepts, FrameIn, EquationIn, TaskIn, Spans, TaskAt, task-head, task-terms}

@@ -16,11 +16,11 @@ use Rattle.format.specs.Lists.{entry, any, all}
 use Rattle.format.specs.Theory.Lists.{and-true}
 use Rattle.terms.specs.Term.{Term, Terms, nil, cons, count}
 use Rattle.terms.specs.Equation.{Equation, Direction, left-right, right-left, direction-number, direction-of}
-use Rattle.terms.specs.Prefix.{prefix, prefixes}
+use Rattle.terms.specs.Prefix.{prefix, prefixes, equation-bytes}
 use Rattle.sheet.specs.Text.{Row, rows, frame-of}
 use Rattle.sheet.specs.Sheet.{Task, run, judgement, comparison, Sheet, equation-width}
 use Rattle.sheet.specs.Frame.{State, start, within, Kind, symbols-kind, equation-kind, run-kind, judgement-kind, comparison-kind, unknown-kind, kind-of, takes-equation, in-order, symbols-right, symbols-body, ground-terms, first-term, second-term, equation-body, run-body, values-body, judgement-body, comparison-body, with-equation, with-task, read-body, read-frame}
-use Rattle.sheet.specs.Frames.{equation-bytes, task-frame, frames-of}
+use Rattle.sheet.specs.Frames.{task-frame, frames-of}
 use Rattle.sheet.specs.Reading.{Reading, refused-at, accepted, read-row, finish, read-rows, read}
 use Rattle.sheet.specs.Theory.Text.{Bytes, frame-bytes-small}
 use Rattle.sheet.specs.Theory.Valid.{Valid}

@@ -3,7 +3,7 @@ use Prim.Native.Nat.{ℕ, zero, suc, _+_, _≤_, _<_}
 use mathlib.Core.Path.{_≡_, refl, sym, ap, _∙_}
 use mathlib.Core.Bool.{Bool, true, false}
 use mathlib.Core.List.{List, [], _∷_, _++_}
-use lib.ListN.{length, getD, set}
+use lib.ListN.{length, getD, take, set}
 use lib.Dec.{ltb}
 use borrow.Author.Tests.{lt-ltb, le-ltb}
 use native.Mathlib.Omega.{arith}
@@ -20,6 +20,12 @@ unfolding listed
 length-listed zero xs = refl
 length-listed (suc n) [] = ap suc (length-listed n [])
 length-listed (suc n) (x ∷ xs) = ap suc (length-listed n xs)
+
+pub listed-taken : (n : ℕ) (xs : List ℕ) → n ≤ length xs → listed n xs ≡ take n xs
+unfolding listed
+listed-taken zero xs h = refl
+listed-taken (suc n) [] h = absurd (omega arith)
+listed-taken (suc n) (x ∷ xs) h = ap (x ∷_) (listed-taken n xs (omega arith))
 
 no-entry : (i : ℕ) → _≡_ {A = ℕ} (getD [] i 0) 0
 no-entry zero = refl

@@ -9,9 +9,10 @@ use native.Mathlib.Numerals.{add-one}
 use native.Mathlib.Omega.{arith}
 use Rattle.format.specs.Lists.{entry}
 use Rattle.terms.specs.Equation.{Equation}
+use Rattle.terms.specs.Prefix.{equation-bytes}
 use Rattle.sheet.specs.Text.{LF, Row, ended, unended, put-byte, rows, frame-of}
 use Rattle.sheet.specs.Sheet.{Task, Sheet}
-use Rattle.sheet.specs.Frames.{equation-bytes, task-frame, frames-of}
+use Rattle.sheet.specs.Frames.{task-frame, frames-of}
 use Rattle.sheet.specs.Reading.{accepted, read}
 use Rattle.sheet.specs.Cursor.{bytes-between, LineTo, NoFrame}
 use Rattle.sheet.specs.Seek.{FrameIn, Spans}

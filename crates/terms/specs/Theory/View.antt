@@ -1,10 +1,10 @@
 -- What stands at the positions of an equation: arguments behind their symbol, variables that are numbered, and the instances of the terms.
-use Prim.Native.Nat.{ℕ, zero, suc, _+_, _≤_, _<_}
+use Prim.Native.Nat.{ℕ, _+_, _≤_, _<_}
 use mathlib.Core.Path.{_≡_, refl, ap}
-use mathlib.Core.List.{List, [], _∷_, _++_}
-use lib.ListN.{getD}
+use mathlib.Core.List.{List, [], _∷_}
 use native.Mathlib.Omega.{arith}
 use Rattle.format.specs.Limits.{variable-count}
+use Rattle.format.specs.Theory.Lists.{Every, every-append, every-getD}
 use Rattle.terms.specs.Term.{Term, Terms, var, app, nil, cons, size, Values, inst, insts}
 use Rattle.terms.specs.Position.{subterms, subterms-of, starts, Node, var-node, app-node, node-at}
 use Rattle.terms.specs.Equation.{Equation, term-at, view, value}
@@ -50,29 +50,16 @@ module _ (e : Equation) where
 
 -- Every subterm of a term has its variables below `n`, if the term has.
 module _ (n : ℕ) where
-  abbrev EachBelow : List Term → Type 0
-  EachBelow [] = Unit {0}
-  EachBelow (t ∷ ts) = VariablesBelow n t × EachBelow ts
-
-  each-append : (a b : List Term) → EachBelow a → EachBelow b → EachBelow (a ++ b)
-  each-append [] b h k = k
-  each-append (t ∷ a) b h k = (h .0, each-append a b (h .1) k)
-
   mutual
     unfolding subterms
 
-    subterms-below : (t : Term) → VariablesBelow n t → EachBelow (subterms t)
+    subterms-below : (t : Term) → VariablesBelow n t → Every (VariablesBelow n) (subterms t)
     subterms-below (var v) h = (h, tt)
     subterms-below (app f ts) h = (h, subterms-of-below ts h)
 
-    subterms-of-below : (ts : Terms) → AllVariablesBelow n ts → EachBelow (subterms-of ts)
+    subterms-of-below : (ts : Terms) → AllVariablesBelow n ts → Every (VariablesBelow n) (subterms-of ts)
     subterms-of-below nil h = tt
-    subterms-of-below (cons t ts) h = each-append (subterms t) (subterms-of ts) (subterms-below t (h .0)) (subterms-of-below ts (h .1))
-
-  each-getD : (a : List Term) (p : ℕ) (d : Term) → EachBelow a → VariablesBelow n d → VariablesBelow n (getD a p d)
-  each-getD [] p d h k = k
-  each-getD (t ∷ a) zero d h k = h .0
-  each-getD (t ∷ a) (suc p) d h k = each-getD a p d (h .1) k
+    subterms-of-below (cons t ts) h = every-append (VariablesBelow n) (subterms t) (subterms-of ts) (subterms-below t (h .0)) (subterms-of-below ts (h .1))
 
 module _ (e : Equation) where
   -- The term and the arguments of a symbol at a position.
@@ -98,7 +85,7 @@ module _ (e : Equation) where
   variables-below w p =
       let a = subterms-below variable-count (e .left) (w .left-variables) in
       let b = subterms-below variable-count (e .right) (w .right-variables) in
-      each-getD variable-count (all-subterms e) p (var 0) (each-append variable-count (subterms (e .left)) (subterms (e .right)) a b) (omega arith)
+      every-getD (VariablesBelow variable-count) (all-subterms e) p (var 0) (every-append (VariablesBelow variable-count) (subterms (e .left)) (subterms (e .right)) a b) (omega arith)
 
   pub layout : WithinLimits e → Layout (view e) (positions e)
   layout w = record { variable-low = low; argument-behind = λ p f c ps x i. range p f c ps x i .0; argument-within = λ p f c ps x i. range p f c ps x i .1 }

@@ -1,15 +1,16 @@
 -- `calls::compare::compare_terms` gives the verdict of the two terms that the digits write.
 use mathlib.Core.Path.{refl}
 use borrow.Author.Needs.{needs}
-use Rattle.calls.specs.Theory.Compare.{symbols-room, symbols-taken, pair-taken}
+use Rattle.calls.specs.Theory.Arities.{symbols-room, symbols-taken}
+use Rattle.calls.specs.Theory.Compare.{pair-taken}
 use Rattle.calls.proofs.compare.compare_terms.Statement.{statement}
 use Rattle.calls.proofs.compare.compare_terms.Tie as tie
 
 array-share-prefix-arities : tie.Need-array-share-prefix-arities
-array-share-prefix-arities c = let pre = c .before .before .before .pre in symbols-room (pre .1) (pre .0 .is)
+array-share-prefix-arities c = let pre = c .before .before .before .pre in symbols-room (pre .1) (pre .0 .is .few-symbols)
 
 slice-aggregate-store : tie.Need-slice-aggregate-store
-slice-aggregate-store c = let pre = c .before .before .before .before .pre in symbols-taken (pre .1) (pre .0 .is)
+slice-aggregate-store c = let pre = c .before .before .before .before .pre in symbols-taken (pre .1) (pre .0 .is .few-symbols)
 
 store-requires : tie.Need-store-requires
 store-requires c κs =

@@ -1,0 +1,44 @@
+-- `neblinaro_solve` returns the defined outcome for every sheet, equation, direction, table and scratch, leaves table and scratch as defined, and the sheet as it is.
+use mathlib.Core.Path.{refl, _∙_}
+use borrow.Author.Needs.{needs}
+use Rattle.calls.specs.Theory.Check.{refused-line}
+use Rattle.calls.specs.Theory.CompareTask.{sheet-accepted}
+use Rattle.calls.specs.Theory.SolveTask.{table-short, scratch-short, buffers-long, sheet-refused}
+use Rattle.calls.proofs.solve.neblinaro_solve.Statement.{statement}
+use Rattle.calls.proofs.solve.neblinaro_solve.Tie as tie
+
+returns : tie.Need-returns
+returns c = (table-short _ _ _ _ _ (c .before .if1 .taken) (c .refusal-number .ensures), refl)
+
+returns-2 : tie.Need-returns-2
+returns-2 c = (scratch-short _ _ _ _ _ (c .before .before .if1 .left) (c .before .if2 .taken) (c .refusal-number2 .ensures), refl)
+
+solve-named-requires : tie.Need-solve-named-requires
+solve-named-requires c κs = (sheet-accepted _ _ _ (c .before .before .before .before .read-sheet .ensures) (c .before .before .enum-told .given .1), (c .before .before .before .before .before .before .if1 .left, c .before .before .before .before .before .if2 .left))
+
+refusal-number-requires-3 : tie.Need-refusal-number-requires-3
+refusal-number-requires-3 c κs = refused-line _ _ _ (c .before .before .before .read-sheet .ensures) (c .before .reading .given .1)
+
+returns-3 : tie.Need-returns-3
+returns-3 c = (buffers-long _ _ _ _ _ (c .before .before .before .before .before .before .before .before .before .before .before .if1 .left) (c .before .before .before .before .before .before .before .before .before .before .if2 .left) ∙ c .before .before .before .before .solve-named .ensures, refl)
+
+returns-4 : tie.Need-returns-4
+returns-4 c = (sheet-refused _ _ _ _ _ (c .before .before .before .before .before .before .if1 .left) (c .before .before .before .before .before .if2 .left) _ _ (c .before .before .before .before .read-sheet .ensures) (c .before .before .reading .given .1) (c .refusal-number3 .ensures), refl)
+
+pub neblinaro-solve-spec : {M : Type 1} → statement M
+neblinaro-solve-spec =
+    tie.close
+    (tie.spec
+    (λ c κs. search needs)
+    returns
+    (λ c κs. search needs)
+    returns-2
+    (λ c κs. search needs)
+    (λ c. search needs)
+    solve-named-requires
+    (λ c. search needs)
+    refusal-number-requires-3
+    (λ c. search needs)
+    (λ c. search needs)
+    returns-3
+    returns-4)
