@@ -8,6 +8,7 @@ pub mod Place
 pub mod Treatment
 pub mod Sound
 pub mod Walking
+pub mod Solve
 pub mod Children
 pub mod Count
 pub mod Rebind

@@ -31,3 +31,4 @@ pub mod Splitting
 pub mod Treating
 pub mod Split
 pub mod Step
+pub mod Begin

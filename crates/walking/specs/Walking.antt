@@ -100,3 +100,11 @@ Outcome nodes sizes memory w v (Refused r) = whole-walk nodes sizes w ≡ refuse
 
 pub record Advances (nodes sizes memory : List ℕ) (w : Walk) (a : Advanced) : Type 0 where
   pub outcome : Outcome nodes sizes memory w (a .walk) (a .progress)
+
+-- The walk has come to an end: no line is left unfinished, or it is refused.
+abbrev pub End : (nodes sizes memory : List ℕ) (w v : Walk) → Progress → Type 0
+End nodes sizes memory w v Going = Walking nodes sizes memory v × (max-lines ≤ v .top) × (whole-walk nodes sizes v ≡ whole-walk nodes sizes w)
+End nodes sizes memory w v (Refused r) = whole-walk nodes sizes w ≡ refused r
+
+pub record Comes (nodes sizes memory : List ℕ) (w : Walk) (a : Advanced) : Type 0 where
+  pub end : End nodes sizes memory w (a .walk) (a .progress)

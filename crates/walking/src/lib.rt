@@ -8,6 +8,7 @@ pub mod occurs;
 pub mod reach;
 pub mod rebind;
 pub mod record;
+pub mod solve;
 pub mod split;
 pub mod treat;
 pub mod unifier;

@@ -1,5 +1,6 @@
 // The walk's cursor and count, and its turns.
 use crate::count::row_count;
+use crate::finish::RECORD;
 use crate::finish::write_record;
 use crate::leftmost::find_leftmost;
 use crate::rebind::rebind;
@@ -47,9 +48,7 @@ pub struct Advanced {
     pub walk: Walk,
 }
 
-// The bytes of a record, and the places for lines.
-const RECORD: usize = 89;
-
+// The places for lines.
 pub const LINES: usize = 255;
 
 const TURNS: usize = 10000;
@@ -235,7 +234,7 @@ impl Walk {
     }
 }
 
-fn going(walk: Walk) -> Advanced
+pub fn going(walk: Walk) -> Advanced
     ensures { λ r. ⌜ r ≡ record { progress = Going; walk = walk } ⌝ }
 {
     Advanced {

@@ -1,0 +1,127 @@
+// The walk of one direction over an equation's bytes.
+use crate::finish::RECORD;
+use crate::line::Line;
+use crate::record::LINE;
+use crate::record::store;
+use crate::walk::Advanced;
+use crate::walk::LINES;
+use crate::walk::Progress;
+use crate::walk::Walk;
+use crate::walk::going;
+use format::refusal::Refusal;
+ghost use mathlib.Core.Path.{_≡_};
+ghost use Prim.Native.Nat.{_*_, _≤_, _<_};
+ghost use lib.ListN.{length, take};
+ghost use Rattle.format.specs.Buffer.{written};
+ghost use Rattle.format.specs.Limits.{table-bytes};
+ghost use Rattle.walking.specs.Laid.{Laid};
+ghost use Rattle.walking.specs.Place.{line-bytes};
+ghost use Rattle.walking.specs.Walking.{memory-bytes, Walking, Comes};
+ghost use Rattle.walking.specs.Solve.{WalkedAs};
+
+// The place of the first line, at the end of the memory.
+const FIRST: usize = 254;
+
+// How a walk ends.
+pub enum Ending {
+    Solved,
+    Refused(Refusal),
+}
+
+// How it ends, and the counts of lines and turns of a walk that solves.
+pub struct Walked {
+    pub ending: Ending,
+    pub lines: usize,
+    pub turns: usize,
+}
+
+// "at first the one line with s > t and no binding"
+fn begin_walk(
+    nodes: &[u8],
+    sizes: &[u8],
+    source: usize,
+    target: usize,
+    line: &mut [u8],
+    memory: &mut [u8],
+) -> Walk
+    requires { ⌜ Laid (now nodes) (now sizes) × (source < length (now nodes)) × (target < length (now nodes)) ⌝ }
+    requires { ⌜ (length (now line) ≡ line-bytes) × (length (now memory) ≡ memory-bytes) ⌝ }
+    ensures { λ r. ⌜ Walking (now (nodes .entry)) (now (sizes .entry)) (now (memory .exit)) r ⌝ }
+    ensures { λ r. ⌜ (r .source ≡ source) × (r .target ≡ target) ⌝ }
+{
+    let opening = Line::opening(source as u8, target as u8);
+    opening.write(line);
+    store(line, memory, FIRST * LINE);
+    Walk {
+        source: source,
+        target: target,
+        done: 0,
+        top: FIRST,
+        turns: 0,
+    }
+}
+
+// Turn after turn, until no line is unfinished or the walk is refused.
+fn go_on(walk: Walk, nodes: &[u8], sizes: &[u8], line: &mut [u8], memory: &mut [u8]) -> Advanced
+    requires { ⌜ Walking (now nodes) (now sizes) (now memory) walk ⌝ }
+    requires { ⌜ length (now line) ≡ line-bytes ⌝ }
+    ensures { λ r. ⌜ Comes (now (nodes .entry)) (now (sizes .entry)) (now (memory .exit)) walk r ⌝ }
+{
+    let mut cursor = walk;
+    while cursor.top < LINES {
+        let next = cursor.turn(nodes, sizes, line, memory);
+        let progress = next.progress;
+        let Progress::Going = progress else {
+            return next;
+        };
+        cursor = next.walk;
+    }
+    going(cursor)
+}
+
+// The first `n` bytes of `from` stand first in `to`.
+fn copy_front(from: &[u8], to: &mut [u8], n: usize)
+    requires { ⌜ (n ≤ length (now from)) × (n ≤ length (now to)) ⌝ }
+    ensures { λ _. ⌜ now (to .exit) ≡ written (take n (now (from .entry))) (now (to .entry)) ⌝ }
+{
+    let mut i = 0;
+    while i < n {
+        to[i] = from[i];
+        i = i + 1;
+    }
+}
+
+// Solves source > target over an equation's bytes and sizes. The records of the solved lines stand first in `table`; a refused walk leaves it as it was.
+pub fn solve_positions(
+    nodes: &[u8],
+    sizes: &[u8],
+    source: usize,
+    target: usize,
+    table: &mut [u8],
+    memory: &mut [u8],
+) -> Walked
+    requires { ⌜ Laid (now nodes) (now sizes) × (source < length (now nodes)) × (target < length (now nodes)) ⌝ }
+    requires { ⌜ (table-bytes ≤ length (now table)) × (length (now memory) ≡ memory-bytes) ⌝ }
+    ensures { λ r. ⌜ WalkedAs (now (nodes .entry)) (now (sizes .entry)) source target (now (table .entry)) (now (table .exit)) r ⌝ }
+{
+    let mut line = [0u8; LINE];
+    let first = begin_walk(nodes, sizes, source, target, &mut line, memory);
+    let last = go_on(first, nodes, sizes, &mut line, memory);
+    let walk = last.walk;
+    let progress = last.progress;
+    match progress {
+        Progress::Going => {
+            copy_front(memory, table, walk.done * RECORD);
+            Walked {
+                ending: Ending::Solved,
+                lines: walk.done,
+                turns: walk.turns,
+            }
+        }
+        Progress::Refused(why) => Walked {
+            ending: Ending::Refused(why),
+            lines: 0,
+            turns: 0,
+        },
+    }
+}
