@@ -4,4 +4,3 @@ pub mod check;
 pub mod compare;
 pub mod number;
 pub mod solve;
-pub mod walked;

@@ -2,9 +2,6 @@
 use crate::buffer::fill;
 use crate::number::fields_number;
 use crate::number::refusal_number;
-use crate::walked::Ending;
-use crate::walked::Walked;
-use crate::walked::solve_positions;
 use comparing::measure;
 use format::byte::wide;
 use format::limits::Limits;
@@ -13,6 +10,9 @@ use sheet::known::Known;
 use sheet::read::Reading;
 use sheet::read::read_sheet;
 use sheet::seek::equation_at;
+use walking::solve::Ending;
+use walking::solve::Walked;
+use walking::solve::solve_positions;
 ghost use mathlib.Core.Path.{_≡_};
 ghost use mathlib.Core.Bool.{true};
 ghost use mathlib.Core.Option.{some};
@@ -25,7 +25,7 @@ ghost use Rattle.solving.specs.Walk.{solve};
 ghost use Rattle.calls.specs.Asked.{asked, solve-directed};
 ghost use Rattle.calls.specs.Outcome.{solve-walked, solve-answer, solve-call};
 ghost use Rattle.calls.specs.Solving.{EquationIs, HasEquation, walk-bytes};
-ghost use Rattle.calls.specs.Walked.{Tells};
+ghost use Rattle.walking.specs.Solve.{Tells};
 
 // The bytes of scratch that the walk works in.
 const WALK: usize = 22950;

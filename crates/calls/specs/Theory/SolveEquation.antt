@@ -17,8 +17,8 @@ use Rattle.solving.specs.Walk.{enough, walk, solve}
 use Rattle.walking.specs.Laid.{view-of, Laid}
 use Rattle.walking.specs.Equation.{equation-sizes}
 use Rattle.walking.specs.Theory.Equation.{length-nodes, length-sizes, size-at, equation-walk, equation-laid}
-use Rattle.calls.specs.declared.walked.Walked.{Walked as Told}
-use Rattle.calls.specs.Walked.{Tells}
+use Rattle.walking.specs.declared.solve.Walked.{Walked as Told}
+use Rattle.walking.specs.Solve.{Tells}
 use Rattle.calls.specs.Solving.{EquationIs, walk-bytes}
 use Rattle.calls.specs.Theory.Equation.{equation-whole, equation-measured}
 

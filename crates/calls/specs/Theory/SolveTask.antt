@@ -31,13 +31,13 @@ use Rattle.sheet.specs.Theory.Found.{equation-few, equation-asked}
 use Rattle.solving.specs.Line.{records}
 use Rattle.solving.specs.Walk.{Walked, solved, refused, solve}
 use Rattle.solving.specs.Theory.Solve.{solved-line-count, solved-turn-count}
-use Rattle.calls.specs.declared.walked.Ending.the-variants.{Solved, Refused}
-use Rattle.calls.specs.declared.walked.Walked.{Walked as Told}
+use Rattle.walking.specs.declared.solve.Ending.the-variants.{Solved, Refused}
+use Rattle.walking.specs.declared.solve.Walked.{Walked as Told}
 use Rattle.calls.specs.Buffer.{fields, refusal-number, filled, cleared, blanked}
 use Rattle.calls.specs.Asked.{found, find, asked, directed-in, solve-directed, equation-line}
 use Rattle.calls.specs.Outcome.{TableOutcome, table-fits, table-unsolved, solve-walked, solve-answer, solve-call}
 use Rattle.calls.specs.Solving.{EquationIs, HasEquation, walk-bytes}
-use Rattle.calls.specs.Walked.{Ends, Tells}
+use Rattle.walking.specs.Solve.{Ends, Tells}
 use Rattle.calls.specs.Theory.Fill.{filled-behind}
 use Rattle.calls.specs.Theory.Arities.{arities-taken}
 
