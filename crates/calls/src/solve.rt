@@ -11,6 +11,7 @@ use sheet::read::Reading;
 use sheet::read::read_sheet;
 use sheet::seek::equation_at;
 use walking::solve::Ending;
+use walking::solve::MEMORY;
 use walking::solve::Walked;
 use walking::solve::solve_positions;
 ghost use mathlib.Core.Path.{_≡_};
@@ -26,9 +27,6 @@ ghost use Rattle.calls.specs.Asked.{asked, solve-directed};
 ghost use Rattle.calls.specs.Outcome.{solve-walked, solve-answer, solve-call};
 ghost use Rattle.calls.specs.Solving.{EquationIs, HasEquation, walk-bytes};
 ghost use Rattle.walking.specs.Solve.{Tells};
-
-// The bytes of scratch that the walk works in.
-const WALK: usize = 22950;
 
 // The walk of one direction of the equation with these bytes. Scratch holds anything in the bytes that the walk works in.
 pub fn solve_equation(
@@ -48,9 +46,9 @@ pub fn solve_equation(
     measure(bytes, arities, &mut sizes, 0, n);
     let right = wide(sizes[0]);
     if direction == 0 {
-        return solve_positions(bytes, &sizes[..n], 0, right, table, &mut scratch[..WALK]);
+        return solve_positions(bytes, &sizes[..n], 0, right, table, &mut scratch[..MEMORY]);
     }
-    solve_positions(bytes, &sizes[..n], right, 0, table, &mut scratch[..WALK])
+    solve_positions(bytes, &sizes[..n], right, 0, table, &mut scratch[..MEMORY])
 }
 
 // Solve on the bytes of equation `equation`.

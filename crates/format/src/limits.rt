@@ -1,6 +1,6 @@
 // The fixed numbers that belong to the sheet, the walk and the calls.
 ghost use mathlib.Core.Path.{_≡_};
-ghost use Rattle.format.specs.Limits.{max-text, max-line-digits, max-symbols, max-arity, variable-count, max-equations, max-tasks, max-side-nodes, max-task-nodes, table-bytes, scratch-bytes};
+ghost use Rattle.format.specs.Limits.{max-text, max-line-digits, max-symbols, max-arity, variable-count, max-equations, max-tasks, max-side-nodes, max-task-nodes, max-elements, max-lines, max-turns, record-bytes, table-bytes, scratch-bytes};
 
 pub struct Limits {
     pub nothing: (),
@@ -33,6 +33,15 @@ impl Limits {
 
     pub const SCRATCH: usize = 57344;
 
+    // The elements of a line, the lines of a table, the turns of a walk, and the bytes of a record.
+    pub const ELEMENTS: usize = 40;
+
+    pub const LINES: usize = 255;
+
+    pub const TURNS: usize = 10000;
+
+    pub const RECORD: usize = 89;
+
     // Each number is the one of the definitions.
     pub fn stated()
         ensures { λ _. do ⌜ (← ⟦Limits::TEXT⟧ .entry) ≡ max-text ⌝ }
@@ -46,5 +55,9 @@ impl Limits {
         ensures { λ _. do ⌜ (← ⟦Limits::TASK_NODES⟧ .entry) ≡ max-task-nodes ⌝ }
         ensures { λ _. do ⌜ (← ⟦Limits::TABLE⟧ .entry) ≡ table-bytes ⌝ }
         ensures { λ _. do ⌜ (← ⟦Limits::SCRATCH⟧ .entry) ≡ scratch-bytes ⌝ }
+        ensures { λ _. do ⌜ (← ⟦Limits::ELEMENTS⟧ .entry) ≡ max-elements ⌝ }
+        ensures { λ _. do ⌜ (← ⟦Limits::LINES⟧ .entry) ≡ max-lines ⌝ }
+        ensures { λ _. do ⌜ (← ⟦Limits::TURNS⟧ .entry) ≡ max-turns ⌝ }
+        ensures { λ _. do ⌜ (← ⟦Limits::RECORD⟧ .entry) ≡ record-bytes ⌝ }
     {}
 }

@@ -1,4 +1,5 @@
 // A finished line's record.
+use format::limits::Limits;
 ghost use mathlib.Core.Path.{_≡_};
 ghost use mathlib.Core.List.{_++_};
 ghost use Prim.Native.Nat.{_+_, _≤_};
@@ -6,9 +7,7 @@ ghost use lib.ListN.{length, take, drop};
 ghost use Rattle.format.specs.Limits.{record-bytes};
 ghost use Rattle.walking.specs.Place.{line-bytes, placed};
 
-// The bytes of a record, and those of them in front of the count that it leaves out.
-pub const RECORD: usize = 89;
-
+// The bytes of a record in front of the count that it leaves out.
 const FRONT: usize = 9;
 
 // Puts the line's record at `to`: all its bytes but the count of elements that are known to be fully reduced.
@@ -21,7 +20,7 @@ pub fn write_record(line: &[u8], memory: &mut [u8], to: usize)
         memory[to + i] = line[i];
         i = i + 1;
     }
-    while i < RECORD {
+    while i < Limits::RECORD {
         memory[to + i] = line[i + 1];
         i = i + 1;
     }

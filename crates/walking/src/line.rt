@@ -17,9 +17,6 @@ ghost use Rattle.walking.specs.Stored.{meaning, marks, first-element, St
 ghost use Rattle.walking.specs.Place.{line-bytes, placed};
 ghost use Rattle.walking.specs.Named.{stored-of, opening-line, Markable, Writable};
 
-// "up to 40 elements"
-pub const ELEMENTS: usize = 40;
-
 // What stands behind the last element.
 const FILLER: u8 = 255;
 
@@ -27,7 +24,7 @@ const FILLER: u8 = 255;
 pub struct Line {
     pub bindings: [u8; Limits::VARIABLES],
     pub count: usize,
-    pub elements: [Element; ELEMENTS],
+    pub elements: [Element; Limits::ELEMENTS],
 }
 
 impl Line {
@@ -41,7 +38,7 @@ impl Line {
         Line {
             bindings: [UNBOUND; Limits::VARIABLES],
             count: 1,
-            elements: [element; ELEMENTS],
+            elements: [element; Limits::ELEMENTS],
         }
     }
     // Writes the line's bytes.

@@ -1,13 +1,12 @@
 // The walk of one direction over an equation's bytes.
-use crate::finish::RECORD;
 use crate::line::Line;
 use crate::record::LINE;
 use crate::record::store;
 use crate::walk::Advanced;
-use crate::walk::LINES;
 use crate::walk::Progress;
 use crate::walk::Walk;
 use crate::walk::going;
+use format::limits::Limits;
 use format::refusal::Refusal;
 ghost use mathlib.Core.Path.{_≡_};
 ghost use Prim.Native.Nat.{_*_, _≤_, _<_};
@@ -19,8 +18,11 @@ ghost use Rattle.walking.specs.Place.{line-bytes};
 ghost use Rattle.walking.specs.Walking.{memory-bytes, Walking, Comes};
 ghost use Rattle.walking.specs.Solve.{WalkedAs};
 
-// The place of the first line, at the end of the memory.
-const FIRST: usize = 254;
+// The place of the first line: the last of the memory.
+const FIRST: usize = Limits::LINES - 1;
+
+// The bytes of the memory: a place for each line.
+pub const MEMORY: usize = Limits::LINES * LINE;
 
 // How a walk ends.
 pub enum Ending {
@@ -68,7 +70,7 @@ fn go_on(walk: Walk, nodes: &[u8], sizes: &[u8], line: &mut [u8], memory: &mut [
     ensures { λ r. ⌜ Comes (now (nodes .entry)) (now (sizes .entry)) (now (memory .exit)) walk r ⌝ }
 {
     let mut cursor = walk;
-    while cursor.top < LINES {
+    while cursor.top < Limits::LINES {
         let next = cursor.turn(nodes, sizes, line, memory);
         let progress = next.progress;
         let Progress::Going = progress else {
@@ -111,7 +113,7 @@ pub fn solve_positions(
     let progress = last.progress;
     match progress {
         Progress::Going => {
-            copy_front(memory, table, walk.done * RECORD);
+            copy_front(memory, table, walk.done * Limits::RECORD);
             Walked {
                 ending: Ending::Solved,
                 lines: walk.done,

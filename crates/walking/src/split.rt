@@ -6,11 +6,9 @@ use crate::record::make_room;
 use crate::record::push_arguments;
 use crate::record::push_lexicographic;
 use crate::record::store;
+use format::limits::Limits;
 ghost use mathlib.Core.Path.{_≡_};
 ghost use Rattle.walking.specs.Splitting.{lesser, LastCount, TooLong, ChoicesFit, PushesChoices};
-
-// "up to 40 elements"
-const ELEMENTS: usize = 40;
 
 fn lesser(a: usize, b: usize) -> usize
     ensures { λ r. ⌜ r ≡ lesser a b ⌝ }
@@ -41,7 +39,7 @@ pub fn too_long(last: usize, elements: usize) -> bool
     if last == 0 {
         return false;
     }
-    ELEMENTS < elements
+    Limits::ELEMENTS < elements
 }
 
 // Puts the lines of all choices of the element `at`, p > q, where the arguments of f stand from `k` to `m` and the `count` of g from `l` to `n`.

@@ -1,6 +1,5 @@
 // The walk's cursor and count, and its turns.
 use crate::count::row_count;
-use crate::finish::RECORD;
 use crate::finish::write_record;
 use crate::leftmost::find_leftmost;
 use crate::rebind::rebind;
@@ -48,18 +47,13 @@ pub struct Advanced {
     pub walk: Walk,
 }
 
-// The places for lines.
-pub const LINES: usize = 255;
-
-const TURNS: usize = 10000;
-
 impl Walk {
     // The line is finished, which costs no turn: its record stands behind those of the others.
     fn finish(self, nodes: &[u8], sizes: &[u8], line: &[u8], memory: &mut [u8]) -> Walk
         requires { ⌜ Finishing (now nodes) (now sizes) (now line) (now memory) self ⌝ }
         ensures { λ r. ⌜ GoesOn (now (nodes .entry)) (now (sizes .entry)) (now (memory .exit)) self r ⌝ }
     {
-        write_record(line, memory, self.done * RECORD);
+        write_record(line, memory, self.done * Limits::RECORD);
         Walk {
             source: self.source,
             target: self.target,
@@ -222,7 +216,7 @@ impl Walk {
         let found = find_leftmost(nodes, sizes, line);
         let treatment = found.treatment;
         let Treatment::Reduced = treatment else {
-            if self.turns == TURNS {
+            if self.turns == Limits::TURNS {
                 return Advanced {
                     progress: Progress::Refused(Refusal::TooManyTurns),
                     walk: self,
