@@ -6,7 +6,7 @@ use lib.ListN.{length, getD, set, take, drop, replicate, length-append}
 use lib.Seq.{drop-length, getD-take, length-take-le}
 use native.Mathlib.Omega.{arith}
 use Rattle.format.specs.Buffer.{written}
-use Rattle.format.specs.Limits.{variable-count, max-lines, max-turns, record-bytes, table-bytes}
+use Rattle.format.specs.Limits.{variable-count, max-lines, max-turns, record-bytes}
 use Rattle.format.specs.declared.refusal.Refusal.{Refusal}
 use Rattle.solving.specs.Line.{no-bindings, greater, Line, line as line-with, records}
 use Rattle.solving.specs.Walk.{enough, solved, refused, walk-from, walk}
@@ -131,10 +131,10 @@ module _ {nodes sizes memory : List ℕ} {w : Walk} (source target : ℕ) (same-
   ended-as : a .progress ≡ Going → End nodes sizes memory w (a .walk) Going
   ended-as e = subst (λ p. End nodes sizes memory w (a .walk) p) e (c .end)
 
-  pub records-fit : a .progress ≡ Going → (table : List ℕ) → table-bytes ≤ length table → (a .walk .done * record-bytes ≤ length memory) × (a .walk .done * record-bytes ≤ length table)
-  records-fit e table h =
+  pub places-within : a .progress ≡ Going → (a .walk .done ≤ a .walk .top) × (a .walk .top ≤ max-lines)
+  places-within e =
       let m = ended-as e .0 .holds in
-      (omega (arith, m .length-is, m .ordered, m .top-is), omega (arith, m .ordered, m .top-is))
+      (m .ordered, omega (arith, m .top-is))
 
   pub solved-tells : a .progress ≡ Going → (table table′ : List ℕ) → table′ ≡ written (take (a .walk .done * record-bytes) memory) table
       → WalkedAs nodes sizes source target table table′ (record { ending = Solved; lines = a .walk .done; turns = a .walk .turns })

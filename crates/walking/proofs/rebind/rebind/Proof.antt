@@ -48,7 +48,7 @@ slice-write-line-2 c = omega (arith, fronting-length (c .before .loop .inv), c .
 
 -- src/rebind.rt:11:1
 same-length : tie.Need-same-length Inv-loop μ-loop
-same-length c = length-set (c .before .loop .line) 9 0 ∙ fronting-length (c .before .loop .inv)
+same-length c = length-set (c .before .loop .line) _ _ ∙ fronting-length (c .before .loop .inv)
 
 -- src/rebind.rt:11:1
 returns : tie.Need-returns Inv-loop μ-loop

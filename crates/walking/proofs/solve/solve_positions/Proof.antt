@@ -1,7 +1,7 @@
 -- `solve_positions` meets its contract.
 use native.Mathlib.Omega.{arith}
 use borrow.Author.Needs.{needs}
-use Rattle.walking.specs.Theory.Begin.{records-fit, solved-tells, refused-tells}
+use Rattle.walking.specs.Theory.Begin.{places-within, solved-tells, refused-tells}
 use Rattle.walking.proofs.solve.solve_positions.Statement.{statement}
 use Rattle.walking.proofs.solve.solve_positions.Tie as tie
 use Rattle.walking.proofs.solve.solve_positions.Reads as reads
@@ -36,7 +36,8 @@ mul-copy-front c =
     let a = c .before .before .before .before .before .before .before .before .before .before .before .before .before .before .before .before .before .before .before .before .before .before in
     let o = c .before .before .before .before .before .before .before .before .before .before .before .before .before .before .before .begin-walk in
     let g = c .before .before .before .before .before .before .before .before .before .go-on in
-    omega (arith, records-fit (a .args .source) (a .args .target) (o .ensures .1 .0) (o .ensures .1 .1) (g .result) (g .ensures) (c .before .before .before .enum-told .given .1) (a .args .table .now) (a .pre .1 .0) .0, g .kept .1 .1 .1 .1 .0, o .kept .1 .1 .1 .1 .1 .0, a .pre .1 .1)
+    let within = places-within (a .args .source) (a .args .target) (o .ensures .1 .0) (o .ensures .1 .1) (g .result) (g .ensures) (c .before .before .before .enum-told .given .1) in
+    omega (arith, within .0, within .1)
 
 -- src/solve.rt:114:13
 copy-front-requires : tie.Need-copy-front-requires
@@ -44,7 +45,8 @@ copy-front-requires c κs =
     let a = c .before .before .before .before .before .before .before .before .before .before .before .before .before .before .before .before .before .before .before .before .before .before in
     let o = c .before .before .before .before .before .before .before .before .before .before .before .before .before .before .before .begin-walk in
     let g = c .before .before .before .before .before .before .before .before .before .go-on in
-    records-fit (a .args .source) (a .args .target) (o .ensures .1 .0) (o .ensures .1 .1) (g .result) (g .ensures) (c .before .before .before .enum-told .given .1) (a .args .table .now) (a .pre .1 .0)
+    let within = places-within (a .args .source) (a .args .target) (o .ensures .1 .0) (o .ensures .1 .1) (g .result) (g .ensures) (c .before .before .before .enum-told .given .1) in
+    (omega (arith, within .0, within .1, g .kept .1 .1 .1 .1 .0, o .kept .1 .1 .1 .1 .1 .0, a .pre .1 .1), omega (arith, within .0, within .1, a .pre .1 .0))
 
 -- src/solve.rt:121:27
 enum-known-progress : tie.Need-enum-known-progress
