@@ -60,8 +60,7 @@ fn solve() {
     for sheet in sheets() {
         let equations = reference::sheet::read(&sheet).map_or(1, |sheet| sheet.equations().len() as u64);
         let present = (0..equations).flat_map(|equation| [(equation, 0), (equation, 1)]);
-        let absent =
-            [(equations, 0), (256, 0), (1 << 32, 1), (u64::MAX, 1), (0, 2), (0, 256), (0, 1 << 32), (0, u64::MAX)];
+        let absent = [(equations, 0), (256, 0), (1 << 32, 1), (u64::MAX, 1), (0, 2), (0, 256), (0, 1 << 32), (0, u64::MAX)];
         for (equation, direction) in present.chain(absent) {
             for (table, scratch) in &buffers {
                 given[(solved(&sheet, equation, direction, table, scratch) % 256) as usize] += 1;
