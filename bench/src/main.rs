@@ -10,7 +10,7 @@ use reference::generate::text;
 use reference::rewrite;
 use reference::sheet;
 use reference::special::{compared_arities, hard_pairs, special};
-use reference::timing::time;
+use reference::timing::{time, times};
 use reference::walk::Walker;
 
 fn main() {
@@ -67,31 +67,33 @@ fn compare() {
 /// Solve, on equations with many turns, lines or elements, in both directions: the whole call, which reads the sheet and clears
 /// scratch; and a turn of its walk alone, by what the call takes beyond that on an equation of the same sheet that takes no turn.
 fn solve() {
-    println!(
-        "\n{:30} {:>6} {:>5} {:>10} {:>10} {:>6} {:>14} {:>14} {:>6}",
-        "solve", "turns", "lines", "proved ns", "plain ns", "ratio", "proved ns/turn", "plain ns/turn", "ratio"
-    );
+    print!("\n{:30} {:>6} {:>5} {:>10} {:>10} {:>6}", "solve", "turns", "lines", "proved ns", "plain ns", "ratio");
+    println!(" {:>14} {:>14} {:>6}", "proved ns/turn", "plain ns/turn", "ratio");
     let mut walker = Walker::new();
     let mut table = vec![0xa5; 22_695];
     let mut scratch = vec![0xa5; 57_344];
     for (name, sheet) in walked() {
         let equation = rewrite::equation(&sheet::read(&sheet).expect("a sheet"), 0);
-        let mut proved = |equation, direction| time(|| calls::solve(&sheet, equation, direction, &mut table, &mut scratch));
-        let proved_none = proved(1, 0);
-        let proved = [proved(0, 0), proved(0, 1)];
-        let mut plain = |equation, direction| time(|| reference::solve(&sheet, equation, direction, &mut table, &mut scratch));
-        let plain_none = plain(1, 0);
-        let plain = [plain(0, 0), plain(0, 1)];
         for direction in 0..2 {
-            let lines = match walker.walk(&equation, direction as u8) {
+            let lines = match walker.walk(&equation, direction) {
                 Ok(_) => walker.lines().len().to_string(),
                 Err(excess) => format!("({})", excess.refusal_number()),
             };
             let turns = walker.measure().turns;
-            let (proved, plain) = (proved[direction], plain[direction]);
-            let [proved_turn, plain_turn] = [proved - proved_none, plain - plain_none].map(|ns| ns / f64::from(turns));
+            let asked = u64::from(direction);
+            let [proved, plain, proved_none, plain_none] = times(|case| match case {
+                0 => calls::solve(&sheet, 0, asked, &mut table, &mut scratch),
+                1 => reference::solve(&sheet, 0, asked, &mut table, &mut scratch),
+                2 => calls::solve(&sheet, 1, asked, &mut table, &mut scratch),
+                _ => reference::solve(&sheet, 1, asked, &mut table, &mut scratch),
+            });
             print!("{name:28} {direction} {turns:6} {lines:>5} {proved:10.0} {plain:10.0} {:6.2}", proved / plain);
-            println!(" {proved_turn:14.1} {plain_turn:14.1} {:6.2}", proved_turn / plain_turn);
+            // The difference of two calls does not tell what few turns take.
+            if 100 <= turns {
+                let [proved, plain] = [proved - proved_none, plain - plain_none].map(|ns| ns / f64::from(turns));
+                print!(" {proved:14.1} {plain:14.1} {:6.2}", proved / plain);
+            }
+            println!();
         }
     }
 }
