@@ -5,6 +5,7 @@ use reference::generate::sheet;
 use reference::special::special;
 
 const SCRATCH: usize = 57_344;
+const TABLE: usize = 22_695;
 
 fn sheets() -> impl Iterator<Item = Vec<u8>> {
     (0..4_000).map(sheet).chain(special().into_iter().map(|(_, sheet)| sheet))
@@ -29,4 +30,42 @@ fn compare() {
             }
         }
     }
+}
+
+/// Bytes that differ from one place to the next and from those of another seed.
+fn former_bytes(length: usize, seed: usize) -> Vec<u8> {
+    (0..length).map(|i| ((i + seed) % 251) as u8).collect()
+}
+
+/// Solve on both sides with the same former bytes; gives the number.
+fn solved(sheet: &[u8], equation: u64, direction: u64, table: &[u8], scratch: &[u8]) -> u64 {
+    let (mut table, mut scratch) = (table.to_vec(), scratch.to_vec());
+    let (mut other_table, mut other_scratch) = (table.clone(), scratch.clone());
+    let number = calls::solve(sheet, equation, direction, &mut table, &mut scratch);
+    let place = || format!("equation {equation}, direction {direction} of\n{}", String::from_utf8_lossy(sheet));
+    let other = reference::solve(sheet, equation, direction, &mut other_table, &mut other_scratch);
+    assert_eq!(number, other, "number, {}", place());
+    assert!(table == other_table, "table, {}", place());
+    assert!(scratch == other_scratch, "scratch, {}", place());
+    number
+}
+
+#[test]
+fn solve() {
+    let lengths = [(0, 0), (TABLE - 1, SCRATCH), (TABLE, SCRATCH - 1), (TABLE, SCRATCH), (TABLE + 89, SCRATCH + 56)];
+    let mut buffers = lengths.map(|(table, scratch)| (former_bytes(table, 0), former_bytes(scratch, 7))).to_vec();
+    buffers.extend([(vec![0; TABLE], vec![0xff; SCRATCH]), (vec![0xff; TABLE], vec![0; SCRATCH])]);
+    // How often each refusal was given; the first count is of none.
+    let mut given = [0; 13];
+    for sheet in sheets() {
+        let equations = reference::sheet::read(&sheet).map_or(1, |sheet| sheet.equations().len() as u64);
+        let present = (0..equations).flat_map(|equation| [(equation, 0), (equation, 1)]);
+        let absent = [(equations, 0), (256, 0), (1 << 32, 1), (u64::MAX, 1), (0, 2), (0, 256), (0, 1 << 32), (0, u64::MAX)];
+        for (equation, direction) in present.chain(absent) {
+            for (table, scratch) in &buffers {
+                given[(solved(&sheet, equation, direction, table, scratch) % 256) as usize] += 1;
+            }
+        }
+    }
+    assert!(given.iter().all(|&times| 0 < times), "a refusal was never given: {given:?}");
 }

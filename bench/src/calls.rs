@@ -3,6 +3,16 @@
 extern "C" {
     fn neblinaro_check(sheet: *const u8, sheet_length: usize) -> u64;
     fn neblinaro_compare(sheet: *const u8, sheet_length: usize, task: u64, scratch: *mut u8, scratch_length: usize) -> u64;
+    fn neblinaro_solve(
+        sheet: *const u8,
+        sheet_length: usize,
+        equation: u64,
+        direction: u64,
+        table: *mut u8,
+        table_length: usize,
+        scratch: *mut u8,
+        scratch_length: usize,
+    ) -> u64;
 }
 
 pub fn check(sheet: &[u8]) -> u64 {
@@ -13,4 +23,20 @@ pub fn check(sheet: &[u8]) -> u64 {
 pub fn compare(sheet: &[u8], task: u64, scratch: &mut [u8]) -> u64 {
     // The call reads the sheet and writes scratch, within their lengths.
     unsafe { neblinaro_compare(sheet.as_ptr(), sheet.len(), task, scratch.as_mut_ptr(), scratch.len()) }
+}
+
+pub fn solve(sheet: &[u8], equation: u64, direction: u64, table: &mut [u8], scratch: &mut [u8]) -> u64 {
+    // The call reads the sheet and writes table and scratch, within their lengths.
+    unsafe {
+        neblinaro_solve(
+            sheet.as_ptr(),
+            sheet.len(),
+            equation,
+            direction,
+            table.as_mut_ptr(),
+            table.len(),
+            scratch.as_mut_ptr(),
+            scratch.len(),
+        )
+    }
 }

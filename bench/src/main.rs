@@ -7,13 +7,17 @@ mod calls;
 mod memoised;
 
 use reference::generate::text;
+use reference::rewrite;
+use reference::sheet;
 use reference::special::{compared_arities, hard_pairs, special};
-use reference::timing::time;
+use reference::timing::{time, times};
+use reference::walk::Walker;
 
 fn main() {
     clock();
     check();
     compare();
+    solve();
 }
 
 /// A chain of dependent multiplications, to tell a slow moment of the machine from slow code.
@@ -58,4 +62,67 @@ fn compare() {
         let other = time(|| reference::compare(&sheet, 0, &mut plain_scratch));
         println!("{name:44} {proved:10.0} {plain:10.0} {:6.2} {other:12.0}", proved / plain);
     }
+}
+
+/// Solve, on equations with many turns, lines or elements, in both directions: the whole call, which reads the sheet and clears
+/// scratch; and a turn of its walk alone, by what the call takes beyond that on an equation of the same sheet that takes no turn.
+fn solve() {
+    print!("\n{:30} {:>6} {:>5} {:>10} {:>10} {:>6}", "solve", "turns", "lines", "proved ns", "plain ns", "ratio");
+    println!(" {:>14} {:>14} {:>6}", "proved ns/turn", "plain ns/turn", "ratio");
+    let mut walker = Walker::new();
+    let mut table = vec![0xa5; 22_695];
+    let mut scratch = vec![0xa5; 57_344];
+    for (name, sheet) in walked() {
+        let equation = rewrite::equation(&sheet::read(&sheet).expect("a sheet"), 0);
+        for direction in 0..2 {
+            let lines = match walker.walk(&equation, direction) {
+                Ok(_) => walker.lines().len().to_string(),
+                Err(excess) => format!("({})", excess.refusal_number()),
+            };
+            let turns = walker.measure().turns;
+            let asked = u64::from(direction);
+            let [proved, plain, proved_none, plain_none] = times(|case| match case {
+                0 => calls::solve(&sheet, 0, asked, &mut table, &mut scratch),
+                1 => reference::solve(&sheet, 0, asked, &mut table, &mut scratch),
+                2 => calls::solve(&sheet, 1, asked, &mut table, &mut scratch),
+                _ => reference::solve(&sheet, 1, asked, &mut table, &mut scratch),
+            });
+            print!("{name:28} {direction} {turns:6} {lines:>5} {proved:10.0} {plain:10.0} {:6.2}", proved / plain);
+            // The difference of two calls does not tell what few turns take.
+            if 100 <= turns {
+                let [proved, plain] = [proved - proved_none, plain - plain_none].map(|ns| ns / f64::from(turns));
+                print!(" {proved:14.1} {plain:14.1} {:6.2}", proved / plain);
+            }
+            println!();
+        }
+    }
+}
+
+/// The symbols and the equation of special sheets, with the equation x = y, whose walk has no turn, behind it.
+fn walked() -> Vec<(&'static str, Vec<u8>)> {
+    const NAMES: [&str; 15] = [
+        "P1",
+        "median law, and below or",
+        "median law, or below and",
+        "reversal of five",
+        "distribution of if-then-else",
+        "exclusive or, and < or < not",
+        "exclusive or, and < not < or",
+        "exclusive or, or < not < and",
+        "10,000 turns, 8 lines",
+        "10,000 turns, no line",
+        "10,001 turns",
+        "255 lines at the end",
+        "255 lines on the way",
+        "256 lines",
+        "40 elements",
+    ];
+    let mut sheets = special();
+    sheets.retain(|(name, _)| NAMES.contains(name));
+    for (_, sheet) in &mut sheets {
+        let end: usize = sheet.split_inclusive(|&byte| byte == b'\n').take(2).map(<[u8]>::len).sum();
+        sheet.truncate(end);
+        sheet.extend(text(&[vec![2, 0x80, 0x81]]));
+    }
+    sheets
 }
