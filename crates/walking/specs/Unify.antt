@@ -6,6 +6,7 @@ use mathlib.Core.List.{List}
 use lib.ListN.{length}
 use Rattle.solving.specs.Line.{Bindings}
 use Rattle.solving.specs.Walk.{enough, unify-each, unify}
+use Rattle.solving.specs.Theory.Unified.{Unified as Unification, EachUnified}
 use Rattle.walking.specs.declared.unify.Answer.{Answer}
 use Rattle.walking.specs.declared.unify.Answer.the-variants.{Unified, Failed}
 use Rattle.walking.specs.Laid.{view-of, Row}
@@ -24,6 +25,12 @@ pub record HasRows (nodes sizes : List ℕ) (k m l n : ℕ) : Type 0 where
   pub left-within : m ≤ length nodes
   pub right-within : n ≤ length nodes
 
+-- What unification at most `depth` deep tells: the bindings that it comes to, or that the definition finds none so deep.
+pub record UnifiesTo (nodes sizes : List ℕ) (depth : ℕ) (θ : Bindings) (p q : ℕ) (r : Answer) (θ′ : Bindings) : Type 0 where
+  pub found : r ≡ Unified → Unification (view-of nodes sizes) θ p q θ′
+  pub none-found : r ≡ Failed → unify enough (view-of nodes sizes) depth θ p q ≡ none
+
 -- "left argument first", the bindings handed on.
 pub record UnifiesRows (nodes sizes : List ℕ) (depth : ℕ) (θ : Bindings) (k m l n : ℕ) (r : Answer) (θ′ : Bindings) : Type 0 where
-  pub tells : (ps qs : List ℕ) → Row sizes k m ps → Row sizes l n qs → unify-each (unify enough (view-of nodes sizes) depth) θ ps qs ≡ answered r θ′
+  pub found : (ps qs : List ℕ) → Row sizes k m ps → Row sizes l n qs → r ≡ Unified → EachUnified (view-of nodes sizes) θ ps qs θ′
+  pub none-found : (ps qs : List ℕ) → Row sizes k m ps → Row sizes l n qs → r ≡ Failed → unify-each (unify enough (view-of nodes sizes) depth) θ ps qs ≡ none

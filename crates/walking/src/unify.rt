@@ -9,10 +9,10 @@ ghost use Prim.Native.Nat.{_<_};
 ghost use lib.ListN.{length};
 ghost use native.Mathlib.Decide.{ℕ-discrete, decLt};
 ghost use Rattle.solving.specs.Line.{lookup};
-ghost use Rattle.solving.specs.Walk.{Fuel, enough, occurs, bind-unless, unify-variables, unify};
+ghost use Rattle.solving.specs.Walk.{Fuel, enough, occurs, bind-unless, unify-variables};
 ghost use Rattle.walking.specs.Laid.{view-of};
 ghost use Rattle.walking.specs.Bound.{bindings-of, Readable};
-ghost use Rattle.walking.specs.Unify.{answered, HasRows, UnifiesRows};
+ghost use Rattle.walking.specs.Unify.{answered, HasRows, UnifiesTo, UnifiesRows};
 
 // Whether there is a unifier; the bindings beside it are then those that give it.
 pub enum Answer {
@@ -60,13 +60,17 @@ pub fn unify_terms(
 ) -> Answer
     requires { ⌜ Readable (now nodes) (now sizes) (now bindings) × (depth < 100) ⌝ }
     requires { ⌜ (p < length (now nodes)) × (q < length (now nodes)) ⌝ }
-    ensures { λ r. ⌜ unify enough (view-of (now (nodes .entry)) (now (sizes .entry))) depth (bindings-of (now (bindings .entry))) p q ≡ answered r (bindings-of (now (bindings .exit))) ⌝ }
+    ensures { λ r. ⌜ UnifiesTo (now (nodes .entry)) (now (sizes .entry)) depth (bindings-of (now (bindings .entry))) p q r (bindings-of (now (bindings .exit))) ⌝ }
 {
     if depth == 0 {
         return Answer::Failed;
     }
     let s = reached(nodes, sizes, bindings, p);
     let t = reached(nodes, sizes, bindings, q);
+    // A term and itself: without this, bindings that double terms would make unification long.
+    if s == t {
+        return Answer::Unified;
+    }
     let f = nodes[s];
     let g = nodes[t];
     if f < FIRST_VARIABLE {

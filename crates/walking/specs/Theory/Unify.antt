@@ -1,6 +1,6 @@
 -- Unification by cases, as the code goes through them.
 use Prim.Native.Nat.{ℕ, zero, suc, _+_, _-_, _≤_, _<_}
-use mathlib.Core.Path.{_≡_, refl, sym, ap, _∙_}
+use mathlib.Core.Path.{_≡_, refl, sym, ap, subst, _∙_}
 use mathlib.Core.Bool.{Bool, true, false}
 use mathlib.Core.Option.{Option, none, some}
 use mathlib.Core.List.{List, [], _∷_}
@@ -11,14 +11,17 @@ use Rattle.format.specs.Limits.{first-variable, variable-count, position-count}
 use Rattle.terms.specs.Position.{Node, var-node, app-node}
 use Rattle.solving.specs.Line.{Bindings, lookup, bind}
 use Rattle.solving.specs.Walk.{Fuel, enough, reach, occurs, bind-unless, unify-variables, unify-each, unify-nodes, unify}
-use Rattle.solving.specs.Theory.Seen.{variable-bound, reaches-unbound}
+use Rattle.solving.specs.Theory.Seen.{Reaches, variable-bound, reaches-unbound}
+use Rattle.solving.specs.Theory.Rank.{rank, rank-le, rank-down}
+use Rattle.solving.specs.Theory.Fuel.{unify-found}
+use Rattle.terms.specs.Theory.View.{In, head, tail}
 use Rattle.solving.specs.Theory.Reach.{enough-suffices, Proper, reach-reaches}
-use Rattle.solving.specs.Theory.Unified.{unified-proper, unify-gives}
+use Rattle.solving.specs.Theory.Unified.{Unified as Unification, EachUnified, equal-variables, symbols, no-more, one-more, unified-proper, unify-gives}
 use Rattle.walking.specs.declared.unify.Answer.{Answer}
 use Rattle.walking.specs.declared.unify.Answer.the-variants.{Unified, Failed}
-use Rattle.walking.specs.Laid.{view-of, arguments-of, Laid}
+use Rattle.walking.specs.Laid.{view-of, arguments-of, Row, Laid}
 use Rattle.walking.specs.Bound.{bindings-of, Readable}
-use Rattle.walking.specs.Unify.{answered, HasRows, UnifiesRows}
+use Rattle.walking.specs.Unify.{answered, HasRows, UnifiesTo, UnifiesRows}
 use Rattle.walking.specs.Theory.Laid.{symbol-there, variable-there, arguments-there, laid-layout, row-empty, row-next, row-ordered, row-first-some}
 use Rattle.walking.specs.Theory.Bound.{bind-byte, length-bindings}
 
@@ -123,6 +126,10 @@ unified-readable {nodes} {sizes} {bs} bs′ r p q depth i j e =
     let u = unify-gives lay (enough-suffices (r .laid .few)) depth (bindings-of bs) (bindings-of bs′) p q (r .proper) i j e in
     record { laid = r .laid; proper = unified-proper lay u (r .proper) i j }
 
+pub unification-readable : {nodes sizes bs : List ℕ} (bs′ : List ℕ) → Readable nodes sizes bs → (p q : ℕ) → p < length nodes → q < length nodes
+    → Unification (view-of nodes sizes) (bindings-of bs) p q (bindings-of bs′) → Readable nodes sizes bs′
+unification-readable bs′ r p q i j u = record { laid = r .laid; proper = unified-proper (laid-layout (r .laid)) u (r .proper) i j }
+
 -- The arguments of two symbols stand in rows.
 pub arguments-rows : {nodes sizes : List ℕ} → Laid nodes sizes → (s t : ℕ) → s < length nodes → t < length nodes → getD nodes s 0 < first-variable → getD nodes t 0 < first-variable
     → {a b : ℕ} → a ≡ getD sizes s 0 → b ≡ getD sizes t 0 → HasRows nodes sizes (s + 1) (s + a) (t + 1) (t + b)
@@ -156,13 +163,6 @@ module _ (nodes sizes bs bs′ : List ℕ) (p q s t depth : ℕ) (at-p : s ≡ r
   abbrev Gives : Type 0
   Gives = unify enough (view-of nodes sizes) depth (bindings-of bs) p q ≡ answered r (bindings-of bs′)
 
-  pub terms-symbols : Laid nodes sizes → getD nodes s 0 < first-variable → getD nodes t 0 < first-variable → getD nodes s 0 ≡ getD nodes t 0 → (a b : ℕ) → a ≡ getD sizes s 0 → b ≡ getD sizes t 0
-      → UnifiesRows nodes sizes (depth - 1) (bindings-of bs) (s + 1) (s + a) (t + 1) (t + b) r (bindings-of bs′) → Gives
-  terms-symbols laid h k e a b x y u =
-      unify-symbols nodes sizes bs p q s t at-p at-q depth (depth - 1) (one-less depth some-depth) (getD nodes s 0) (arguments-of sizes s) (arguments-of sizes t)
-      (symbol-there nodes sizes s i h) (rw e (symbol-there nodes sizes t j k))
-      ∙ u .tells (arguments-of sizes s) (arguments-of sizes t) (rw x (arguments-there laid s i h)) (rw y (arguments-there laid t j k))
-
   pub terms-right : getD nodes s 0 < first-variable → first-variable ≤ getD nodes t 0 → (w : ℕ) → w ≡ getD nodes t 0 - first-variable
       → bind-unless (occurs enough (view-of nodes sizes) (enough .occurs-depth) (bindings-of bs) w s) (bindings-of bs) w s ≡ answered r (bindings-of bs′) → Gives
   terms-right h k w x u =
@@ -177,6 +177,26 @@ module _ (nodes sizes bs bs′ : List ℕ) (p q s t depth : ℕ) (at-p : s ≡ r
       → unify-variables (bindings-of bs) v w s t (ℕ-discrete v w) (decLt v w) ≡ answered r (bindings-of bs′) → Gives
   terms-both h k v w x y u =
       unify-both nodes sizes bs p q s t at-p at-q depth (depth - 1) (one-less depth some-depth) v w (variable-there nodes sizes s v i h x) (variable-there nodes sizes t w j k y) ∙ u
+
+-- Two terms with the same symbol.
+pub terms-symbols : (nodes sizes bs bs′ : List ℕ) (p q s t depth : ℕ) → Readable nodes sizes bs → s ≡ reach enough (view-of nodes sizes) (bindings-of bs) p → t ≡ reach enough (view-of nodes sizes) (bindings-of bs) q
+    → s < length nodes → t < length nodes → (depth ≡ 0 → ⊥) → (r : Answer) → getD nodes s 0 < first-variable → getD nodes t 0 < first-variable → getD nodes s 0 ≡ getD nodes t 0
+    → (a b : ℕ) → a ≡ getD sizes s 0 → b ≡ getD sizes t 0 → UnifiesRows nodes sizes (depth - 1) (bindings-of bs) (s + 1) (s + a) (t + 1) (t + b) r (bindings-of bs′)
+    → UnifiesTo nodes sizes depth (bindings-of bs) p q r (bindings-of bs′)
+terms-symbols nodes sizes bs bs′ p q s t depth read at-p at-q i j d r h k e a b x y u =
+    let lay = laid-layout (read .laid) in
+    let suf = enough-suffices (read .laid .few) in
+    let left : Row sizes (s + 1) (s + a) (arguments-of sizes s) = rw x (arguments-there (read .laid) s i h) in
+    let right : Row sizes (t + 1) (t + b) (arguments-of sizes t) = rw y (arguments-there (read .laid) t j k) in
+    let vs = symbol-there nodes sizes s i h in
+    let vt : view-of nodes sizes t ≡ app-node (getD nodes s 0) (arguments-of sizes t) = rw e (symbol-there nodes sizes t j k) in
+    record {
+      found = λ z. symbols (subst (Reaches (view-of nodes sizes) (bindings-of bs) p) (sym at-p) (reach-reaches lay suf (read .proper) p))
+          (subst (Reaches (view-of nodes sizes) (bindings-of bs) q) (sym at-q) (reach-reaches lay suf (read .proper) q)) vs vt
+          (u .found (arguments-of sizes s) (arguments-of sizes t) left right z);
+      none-found = λ z. unify-symbols nodes sizes bs p q s t at-p at-q depth (depth - 1) (one-less depth d) (getD nodes s 0) (arguments-of sizes s) (arguments-of sizes t) vs vt
+          ∙ u .none-found (arguments-of sizes s) (arguments-of sizes t) left right z;
+    }
 
 -- Those that fail at once.
 pub terms-other : (nodes sizes bs : List ℕ) (θ : Bindings) (p q s t depth : ℕ) → s ≡ reach enough (view-of nodes sizes) (bindings-of bs) p → t ≡ reach enough (view-of nodes sizes) (bindings-of bs) q
@@ -200,28 +220,117 @@ pub answered-failed : {o : Option Bindings} (r : Answer) (θ : Bindings) → o �
 unfolding answered
 answered-failed r θ e x = rw x at e
 
+-- What the definition finds at some depth is what there is.
+found-same : {nodes sizes bs : List ℕ} → Readable nodes sizes bs → (p q depth : ℕ) → p < length nodes → q < length nodes → {θ′ η : Bindings}
+    → Unification (view-of nodes sizes) (bindings-of bs) p q θ′ → unify enough (view-of nodes sizes) depth (bindings-of bs) p q ≡ some η → η ≡ θ′
+found-same {nodes} {sizes} {bs} r p q depth i j {θ′} {η} u e =
+    let lay = laid-layout (r .laid) in
+    let suf = enough-suffices (r .laid .few) in
+    let x = unify-found lay suf (r .proper) i j u in
+    let y = unify-found lay suf (r .proper) i j (unify-gives lay suf depth (bindings-of bs) η p q (r .proper) i j e) in
+    let z : _≡_ {A = Option Bindings} (some η) (some θ′) = sym y ∙ x in
+    cc
+
+each-none : {nodes sizes bs : List ℕ} {θ θ′ : Bindings} {k l : ℕ} (depth : ℕ) → Readable nodes sizes bs → θ ≡ bindings-of bs → k < length nodes → l < length nodes
+    → Unification (view-of nodes sizes) θ k l θ′ → (xs ys : List ℕ) → unify-each (unify enough (view-of nodes sizes) depth) θ′ xs ys ≡ none
+    → unify-each (unify enough (view-of nodes sizes) depth) θ (k ∷ xs) (l ∷ ys) ≡ none
+unfolding unify-each
+each-none {nodes = nodes} {sizes = sizes} {bs = bs} {θ = θ} {θ′ = θ′} {k = k} {l = l} depth r is i j u xs ys x = go (unify enough (view-of nodes sizes) depth θ k l) refl
+  where
+    go : (o : Option Bindings) → unify enough (view-of nodes sizes) depth θ k l ≡ o
+        → _≡_ {A = Option Bindings} (elim o [ none ↦ none | some η ↦ unify-each (unify enough (view-of nodes sizes) depth) η xs ys ]) none
+    go none e = refl
+    go (some η) e =
+        let d : η ≡ θ′ = found-same r k l depth i j (subst (λ a. Unification (view-of nodes sizes) a k l θ′) is u) (ap (λ a. unify enough (view-of nodes sizes) depth a k l) (sym is) ∙ e) in
+        rw d x
+
+not-failed : {A : Type 0} → Unified ≡ Failed → A
+not-failed e = let z : _≡_ {A = ℕ} 0 1 = cc in absurd (omega arith)
+
+not-unified : {A : Type 0} → Failed ≡ Unified → A
+not-unified e = let z : _≡_ {A = ℕ} 0 1 = cc in absurd (omega arith)
+
+-- A term and itself: nothing is bound.
+module _ {nodes sizes bs : List ℕ} (read : Readable nodes sizes bs) where
+  at-reached : (p : ℕ) → Reaches (view-of nodes sizes) (bindings-of bs) p (reach enough (view-of nodes sizes) (bindings-of bs) p)
+  at-reached p = reach-reaches (laid-layout (read .laid)) (enough-suffices (read .laid .few)) (read .proper) p
+
+  each-self : (ps : List ℕ) → ((c : ℕ) → In c ps → Unification (view-of nodes sizes) (bindings-of bs) c c (bindings-of bs)) → EachUnified (view-of nodes sizes) (bindings-of bs) ps ps (bindings-of bs)
+  each-self [] h = no-more refl
+  each-self (p ∷ ps) h = one-more (h p head) (each-self ps (λ c i. h c (tail i)))
+
+  self-unified : (b p : ℕ) → rank (length nodes) (read .proper .height) p < b → (x : Node) → view-of nodes sizes (reach enough (view-of nodes sizes) (bindings-of bs) p) ≡ x
+      → Unification (view-of nodes sizes) (bindings-of bs) p p (bindings-of bs)
+  self-unified zero p l x e = absurd (omega arith)
+  self-unified (suc b) p l (var-node v) e = equal-variables (at-reached p) (at-reached p) e e refl
+  self-unified (suc b) p l (app-node f ps) e =
+      symbols (at-reached p) (at-reached p) e e
+      (each-self ps (λ c i. self-unified b c (omega (arith, rank-down (read .proper .falls) (laid-layout (read .laid)) f c ps (at-reached p) e i)) (view-of nodes sizes (reach enough (view-of nodes sizes) (bindings-of bs) c)) refl))
+
+  same-unified : (p q r : ℕ) → Reaches (view-of nodes sizes) (bindings-of bs) p r → Reaches (view-of nodes sizes) (bindings-of bs) q r → (x : Node) → view-of nodes sizes r ≡ x
+      → Unification (view-of nodes sizes) (bindings-of bs) p q (bindings-of bs)
+  same-unified p q r a b (var-node v) e = equal-variables a b e e refl
+  same-unified p q r a b (app-node f ps) e = symbols a b e e (each-self ps (λ c i. self-unified (suc (length nodes)) c (omega (arith, rank-le (length nodes) (read .proper .height) c)) (view-of nodes sizes (reach enough (view-of nodes sizes) (bindings-of bs) c)) refl))
+
+  pub same-reached : (p q s t depth : ℕ) → s ≡ reach enough (view-of nodes sizes) (bindings-of bs) p → t ≡ reach enough (view-of nodes sizes) (bindings-of bs) q → s ≡ t
+      → UnifiesTo nodes sizes depth (bindings-of bs) p q Unified (bindings-of bs)
+  same-reached p q s t depth x y e = record {
+    found = λ z. same-unified p q (reach enough (view-of nodes sizes) (bindings-of bs) p) (at-reached p)
+        (subst (λ r. Reaches (view-of nodes sizes) (bindings-of bs) q r) (sym y ∙ (sym e ∙ x)) (at-reached q)) (view-of nodes sizes (reach enough (view-of nodes sizes) (bindings-of bs) p)) refl;
+    none-found = λ z. not-failed z;
+  }
+
+-- What the definition tells, told by the code.
+pub told : {nodes sizes bs : List ℕ} (θ′ : Bindings) → Readable nodes sizes bs → (p q depth : ℕ) → p < length nodes → q < length nodes → (r : Answer)
+    → unify enough (view-of nodes sizes) depth (bindings-of bs) p q ≡ answered r θ′ → UnifiesTo nodes sizes depth (bindings-of bs) p q r θ′
+told {nodes} {sizes} {bs} θ′ read p q depth i j r e = record {
+  found = λ z. unify-gives (laid-layout (read .laid)) (enough-suffices (read .laid .few)) depth (bindings-of bs) θ′ p q (read .proper) i j (answered-unified r θ′ e z);
+  none-found = λ z. answered-failed r θ′ e z;
+}
+
+pub told-enough : {nodes sizes bs : List ℕ} (θ′ : Bindings) → Readable nodes sizes bs → (p q : ℕ) → p < length nodes → q < length nodes → (r : Answer)
+    → UnifiesTo nodes sizes (enough .unify-depth) (bindings-of bs) p q r θ′ → unify enough (view-of nodes sizes) (enough .unify-depth) (bindings-of bs) p q ≡ answered r θ′
+unfolding answered
+told-enough θ′ read p q i j Unified u = unify-found (laid-layout (read .laid)) (enough-suffices (read .laid .few)) (read .proper) i j (u .found refl)
+told-enough θ′ read p q i j Failed u = u .none-found refl
+
 -- 4. Rows.
 module _ {nodes sizes : List ℕ} {depth : ℕ} {θ : Bindings} {k m l n : ℕ} where
   pub rows-end : m ≤ k → n ≤ l → UnifiesRows nodes sizes depth θ k m l n Unified θ
-  unfolding unify-each answered
-  rows-end h i = record { tells = λ ps qs a b. rw (row-empty a h, row-empty b i, unify-each) }
+  rows-end h i = record { found = λ ps qs a b x. rw (row-empty a h, row-empty b i) (no-more refl); none-found = λ ps qs a b x. not-failed x }
 
-  pub rows-left : {θ′ : Bindings} → k < m → n ≤ l → UnifiesRows nodes sizes depth θ k m l n Failed θ′
-  unfolding unify-each answered
-  rows-left h i = record { tells = λ ps qs a b. let (xs, e, c) = row-next a h in rw (e, row-empty b i, unify-each) }
-
-  pub rows-right : {θ′ : Bindings} → m ≤ k → l < n → UnifiesRows nodes sizes depth θ k m l n Failed θ′
-  unfolding unify-each answered
-  rows-right h i = record { tells = λ ps qs a b. let (ys, e, c) = row-next b i in rw (row-empty a h, e, unify-each) }
-
-  pub rows-fail : {θ′ : Bindings} → k < m → l < n → unify enough (view-of nodes sizes) depth θ k l ≡ none → UnifiesRows nodes sizes depth θ k m l n Failed θ′
-  unfolding unify-each answered
-  rows-fail h i x = record { tells = λ ps qs a b. let (xs, d, u) = row-next a h in let (ys, e, w) = row-next b i in rw (d, e, x, unify-each) }
-
-  pub rows-more : {a b : ℕ} (θ′ θ″ : Bindings) (answer : Answer) → k < m → l < n → unify enough (view-of nodes sizes) depth θ k l ≡ some θ′ → a ≡ getD sizes k 0 → b ≡ getD sizes l 0
-      → UnifiesRows nodes sizes depth θ′ (k + a) m (l + b) n answer θ″ → UnifiesRows nodes sizes depth θ k m l n answer θ″
+  pub rows-left : (θ′ : Bindings) → k < m → n ≤ l → UnifiesRows nodes sizes depth θ k m l n Failed θ′
   unfolding unify-each
-  rows-more θ′ θ″ answer h i x y z rest = record { tells = λ ps qs a b. let (xs, d, u) = row-next a h in let (ys, e, w) = row-next b i in rw (d, e, x, unify-each) (rest .tells xs ys (rw y u) (rw z w)) }
+  rows-left θ′ h i = record { found = λ ps qs a b x. not-unified x; none-found = λ ps qs a b x. let (xs, e, c) = row-next a h in rw (e, row-empty b i, unify-each) }
+
+  pub rows-right : (θ′ : Bindings) → m ≤ k → l < n → UnifiesRows nodes sizes depth θ k m l n Failed θ′
+  unfolding unify-each
+  rows-right θ′ h i = record { found = λ ps qs a b x. not-unified x; none-found = λ ps qs a b x. let (ys, e, c) = row-next b i in rw (row-empty a h, e, unify-each) }
+
+  pub rows-fail : (θ′ θ″ : Bindings) (r : Answer) → k < m → l < n → UnifiesTo nodes sizes depth θ k l r θ′ → r ≡ Failed → UnifiesRows nodes sizes depth θ k m l n Failed θ″
+  unfolding unify-each
+  rows-fail θ′ θ″ r h i u z = record {
+    found = λ ps qs a b x. not-unified x;
+    none-found = λ ps qs a b x. let (xs, d, c) = row-next a h in let (ys, e, w) = row-next b i in rw (d, e, u .none-found z, unify-each);
+  }
+
+  pub rows-more : {a b : ℕ} {bs : List ℕ} → Readable nodes sizes bs → θ ≡ bindings-of bs → k < length nodes → l < length nodes → (θ′ θ″ : Bindings) (r answer : Answer) → k < m → l < n
+      → UnifiesTo nodes sizes depth θ k l r θ′ → r ≡ Unified → a ≡ getD sizes k 0 → b ≡ getD sizes l 0 → UnifiesRows nodes sizes depth θ′ (k + a) m (l + b) n answer θ″
+      → UnifiesRows nodes sizes depth θ k m l n answer θ″
+  rows-more read is i j θ′ θ″ r answer h g u z y w rest = record {
+    found = λ ps qs a b x.
+        let (xs, d, c) = row-next a h in
+        let (ys, e, f) = row-next b g in
+        rw (d, e) (one-more (u .found z) (rest .found xs ys (rw y c) (rw w f) x));
+    none-found = λ ps qs a b x.
+        let (xs, d, c) = row-next a h in
+        let (ys, e, f) = row-next b g in
+        rw (d, e) (first-then read is i j (u .found z) xs ys (rest .none-found xs ys (rw y c) (rw w f) x));
+  }
+    where
+      first-then : {bs : List ℕ} → Readable nodes sizes bs → θ ≡ bindings-of bs → k < length nodes → l < length nodes → Unification (view-of nodes sizes) θ k l θ′ → (xs ys : List ℕ)
+          → unify-each (unify enough (view-of nodes sizes) depth) θ′ xs ys ≡ none → unify-each (unify enough (view-of nodes sizes) depth) θ (k ∷ xs) (l ∷ ys) ≡ none
+      first-then read is i j v xs ys x = each-none depth read is i j v xs ys x
 
 module _ {nodes sizes : List ℕ} {k m l n : ℕ} (h : HasRows nodes sizes k m l n) where
   -- The first terms stand within the rows, and the others behind them.

@@ -57,7 +57,8 @@ unify-terms-requires c κs =
 returns : tie.Need-returns Inv-loop μ-loop
 returns c =
     let loop = c .before .before .before .before .loop in
-    copy-unified _ _ _ _ (c .before .unify-terms .last .1 .1 .0) _ _ _ (fronting-whole (loop .inv) (c .before .before .before .loop-test .left) refl) (c .before .unify-terms .ensures) (c .own2 .given)
+    let start = c .before .before .before .before .before .before .before .before in
+    copy-unified _ _ _ _ (c .before .unify-terms .last .1 .1 .0) _ _ _ (start .pre .0) (start .pre .1 .0) (start .pre .1 .1) (fronting-whole (loop .inv) (c .before .before .before .loop-test .left) refl) (c .before .unify-terms .ensures) (c .own2 .given)
 
 pub unify-positions-spec : {M : Type 1} → statement M
 unify-positions-spec =
