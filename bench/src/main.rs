@@ -98,7 +98,26 @@ fn solve() {
     }
 }
 
-/// The symbols and the equation of special sheets, with the equation x = y, whose walk has no turn, behind it.
+/// Symbols and equations that a search found, whose turns take long beside plain Rust.
+const SEARCHED: [(&str, &[u8]); 3] = [
+    (
+        "searched, many equalities",
+        b"0103000303\n02020201018183020000008300810183818302848000840201810284810181838002800001818380000282020001818102\
+        8080808381\n",
+    ),
+    (
+        "searched, many variables",
+        b"0103000402\n0202020286868102028202808701028386840085020287028701018781000002838200028202868201000201838085838386\
+        87\n",
+    ),
+    (
+        "searched, long terms",
+        b"0103000104\n0202010101010101010101010101010101010101010102010001010085008080820202840184838301020001028401010100\
+        000181010201850000830181800182\n",
+    ),
+];
+
+/// The symbols and the equation of special sheets, and those searched; behind it the equation x = y, whose walk has no turn.
 fn walked() -> Vec<(&'static str, Vec<u8>)> {
     const NAMES: [&str; 15] = [
         "P1",
@@ -119,6 +138,7 @@ fn walked() -> Vec<(&'static str, Vec<u8>)> {
     ];
     let mut sheets = special();
     sheets.retain(|(name, _)| NAMES.contains(name));
+    sheets.extend(SEARCHED.map(|(name, sheet)| (name, sheet.to_vec())));
     for (_, sheet) in &mut sheets {
         let end: usize = sheet.split_inclusive(|&byte| byte == b'\n').take(2).map(<[u8]>::len).sum();
         sheet.truncate(end);
