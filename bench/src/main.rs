@@ -9,7 +9,7 @@ mod memoised;
 use reference::generate::text;
 use reference::rewrite;
 use reference::sheet;
-use reference::special::{compared_arities, hard_pairs, special};
+use reference::special::{WALKS, compared_arities, hard_pairs, special};
 use reference::timing::{time, times};
 use reference::walk::Walker;
 
@@ -119,25 +119,8 @@ const SEARCHED: [(&str, &[u8]); 3] = [
 
 /// The symbols and the equation of special sheets, and those searched; behind it the equation x = y, whose walk has no turn.
 fn walked() -> Vec<(&'static str, Vec<u8>)> {
-    const NAMES: [&str; 15] = [
-        "P1",
-        "median law, and below or",
-        "median law, or below and",
-        "reversal of five",
-        "distribution of if-then-else",
-        "exclusive or, and < or < not",
-        "exclusive or, and < not < or",
-        "exclusive or, or < not < and",
-        "10,000 turns, 8 lines",
-        "10,000 turns, no line",
-        "10,001 turns",
-        "255 lines at the end",
-        "255 lines on the way",
-        "256 lines",
-        "40 elements",
-    ];
     let mut sheets = special();
-    sheets.retain(|(name, _)| NAMES.contains(name));
+    sheets.retain(|(name, _)| WALKS.contains(name));
     sheets.extend(SEARCHED.map(|(name, sheet)| (name, sheet.to_vec())));
     for (_, sheet) in &mut sheets {
         let end: usize = sheet.split_inclusive(|&byte| byte == b'\n').take(2).map(<[u8]>::len).sum();

@@ -6,6 +6,26 @@ use crate::limits::SHEET_BYTES;
 /// A named sheet.
 pub type Named = (&'static str, Vec<u8>);
 
+/// The special sheets whose first equation makes a walk worth timing.
+pub const WALKS: [&str; 16] = [
+    "P1",
+    "median law, and below or",
+    "median law, or below and",
+    "reversal of five",
+    "distribution of if-then-else",
+    "exclusive or, and < or < not",
+    "exclusive or, and < not < or",
+    "exclusive or, or < not < and",
+    "10,000 turns, 8 lines",
+    "10,000 turns, no line",
+    "10,001 turns",
+    "255 lines at the end",
+    "255 lines on the way",
+    "256 lines",
+    "40 elements",
+    "41 elements",
+];
+
 /// All special sheets.
 pub fn special() -> Vec<Named> {
     let mut sheets = walks();

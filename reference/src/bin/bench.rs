@@ -49,25 +49,8 @@ fn reading() {
 
 fn walks() {
     println!("walk of one direction             turns  lines  elements  most lines       ns   ns a turn");
-    let names = [
-        "P1",
-        "median law, and below or",
-        "reversal of five",
-        "distribution of if-then-else",
-        "exclusive or, and < or < not",
-        "exclusive or, and < not < or",
-        "exclusive or, or < not < and",
-        "10,000 turns, 8 lines",
-        "10,000 turns, no line",
-        "10,001 turns",
-        "255 lines at the end",
-        "255 lines on the way",
-        "256 lines",
-        "40 elements",
-        "41 elements",
-    ];
     let mut walker = Walker::new();
-    for name in names {
+    for name in special::WALKS {
         let sheet = sheet::read(&named(name)).unwrap();
         let equation = rewrite::equation(&sheet, 0);
         for direction in 0..2 {
