@@ -26,3 +26,4 @@ module _ (sheet arities : List ℕ) (from end : ℕ) where
 pub record TwoAt (nodes lengths : List ℕ) (s t : Term) (second : ℕ) : Type 0 where
   pub first-stands : (values : List ℕ) → TermAt nodes lengths values position-count s
   pub second-stands : (values : List ℕ) → TermAt nodes lengths values second t
+  pub second-low : position-count ≤ second

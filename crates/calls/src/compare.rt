@@ -22,6 +22,7 @@ ghost use Rattle.format.specs.Limits.{scratch-bytes};
 ghost use Rattle.terms.specs.Term.{Term};
 ghost use Rattle.ordering.specs.Verdict.{verdict, verdict-number};
 ghost use Rattle.comparing.specs.Nodes.{node-count};
+ghost use Rattle.comparing.specs.Ready.{AllSymbols};
 ghost use Rattle.sheet.specs.Seek.{Accepts};
 ghost use Rattle.sheet.specs.Scan.{known-arities};
 ghost use Rattle.sheet.specs.Reader.{Roomy};
@@ -40,7 +41,8 @@ fn store(
     sizes: &mut [u8],
 ) -> usize
     requires { ⌜ HasPair (now sheet) (now arities) from end ⌝ }
-    requires { ⌜ (length (now nodes) ≡ node-count) × (length (now sizes) ≡ node-count) ⌝ }
+    requires { ⌜ (length (now nodes) ≡ node-count) × (length (now sizes) ≡ node-count) × AllSymbols (now nodes) ⌝ }
+    ensures { λ _. ⌜ AllSymbols (now (nodes .exit)) ⌝ }
     ensures { λ r. ⌜ ((s t : Term) → PairIs (now (sheet .entry)) (now (arities .entry)) from end s t → TwoAt (now (nodes .exit)) (now (sizes .exit)) s t r) ⌝ }
 {
     let n = decode(sheet, from, end, &mut nodes[SUBJECT..]);
@@ -48,20 +50,21 @@ fn store(
     SUBJECT + wide(sizes[SUBJECT])
 }
 
-// The verdict of two terms that are stored. The cells stand first in scratch; they are cleared before, all of scratch behind.
+// The verdict of two terms that are stored. The cells stand first in scratch. No row of them counts before, and all of scratch is cleared behind.
 fn compare_stored(nodes: &[u8], sizes: &[u8], scratch: &mut [u8], second: usize) -> u8
-    requires { ⌜ (length (now nodes) ≡ node-count) × (length (now sizes) ≡ node-count) × (scratch-bytes ≤ length (now scratch)) ⌝ }
+    requires { ⌜ (length (now nodes) ≡ node-count) × (length (now sizes) ≡ node-count) × (scratch-bytes ≤ length (now scratch)) × AllSymbols (now nodes) ⌝ }
     requires { ⌜ ((s : Term) × (t : Term) × TwoAt (now nodes) (now sizes) s t second) ⌝ }
     ensures { λ r. ⌜ ((s t : Term) → TwoAt (now (nodes .entry)) (now (sizes .entry)) s t second → r ≡ verdict-number (verdict s t)) ⌝ }
     ensures { λ _. ⌜ now (scratch .exit) ≡ cleared (now (scratch .entry)) ⌝ }
 {
     // Ground terms have no variables whose values are asked for.
     let values = [0u8; 8];
-    fill(scratch, CELLS, 0);
+    let mut ready = [0u8; 224];
     let verdict = exceeds(
         nodes,
         sizes,
         &values,
+        &mut ready,
         &mut scratch[..CELLS],
         SUBJECT,
         second,

@@ -4,6 +4,7 @@ pub mod Rows
 pub mod Loops
 pub mod Rules
 pub mod Cells
+pub mod Opened
 pub mod Pair
 pub mod Added
 pub mod Filled

@@ -5,6 +5,7 @@ use mathlib.Core.Bool.{Bool}
 use mathlib.Core.List.{List}
 use native.Mathlib.Omega.{arith}
 use lib.ListN.{getD}
+use Rattle.format.specs.Limits.{position-count}
 use Rattle.comparing.specs.Nodes.{node-count, Memory}
 use Rattle.comparing.specs.Comparing.{HasTerm, HasTerms, Compares, FindsReaching, ComparesWithAll}
 use Rattle.comparing.specs.Theory.Nodes.{row-first, some-node, within, ends-within}
@@ -13,23 +14,25 @@ use Rattle.comparing.proofs.Rows.{HasLists, ComparesLists, lighter, rea
 
 module _ (nodes lengths values : List ℕ) where
   -- L1: of the terms from `k` to `end`, those before `at` do not reach the term at `j`.
-  pub record Reaching (k end j : ℕ) (cells : List ℕ) (at : ℕ) : Type 0 where
-    pub memory : Memory nodes lengths values cells
+  pub record Reaching (k end j : ℕ) (ready cells : List ℕ) (at : ℕ) : Type 0 where
+    pub memory : Memory nodes lengths values ready cells
     pub row : HasTerms nodes lengths values at end
     pub light : row-weight nodes lengths values at end ≤ row-weight nodes lengths values k end
     pub back : (b : Bool) → FindsReaching nodes lengths values at end j b → FindsReaching nodes lengths values k end j b
 
   -- L2: of the terms from `k` to `end`, the term at `i` exceeds those before `at`.
-  pub record Exceeding (i k end : ℕ) (cells : List ℕ) (at : ℕ) : Type 0 where
-    pub memory : Memory nodes lengths values cells
+  pub record Exceeding (i k end : ℕ) (ready cells : List ℕ) (at : ℕ) : Type 0 where
+    pub memory : Memory nodes lengths values ready cells
     pub row : HasTerms nodes lengths values at end
     pub light : row-weight nodes lengths values at end ≤ row-weight nodes lengths values k end
+    pub low : position-count ≤ at
     pub back : (b : Bool) → ComparesWithAll nodes lengths values i at end b → ComparesWithAll nodes lengths values i k end b
 
   -- L3: the arguments before `k` and `l` are the same.
-  pub record Comparing (i j m n : ℕ) (cells : List ℕ) (k l : ℕ) : Type 0 where
-    pub memory : Memory nodes lengths values cells
+  pub record Comparing (i j m n : ℕ) (ready cells : List ℕ) (k l : ℕ) : Type 0 where
+    pub memory : Memory nodes lengths values ready cells
     pub lists : HasLists nodes lengths values i k m j l n
+    pub low : position-count ≤ l
     pub back : (r : ℕ) → ComparesLists nodes lengths values i k m j l n r → Compares nodes lengths values i j r
 
 -- The first term of the rest of a row.
@@ -63,27 +66,27 @@ module _ {nodes lengths values : List ℕ} where
   pub second-terms : {i k m j l n : ℕ} → HasLists nodes lengths values i k m j l n → HasTerms nodes lengths values l n
   second-terms q = record { terms = q .second; stand = q .second-row }
 
-  module _ {cells : List ℕ} (m : Memory nodes lengths values cells) where
-    pub reaching-start : {k end : ℕ} (j : ℕ) → HasTerms nodes lengths values k end → Reaching nodes lengths values k end j cells k
+  module _ {ready cells : List ℕ} (m : Memory nodes lengths values ready cells) where
+    pub reaching-start : {k end : ℕ} (j : ℕ) → HasTerms nodes lengths values k end → Reaching nodes lengths values k end j ready cells k
     reaching-start j h = record { memory = m; row = h; light = omega arith; back = λ b o. o }
 
-    pub exceeding-start : (i : ℕ) {k end : ℕ} → HasTerms nodes lengths values k end → Exceeding nodes lengths values i k end cells k
-    exceeding-start i h = record { memory = m; row = h; light = omega arith; back = λ b o. o }
+    pub exceeding-start : (i : ℕ) {k end : ℕ} → HasTerms nodes lengths values k end → position-count ≤ k → Exceeding nodes lengths values i k end ready cells k
+    exceeding-start i h l = record { memory = m; row = h; light = omega arith; low = l; back = λ b o. o }
 
-  pub reaching-again : {k end j at r next : ℕ} {cells after : List ℕ} → Reaching nodes lengths values k end j cells at → at < end → Compares nodes lengths values at j r → r ≤ 0
-      → Memory nodes lengths values after → next ≡ at + getD lengths at 0 → Reaching nodes lengths values k end j after next
+  pub reaching-again : {k end j at r next : ℕ} {ready cells ready-after after : List ℕ} → Reaching nodes lengths values k end j ready cells at → at < end → Compares nodes lengths values at j r → r ≤ 0
+      → Memory nodes lengths values ready-after after → next ≡ at + getD lengths at 0 → Reaching nodes lengths values k end j ready-after after next
   reaching-again x lt c le m e =
       let t = turn (x .row) lt in
       rw e (record { memory = m; row = t .others; light = omega (arith, t .others-weight, x .light); back = λ b o. x .back b (reaching-others lt c le o) })
 
-  pub exceeding-again : {i k end at r next : ℕ} {cells after : List ℕ} → Exceeding nodes lengths values i k end cells at → at < end → Compares nodes lengths values i at r → 2 ≤ r
-      → Memory nodes lengths values after → next ≡ at + getD lengths at 0 → Exceeding nodes lengths values i k end after next
+  pub exceeding-again : {i k end at r next : ℕ} {ready cells ready-after after : List ℕ} → Exceeding nodes lengths values i k end ready cells at → at < end → Compares nodes lengths values i at r → 2 ≤ r
+      → Memory nodes lengths values ready-after after → next ≡ at + getD lengths at 0 → Exceeding nodes lengths values i k end ready-after after next
   exceeding-again x lt c le m e =
       let t = turn (x .row) lt in
-      rw e (record { memory = m; row = t .others; light = omega (arith, t .others-weight, x .light); back = λ b o. x .back b (all-others lt c le o) })
+      rw e (record { memory = m; row = t .others; light = omega (arith, t .others-weight, x .light); low = omega (arith, x .low); back = λ b o. x .back b (all-others lt c le o) })
 
-  pub comparing-again : {i j m n k l r next rest : ℕ} {cells after : List ℕ} → Comparing nodes lengths values i j m n cells k l → k < m → l < n → Compares nodes lengths values k l r
-      → ¬ (r ≡ 0) → ¬ (r ≡ 2) → Memory nodes lengths values after → next ≡ k + getD lengths k 0 → rest ≡ l + getD lengths l 0
-      → Comparing nodes lengths values i j m n after next rest
+  pub comparing-again : {i j m n k l r next rest : ℕ} {ready cells ready-after after : List ℕ} → Comparing nodes lengths values i j m n ready cells k l → k < m → l < n → Compares nodes lengths values k l r
+      → ¬ (r ≡ 0) → ¬ (r ≡ 2) → Memory nodes lengths values ready-after after → next ≡ k + getD lengths k 0 → rest ≡ l + getD lengths l 0
+      → Comparing nodes lengths values i j m n ready-after after next rest
   comparing-again x p q c z u m e d =
-      rw (e, d) (record { memory = m; lists = other-lists p q c z u (x .lists); back = λ r o. x .back r (lists-equal p q c z u o) })
+      rw (e, d) (record { memory = m; lists = other-lists p q c z u (x .lists); low = omega (arith, x .low); back = λ r o. x .back r (lists-equal p q c z u o) })

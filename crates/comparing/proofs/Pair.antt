@@ -4,7 +4,7 @@ use mathlib.Core.Path.{_≡_, refl, sym, ap, subst, _∙_}
 use mathlib.Core.List.{List}
 use native.Mathlib.Omega.{arith}
 use lib.ListN.{getD, set}
-use Rattle.format.specs.Limits.{first-variable}
+use Rattle.format.specs.Limits.{first-variable, position-count}
 use Rattle.terms.specs.Term.{app, nil, size, sizes}
 use Rattle.terms.specs.Theory.Append.{append}
 use Rattle.ordering.specs.Verdict.{verdict}
@@ -72,9 +72,9 @@ module _ {nodes lengths values : List ℕ} {i j a b : ℕ} (x : Resolves nodes l
       }
 
   -- Two symbols that are the same, before their first arguments.
-  pub comparing-start : {cells : List ℕ} → Memory nodes lengths values cells → getD nodes a 0 ≡ getD nodes b 0
-      → Comparing nodes lengths values a b (a + getD lengths a 0) (b + getD lengths b 0) cells (a + 1) (b + 1)
-  comparing-start m e = record { memory = m; lists = argument-lists e; back = λ r o. rule-same (x .symbol) (y .symbol) e o }
+  pub comparing-start : {ready cells : List ℕ} → Memory nodes lengths values ready cells → position-count ≤ b → getD nodes a 0 ≡ getD nodes b 0
+      → Comparing nodes lengths values a b (a + getD lengths a 0) (b + getD lengths b 0) ready cells (a + 1) (b + 1)
+  comparing-start m l e = record { memory = m; lists = argument-lists e; low = omega arith; back = λ r o. rule-same (x .symbol) (y .symbol) e o }
 
   pub number-below : {r : ℕ} → Compares nodes lengths values a b r → r < 3
   number-below c =
@@ -82,12 +82,18 @@ module _ {nodes lengths values : List ℕ} {i j a b : ℕ} (x : Resolves nodes l
       let t = y .here in
       omega (arith, c .number (s .term) (t .term) (s .stands) (t .stands), number-few (verdict (s .term) (t .term)))
 
+-- A subject's node gives way to itself.
+pub subject-resolves : {nodes lengths values ready cells : List ℕ} {j : ℕ} → Memory nodes lengths values ready cells → HasTerm nodes lengths values j → position-count ≤ j
+    → Resolves nodes lengths values j j
+subject-resolves {j = j} m h l = symbol-resolves h (m .symbols j l)
+
+module _ {nodes lengths values : List ℕ} {i j a : ℕ} (x : Resolves nodes lengths values i a) (y : Resolves nodes lengths values j j) where
   -- The verdict of the two nodes, with the memory in which it stands in its cell.
-  pub settled : {cells after : List ℕ} {r q : ℕ} → Memory nodes lengths values cells → Compares nodes lengths values a b q → r ≡ q → after ≡ set cells (a * node-count + b) (q + 1)
-      → Compares nodes lengths values i j r × Memory nodes lengths values after
-  settled m c e d = (compares-resolved (rw (← x .is, ← y .is, e) c), rw d (cell-set m (x .below) (y .below) c))
+  pub settled : {ready cells after : List ℕ} {r q : ℕ} → Memory nodes lengths values ready cells → Compares nodes lengths values a j q → r ≡ q → after ≡ set cells (a * node-count + j) (q + 1)
+      → Compares nodes lengths values i j r × Memory nodes lengths values ready after
+  settled m c e d = (compares-resolved (rw (← x .is, e) c), rw d (cell-set m (x .below) (y .below) c))
 
   -- The verdict that stands in its cell.
-  pub known : {cells : List ℕ} → Memory nodes lengths values cells → 0 < getD cells (a * node-count + b) 0
-      → Compares nodes lengths values i j (getD cells (a * node-count + b) 0 - 1) × Memory nodes lengths values cells
-  known m h = (compares-resolved (rw (← x .is, ← y .is) (cell-known m h)), m)
+  pub known : {ready cells : List ℕ} → Memory nodes lengths values ready cells → 0 < getD ready a 0 → position-count ≤ j → 0 < getD cells (a * node-count + j) 0
+      → Compares nodes lengths values i j (getD cells (a * node-count + j) 0 - 1) × Memory nodes lengths values ready cells
+  known m o l h = (compares-resolved (rw (← x .is) (cell-known m o l h)), m)

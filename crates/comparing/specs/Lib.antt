@@ -1,4 +1,5 @@
 pub mod Nodes
+pub mod Ready
 pub mod Comparing
 pub mod Sizes
 pub mod Theory

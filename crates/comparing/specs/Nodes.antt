@@ -1,11 +1,11 @@
 -- The memory of a comparison: nodes, the terms that they stand for, and the cells with the verdicts that are settled.
 -- Document 01, 'Ground comparison': "verdicts for all pairs among 224 nodes (64 and 160) are 50,176 cells".
-use Prim.Native.Nat.{ℕ, suc, _+_, _*_, _<_}
+use Prim.Native.Nat.{ℕ, suc, _+_, _*_, _≤_, _<_}
 use mathlib.Core.Path.{_≡_}
 use mathlib.Core.Logic.{_⊎_}
 use mathlib.Core.List.{List}
 use lib.ListN.{length, getD}
-use Rattle.format.specs.Limits.{position-count, max-task-nodes, variable-count}
+use Rattle.format.specs.Limits.{position-count, max-task-nodes, first-variable, variable-count}
 use Rattle.format.specs.Byte.{class-of}
 use Rattle.format.specs.declared.byte.Class.the-variants.{Symbol as symbol, Variable as variable}
 use Rattle.terms.specs.Term.{Term, Terms, app, nil, cons}
@@ -47,11 +47,14 @@ TermAt nodes sizes values = Stands nodes sizes (ValueOf nodes sizes values)
 abbrev pub TermsAt : (nodes sizes values : List ℕ) → ℕ → ℕ → Terms → Type 0
 TermsAt nodes sizes values = StandInRow nodes sizes (ValueOf nodes sizes values)
 
--- A cell is 0 until the verdict of its two nodes is settled, and then one more than the verdict's number.
-pub record Memory (nodes sizes values cells : List ℕ) : Type 0 where
+-- A cell is 0 until the verdict of its two nodes is settled, and then one more than the verdict's number. The cells of the pairs with the first node `i` count only
+-- where `ready` is not 0 at `i`, and only those with a second node of the subject's. No variable stands among the subject's nodes.
+pub record Memory (nodes sizes values ready cells : List ℕ) : Type 0 where
   pub nodes-length : length nodes ≡ node-count
   pub sizes-length : length sizes ≡ node-count
   pub values-length : length values ≡ variable-count
+  pub ready-length : length ready ≡ node-count
   pub cells-length : length cells ≡ cell-count
-  pub settled : (i j : ℕ) (s t : Term) → TermAt nodes sizes values i s → TermAt nodes sizes values j t
+  pub symbols : (i : ℕ) → position-count ≤ i → getD nodes i 0 < first-variable
+  pub settled : (i j : ℕ) (s t : Term) → 0 < getD ready i 0 → position-count ≤ j → TermAt nodes sizes values i s → TermAt nodes sizes values j t
       → (getD cells (i * node-count + j) 0 ≡ 0) ⊎ (getD cells (i * node-count + j) 0 ≡ suc (verdict-number (verdict s t)))

@@ -2,3 +2,4 @@
 pub mod Nodes
 pub mod Sizes
 pub mod Stored
+pub mod Ready

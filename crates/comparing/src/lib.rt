@@ -5,8 +5,9 @@ ghost use mathlib.Core.List.{_∷_, _++_};
 ghost use Prim.Native.Nat.{_+_, _≤_, _<_};
 ghost use lib.ListN.{length, getD, set, take, drop};
 ghost use lib.Seq.{slice};
-ghost use Rattle.format.specs.Limits.{first-variable};
-ghost use Rattle.comparing.specs.Nodes.{node-count, Memory};
+ghost use Rattle.format.specs.Limits.{first-variable, position-count};
+ghost use Rattle.comparing.specs.Nodes.{node-count, cell-count, Memory};
+ghost use Rattle.comparing.specs.Ready.{Cleared, Opened};
 ghost use Rattle.comparing.specs.Comparing.{resolved, greater-if, HasTerm, HasTerms, Compares, FindsReaching, ComparesWithAll};
 ghost use Rattle.comparing.specs.Sizes.{Whole, Measurable, node-sizes};
 
@@ -16,7 +17,7 @@ const NODE_COUNT: usize = 224;
 // The subject's first node.
 pub const SUBJECT: usize = 64;
 
-// One cell for each pair of nodes.
+// One cell for each pair of nodes. The cells of the pairs with the first node i count where `ready` has a byte other than 0 at i.
 pub const CELLS: usize = 50176;
 
 const FIRST_VARIABLE: u8 = 128;
@@ -46,6 +47,31 @@ fn resolve(nodes: &[u8], values: &[u8], i: usize) -> usize
     wide(values[wide(byte - FIRST_VARIABLE)])
 }
 
+// Clears the bytes from `from` to `end`.
+pub fn clear(bytes: &mut [u8], from: usize, end: usize)
+    requires { ⌜ (from ≤ end) × (end ≤ length (now bytes)) ⌝ }
+    ensures { λ _. ⌜ Cleared (now (bytes .entry)) from end (now (bytes .exit)) ⌝ }
+{
+    let mut at = from;
+    while at < end {
+        bytes[at] = 0;
+        at = at + 1;
+    }
+}
+
+// From now on the row of `s` counts: the cells of the pairs whose first node is `s`. They are cleared if they did not count before.
+fn open_row(ready: &mut [u8], cells: &mut [u8], s: usize)
+    requires { ⌜ (s < node-count) × (length (now ready) ≡ node-count) × (length (now cells) ≡ cell-count) ⌝ }
+    ensures { λ _. ⌜ Opened (now (ready .entry)) (now (cells .entry)) s (now (ready .exit)) (now (cells .exit)) ⌝ }
+{
+    if 0 < ready[s] {
+        return;
+    }
+    let from = s * NODE_COUNT;
+    clear(cells, from, from + NODE_COUNT);
+    ready[s] = 1;
+}
+
 // Keeps a verdict in its cell and hands it back.
 fn settle(cells: &mut [u8], cell: usize, verdict: u8) -> u8
     requires { ⌜ (cell < length (now cells)) × (verdict < 255) ⌝ }
@@ -66,29 +92,31 @@ fn greater_if(greater: bool) -> u8
     SMALLER
 }
 
-// The verdict of the terms at the nodes i and j: 0 smaller, 1 equal, 2 greater.
+// The verdict of the terms at the nodes i and j: 0 smaller, 1 equal, 2 greater. The second node is the subject's, and so is each that is asked about
+// behind it, so that no cell is used whose second node is the equation's.
 pub fn exceeds(
     nodes: &[u8],
     sizes: &[u8],
     values: &[u8],
+    ready: &mut [u8],
     cells: &mut [u8],
     i: usize,
     j: usize,
 ) -> u8
-    requires { ⌜ Memory (now nodes) (now sizes) (now values) (now cells) ⌝ }
+    requires { ⌜ Memory (now nodes) (now sizes) (now values) (now ready) (now cells) ⌝ }
     requires { ⌜ HasTerm (now nodes) (now sizes) (now values) i ⌝ }
-    requires { ⌜ HasTerm (now nodes) (now sizes) (now values) j ⌝ }
+    requires { ⌜ HasTerm (now nodes) (now sizes) (now values) j × (position-count ≤ j) ⌝ }
     ensures { λ r. ⌜ Compares (now (nodes .entry)) (now (sizes .entry)) (now (values .entry)) i j r ⌝ }
-    ensures { λ _. ⌜ Memory (now (nodes .entry)) (now (sizes .entry)) (now (values .entry)) (now (cells .exit)) ⌝ }
+    ensures { λ _. ⌜ Memory (now (nodes .entry)) (now (sizes .entry)) (now (values .entry)) (now (ready .exit)) (now (cells .exit)) ⌝ }
 {
     let s = resolve(nodes, values, i);
-    let t = resolve(nodes, values, j);
-    let cell = s * NODE_COUNT + t;
+    open_row(ready, cells, s);
+    let cell = s * NODE_COUNT + j;
     let known = cells[cell];
     if 0 < known {
         return known - 1;
     }
-    let verdict = compare_symbols(nodes, sizes, values, cells, s, t);
+    let verdict = compare_symbols(nodes, sizes, values, ready, cells, s, j);
     settle(cells, cell, verdict)
 }
 
@@ -98,27 +126,28 @@ fn compare_symbols(
     nodes: &[u8],
     sizes: &[u8],
     values: &[u8],
+    ready: &mut [u8],
     cells: &mut [u8],
     i: usize,
     j: usize,
 ) -> u8
-    requires { ⌜ Memory (now nodes) (now sizes) (now values) (now cells) ⌝ }
+    requires { ⌜ Memory (now nodes) (now sizes) (now values) (now ready) (now cells) ⌝ }
     requires { ⌜ HasTerm (now nodes) (now sizes) (now values) i × (getD (now nodes) i 0 < first-variable) ⌝ }
-    requires { ⌜ HasTerm (now nodes) (now sizes) (now values) j × (getD (now nodes) j 0 < first-variable) ⌝ }
+    requires { ⌜ HasTerm (now nodes) (now sizes) (now values) j × (position-count ≤ j) ⌝ }
     ensures { λ r. ⌜ Compares (now (nodes .entry)) (now (sizes .entry)) (now (values .entry)) i j r ⌝ }
-    ensures { λ _. ⌜ Memory (now (nodes .entry)) (now (sizes .entry)) (now (values .entry)) (now (cells .exit)) ⌝ }
+    ensures { λ _. ⌜ Memory (now (nodes .entry)) (now (sizes .entry)) (now (values .entry)) (now (ready .exit)) (now (cells .exit)) ⌝ }
 {
     let f = nodes[i];
     let g = nodes[j];
     if f < g {
         let end = i + wide(sizes[i]);
-        return greater_if(argument_reaches(nodes, sizes, values, cells, i + 1, end, j));
+        return greater_if(argument_reaches(nodes, sizes, values, ready, cells, i + 1, end, j));
     }
     if g < f {
         let end = j + wide(sizes[j]);
-        return greater_if(exceeds_arguments(nodes, sizes, values, cells, i, j + 1, end));
+        return greater_if(exceeds_arguments(nodes, sizes, values, ready, cells, i, j + 1, end));
     }
-    compare_arguments(nodes, sizes, values, cells, i, j)
+    compare_arguments(nodes, sizes, values, ready, cells, i, j)
 }
 
 // L1: whether one of the terms from k to end equals or exceeds the term at j.
@@ -126,20 +155,21 @@ fn argument_reaches(
     nodes: &[u8],
     sizes: &[u8],
     values: &[u8],
+    ready: &mut [u8],
     cells: &mut [u8],
     k: usize,
     end: usize,
     j: usize,
 ) -> bool
-    requires { ⌜ Memory (now nodes) (now sizes) (now values) (now cells) ⌝ }
+    requires { ⌜ Memory (now nodes) (now sizes) (now values) (now ready) (now cells) ⌝ }
     requires { ⌜ HasTerms (now nodes) (now sizes) (now values) k end ⌝ }
-    requires { ⌜ HasTerm (now nodes) (now sizes) (now values) j ⌝ }
+    requires { ⌜ HasTerm (now nodes) (now sizes) (now values) j × (position-count ≤ j) ⌝ }
     ensures { λ r. ⌜ FindsReaching (now (nodes .entry)) (now (sizes .entry)) (now (values .entry)) k end j r ⌝ }
-    ensures { λ _. ⌜ Memory (now (nodes .entry)) (now (sizes .entry)) (now (values .entry)) (now (cells .exit)) ⌝ }
+    ensures { λ _. ⌜ Memory (now (nodes .entry)) (now (sizes .entry)) (now (values .entry)) (now (ready .exit)) (now (cells .exit)) ⌝ }
 {
     let mut at = k;
     while at < end {
-        if SMALLER < exceeds(nodes, sizes, values, cells, at, j) {
+        if SMALLER < exceeds(nodes, sizes, values, ready, cells, at, j) {
             return true;
         }
         at = at + wide(sizes[at]);
@@ -152,20 +182,21 @@ fn exceeds_arguments(
     nodes: &[u8],
     sizes: &[u8],
     values: &[u8],
+    ready: &mut [u8],
     cells: &mut [u8],
     i: usize,
     k: usize,
     end: usize,
 ) -> bool
-    requires { ⌜ Memory (now nodes) (now sizes) (now values) (now cells) ⌝ }
+    requires { ⌜ Memory (now nodes) (now sizes) (now values) (now ready) (now cells) ⌝ }
     requires { ⌜ HasTerm (now nodes) (now sizes) (now values) i ⌝ }
-    requires { ⌜ HasTerms (now nodes) (now sizes) (now values) k end ⌝ }
+    requires { ⌜ HasTerms (now nodes) (now sizes) (now values) k end × (position-count ≤ k) ⌝ }
     ensures { λ r. ⌜ ComparesWithAll (now (nodes .entry)) (now (sizes .entry)) (now (values .entry)) i k end r ⌝ }
-    ensures { λ _. ⌜ Memory (now (nodes .entry)) (now (sizes .entry)) (now (values .entry)) (now (cells .exit)) ⌝ }
+    ensures { λ _. ⌜ Memory (now (nodes .entry)) (now (sizes .entry)) (now (values .entry)) (now (ready .exit)) (now (cells .exit)) ⌝ }
 {
     let mut at = k;
     while at < end {
-        if exceeds(nodes, sizes, values, cells, i, at) < GREATER {
+        if exceeds(nodes, sizes, values, ready, cells, i, at) < GREATER {
             return false;
         }
         at = at + wide(sizes[at]);
@@ -178,15 +209,16 @@ fn compare_arguments(
     nodes: &[u8],
     sizes: &[u8],
     values: &[u8],
+    ready: &mut [u8],
     cells: &mut [u8],
     i: usize,
     j: usize,
 ) -> u8
-    requires { ⌜ Memory (now nodes) (now sizes) (now values) (now cells) ⌝ }
+    requires { ⌜ Memory (now nodes) (now sizes) (now values) (now ready) (now cells) ⌝ }
     requires { ⌜ HasTerm (now nodes) (now sizes) (now values) i × (getD (now nodes) i 0 < first-variable) ⌝ }
-    requires { ⌜ HasTerm (now nodes) (now sizes) (now values) j × (getD (now nodes) j 0 ≡ getD (now nodes) i 0) ⌝ }
+    requires { ⌜ HasTerm (now nodes) (now sizes) (now values) j × (getD (now nodes) j 0 ≡ getD (now nodes) i 0) × (position-count ≤ j) ⌝ }
     ensures { λ r. ⌜ Compares (now (nodes .entry)) (now (sizes .entry)) (now (values .entry)) i j r ⌝ }
-    ensures { λ _. ⌜ Memory (now (nodes .entry)) (now (sizes .entry)) (now (values .entry)) (now (cells .exit)) ⌝ }
+    ensures { λ _. ⌜ Memory (now (nodes .entry)) (now (sizes .entry)) (now (values .entry)) (now (ready .exit)) (now (cells .exit)) ⌝ }
 {
     let m = i + wide(sizes[i]);
     let n = j + wide(sizes[j]);
@@ -195,17 +227,17 @@ fn compare_arguments(
     while k < m {
         // Equally many arguments are not asked for: where t has no more, L1 is left.
         if n <= l {
-            return greater_if(argument_reaches(nodes, sizes, values, cells, k, m, j));
+            return greater_if(argument_reaches(nodes, sizes, values, ready, cells, k, m, j));
         }
-        let verdict = exceeds(nodes, sizes, values, cells, k, l);
+        let verdict = exceeds(nodes, sizes, values, ready, cells, k, l);
         let next = k + wide(sizes[k]);
         // L1 is left, and t exceeds the arguments of s up to k.
         if verdict == SMALLER {
-            return greater_if(argument_reaches(nodes, sizes, values, cells, next, m, j));
+            return greater_if(argument_reaches(nodes, sizes, values, ready, cells, next, m, j));
         }
         let rest = l + wide(sizes[l]);
         if verdict == GREATER {
-            return greater_if(exceeds_arguments(nodes, sizes, values, cells, i, rest, n));
+            return greater_if(exceeds_arguments(nodes, sizes, values, ready, cells, i, rest, n));
         }
         k = next;
         l = rest;

@@ -9,8 +9,12 @@ use Rattle.format.specs.Limits.{variable-count, max-elements}
 abbrev pub Bindings : Type 0
 Bindings = List (Option ℕ)
 
+-- None of `vars` variables is bound.
+abbrev pub unbound : (vars : ℕ) → Bindings
+unbound vars = replicate vars none
+
 unfoldable pub no-bindings : Bindings
-no-bindings = replicate variable-count none
+no-bindings = unbound variable-count
 
 abbrev pub lookup : Bindings → ℕ → Option ℕ
 lookup θ v = getD θ v none

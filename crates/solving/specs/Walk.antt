@@ -176,15 +176,21 @@ module _ (fuel : Fuel) (view : ℕ → Node) where
   turn [] = none
   turn (l ∷ ls) = elim (treat-line l) [ some new ↦ some (new ++ ls) | none ↦ Option·map (l ∷_) (turn ls) ]
 
-  -- The walk from a table, `taken` turns taken and `left` left: "8, a turn beyond 10,000", "8 before 9 before 10".
-  unfoldable pub walk-from : (left taken : ℕ) → List Line → Walked
-  unfolding turn over-limit
-  walk-from zero taken table = elim (turn table) [ none ↦ solved table taken | some new ↦ refused too-many-turns ]
-  walk-from (suc left) taken table =
+  -- The walk from a table, `taken` turns taken and `left` left: "8, a turn beyond 10,000", "8 before 9 before 10". `over` says what a new table earns.
+  -- It ends too at a table that passes the test `stop`, looked over after each turn that is not refused.
+  unfoldable pub walk-until : (over : List Line → Option Refusal) → (stop : List Line → Bool) → (left taken : ℕ) → List Line → Walked
+  unfolding turn
+  walk-until over stop zero taken table = elim (turn table) [ none ↦ solved table taken | some new ↦ refused too-many-turns ]
+  walk-until over stop (suc left) taken table =
       elim (turn table) [
         | none ↦ solved table taken
-        | some new ↦ elim (over-limit new) [ some r ↦ refused r | none ↦ walk-from left (suc taken) new ]
+        | some new ↦ elim (over new) [ some r ↦ refused r | none ↦ elim (stop new) [ true ↦ solved new (suc taken) | false ↦ walk-until over stop left (suc taken) new ] ]
       ]
+
+  -- The walk of document 01: within its limits, and to its end.
+  unfoldable pub walk-from : (left taken : ℕ) → List Line → Walked
+  unfolding walk-until over-limit
+  walk-from = walk-until over-limit (λ table. false)
 
   -- "at first the one line with s > t and no binding"; "At most 10,000 turns."
   unfoldable pub walk : (s t : ℕ) → Walked

@@ -5,6 +5,7 @@ use mathlib.Core.Option.{Option, none, some}
 use mathlib.Core.List.{List, map}
 use lib.ListN.{length}
 use lib.Dec.{ltb}
+use Rattle.format.specs.Limits.{variable-count}
 use Rattle.solving.specs.Line.{Bindings}
 use Rattle.solving.specs.Theory.Reach.{Proper}
 use Rattle.walking.specs.Laid.{view-of, Laid}
@@ -20,4 +21,4 @@ bindings-of bs = map binding-of bs
 -- The equation's bytes are laid out, and the bindings are such as the walk makes: terms can be seen through them.
 pub record Readable (nodes sizes bindings : List ℕ) : Type 0 where
   pub laid : Laid nodes sizes
-  pub proper : Proper (view-of nodes sizes) (length nodes) (bindings-of bindings)
+  pub proper : Proper (view-of nodes sizes) variable-count (length nodes) (bindings-of bindings)

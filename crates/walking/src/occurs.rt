@@ -26,7 +26,7 @@ const LOOKED_THROUGH: u8 = 2;
 // Whether the free variable `v` occurs in the term at `p`.
 pub fn occurs_at(nodes: &[u8], sizes: &[u8], bindings: &[u8], v: usize, p: usize) -> bool
     requires { ⌜ Laid (now nodes) (now sizes) × (p < length (now nodes)) ⌝ }
-    requires { ⌜ Proper (view-of (now nodes) (now sizes)) (length (now nodes)) (bindings-of (now bindings)) ⌝ }
+    requires { ⌜ Proper (view-of (now nodes) (now sizes)) variable-count (length (now nodes)) (bindings-of (now bindings)) ⌝ }
     requires { ⌜ (v < 8) × (lookup (bindings-of (now bindings)) v ≡ none) ⌝ }
     ensures { λ r. ⌜ r ≡ occurs enough (view-of (now (nodes .entry)) (now (sizes .entry))) (enough .occurs-depth) (bindings-of (now (bindings .entry))) v p ⌝ }
 {

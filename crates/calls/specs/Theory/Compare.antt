@@ -2,7 +2,7 @@
 use Prim.Native.Nat.{ℕ, _+_, _≤_}
 use mathlib.Core.Path.{_≡_, refl, sym, ap, subst, _∙_}
 use mathlib.Core.List.{List, _++_, map, append-assoc, append-nil}
-use lib.ListN.{length, getD, take, drop, length-append}
+use lib.ListN.{length, getD, take, drop, replicate, length-append, length-replicate}
 use lib.Seq.{slice, length-take-le, take-append-add, take-at, drop-at}
 use native.Mathlib.Omega.{arith}
 use Rattle.format.specs.Limits.{max-symbols, max-task-nodes, position-count, variable-count, scratch-bytes}
@@ -12,15 +12,17 @@ use Rattle.terms.specs.Position.{subterms-of}
 use Rattle.terms.specs.Prefix.{prefix, prefixes, terms-of}
 use Rattle.terms.specs.Theory.Prefix.{AllFit, grounds-fit, length-prefix, terms-of-spelled}
 use Rattle.comparing.specs.Nodes.{node-count, cell-count, GroundAt, TermAt, Memory, StandInRow, none, more}
+use Rattle.comparing.specs.Ready.{AllSymbols}
 use Rattle.comparing.specs.Sizes.{Whole, Measurable, node-sizes}
 use Rattle.comparing.specs.Theory.Nodes.{ground-stands}
 use Rattle.comparing.specs.Theory.Sizes.{whole}
-use Rattle.comparing.specs.Theory.Stored.{StoredAt, ground-row-stands, fresh-memory}
+use Rattle.comparing.specs.Theory.Stored.{StoredAt, ground-row-stands}
+use Rattle.comparing.specs.Theory.Ready.{fresh-memory, symbols-append, symbols-drop, symbols-take, zero-bytes, ground-symbols}
 use Rattle.sheet.specs.declared.known.Known.{Known}
 use Rattle.sheet.specs.Scan.{known-arities}
 use Rattle.sheet.specs.Reader.{Roomy}
 use Rattle.calls.specs.Buffer.{filled, cleared}
-use Rattle.calls.specs.Theory.Fill.{filled-again, filled-front, length-filled, cleared-is}
+use Rattle.calls.specs.Theory.Fill.{filled-behind, cleared-is}
 use Rattle.calls.specs.Comparison.{PairIs, HasPair, TwoAt}
 use Rattle.calls.specs.Theory.Arities.{arities-taken}
 
@@ -40,6 +42,13 @@ placed nodes part former after bs h e =
       at = length-take-le position-count nodes h;
       is = ap (λ p. take position-count nodes ++ p) (ap (_++ after) e ∙ append-assoc bs (drop (length bs) former) after);
     }
+
+pub placed-symbols : (nodes part former after bs : List ℕ) → AllSymbols nodes → AllSymbols bs → AllSymbols former → AllSymbols after → part ≡ written bs former
+    → AllSymbols (take position-count nodes ++ (part ++ after))
+unfolding written
+placed-symbols nodes part former after bs a b c d e =
+    symbols-append (take position-count nodes) (part ++ after) (symbols-take position-count nodes a)
+    (symbols-append part after (rw e (symbols-append bs (drop (length bs) former) b (symbols-drop (length bs) former c))) d)
 
 placed-slice : (nodes bs : List ℕ) → Placed nodes bs → (n : ℕ) → n ≡ length bs → slice position-count (position-count + n) nodes ≡ bs
 placed-slice nodes bs p n e =
@@ -62,6 +71,9 @@ module _ {sheet arities : List ℕ} {from end : ℕ} {s t : Term} (p : PairIs sh
 
   pub pair-few : length (prefix s ++ prefix t) ≤ max-task-nodes
   pair-few = omega (arith, length-append (prefix s) (prefix t), length-prefix s, length-prefix t, p .few-nodes)
+
+  pub pair-symbols : AllSymbols (prefix s ++ prefix t)
+  pair-symbols = symbols-append (prefix s) (prefix t) (ground-symbols arities (p .few-symbols) s (p .first-ground)) (ground-symbols arities (p .few-symbols) t (p .second-ground))
 
   pair-fits : AllFit arities (cons s (cons t nil))
   pair-fits = grounds-fit arities (cons s (cons t nil)) (p .first-ground, (p .second-ground, tt))
@@ -90,6 +102,7 @@ module _ {sheet arities : List ℕ} {from end : ℕ} {s t : Term} (p : PairIs sh
       record {
         first-stands = λ values. ground-stands a;
         second-stands = λ values. subst (λ i. TermAt nodes lengths values i t) (sym e) (ground-stands b);
+        second-low = omega arith;
       }
 
   pub pair-stands : (nodes before lengths after : List ℕ) (n second : ℕ) → Placed nodes (prefix s ++ prefix t) → n ≡ length (prefix s ++ prefix t)
@@ -109,19 +122,18 @@ module _ {sheet arities : List ℕ} {from end : ℕ} {s t : Term} (p : PairIs sh
       (ground-row-stands arities (p .few-symbols) (cons s (cons t nil)) (p .first-ground, (p .second-ground, tt)) bytes there (omega (arith, p .few-nodes)))
 
 -- The cells stand first in scratch.
-module _ (scratch first : List ℕ) (room : scratch-bytes ≤ length scratch) (fills : first ≡ filled cell-count 0 scratch) where
-  pub cells-there : length (take cell-count first) ≡ cell-count
-  cells-there = length-take-le cell-count first (omega (arith, ap length fills ∙ length-filled cell-count 0 scratch (omega arith)))
+module _ (scratch : List ℕ) (room : scratch-bytes ≤ length scratch) where
+  pub cells-there : length (take cell-count scratch) ≡ cell-count
+  cells-there = length-take-le cell-count scratch (omega arith)
 
-  pub cells-cleared : (nodes lengths values : List ℕ) → length nodes ≡ node-count → length lengths ≡ node-count → length values ≡ variable-count
-      → Memory nodes lengths values (take cell-count first)
-  cells-cleared nodes lengths values a b c =
-      fresh-memory a b c cells-there (λ k. ap (λ l. getD (take cell-count l) k 0) fills ∙ filled-front cell-count cell-count k 0 scratch (omega arith))
+  pub no-row-counts : (nodes lengths values : List ℕ) → length nodes ≡ node-count → length lengths ≡ node-count → length values ≡ variable-count → AllSymbols nodes
+      → Memory nodes lengths values (replicate node-count 0) (take cell-count scratch)
+  unfolding AllSymbols
+  no-row-counts nodes lengths values a b c h = fresh-memory a b c (length-replicate {A = ℕ} node-count 0) cells-there (λ i l. h i) (zero-bytes node-count)
 
-  pub scratch-cleared : (front last : List ℕ) → length front ≡ length (take cell-count first) → last ≡ filled scratch-bytes 0 (front ++ drop cell-count first) → last ≡ cleared scratch
+  pub scratch-cleared : (front last : List ℕ) → length front ≡ length (take cell-count scratch) → last ≡ filled scratch-bytes 0 (front ++ drop cell-count scratch) → last ≡ cleared scratch
   scratch-cleared front last l e =
-      e ∙ ap (λ f. filled scratch-bytes 0 (front ++ drop cell-count f)) fills
-      ∙ filled-again scratch-bytes cell-count 0 0 scratch front (omega arith) (l ∙ cells-there)
+      e ∙ filled-behind scratch-bytes cell-count 0 (front ++ drop cell-count scratch) scratch (omega arith) (drop-at front (drop cell-count scratch) cell-count (l ∙ cells-there))
       ∙ sym (cleared-is scratch)
 
 pub pair-taken : {sheet : List ℕ} {known : Known} {from end : ℕ} {s t : Term} → Roomy known

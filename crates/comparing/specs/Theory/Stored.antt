@@ -1,13 +1,12 @@
 -- Terms whose prefix forms and sizes are stored in the nodes stand there, and so does each of their subterms at its position.
-use Prim.Native.Nat.{ℕ, zero, suc, _+_, _-_, _*_, _≤_, _<_}
+use Prim.Native.Nat.{ℕ, zero, suc, _+_, _-_, _≤_, _<_}
 use mathlib.Core.Path.{_≡_, refl, sym, ap, _∙_}
-use mathlib.Core.Logic.{inl}
 use mathlib.Core.List.{List, _∷_, _++_, map, map-append, append-assoc}
 use native.Mathlib.Omega.{arith}
 use native.Mathlib.Decide.{decLt}
 use lib.ListN.{length, getD, take, drop, length-map}
 use lib.Seq.{length-take-le, drop-drop, drop-at, getD-drop}
-use Rattle.format.specs.Limits.{max-symbols, variable-count}
+use Rattle.format.specs.Limits.{max-symbols}
 use Rattle.format.specs.Byte.{class-of}
 use Rattle.format.specs.Theory.Byte.{symbol-class, variable-class}
 use Rattle.terms.specs.Term.{Term, Terms, var, app, nil, cons, size, sizes, Values, inst, insts, Ground, Grounds}
@@ -17,7 +16,7 @@ use Rattle.terms.specs.Theory.Limits.{VariablesBelow, AllVariablesBelow}
 use Rattle.terms.specs.Theory.Position.{length-subterms, subterm-first, subterm-rest}
 use Rattle.terms.specs.Theory.Prefix.{Fits, AllFit, grounds-fit, length-prefix}
 use Rattle.comparing.specs.Theory.Nodes.{ground-stands, ground-size}
-use Rattle.comparing.specs.Nodes.{node-count, cell-count, GroundAt, TermAt, Memory, Stands, symbol-node, variable-node, StandInRow, none, more}
+use Rattle.comparing.specs.Nodes.{node-count, GroundAt, TermAt, Stands, symbol-node, variable-node, StandInRow, none, more}
 
 -- From `i` on, `all` has the elements of `part`.
 pub record StoredAt (all : List ℕ) (i : ℕ) (part : List ℕ) : Type 0 where
@@ -179,10 +178,6 @@ two-stand arities known values s t g h a b l =
     let (x, y) = two-in-row (ground-row-stands arities known (cons s (cons t nil)) (g, (h, tt)) a b l) in
     (ground-stands x, ground-stands (rw (ground-size x) at y))
 
--- What `measure` leaves is stored, and cells that are 0 are settled.
+-- What `measure` leaves is stored.
 pub filled-stored : (before part after : List ℕ) (i : ℕ) {all : List ℕ} → i ≤ length before → all ≡ take i before ++ (part ++ after) → StoredAt all i part
 filled-stored before part after i h e = record { rest = after; is = ap (drop i) e ∙ drop-at (take i before) (part ++ after) i (length-take-le i before h) }
-
-pub fresh-memory : {nodes lengths values cells : List ℕ} → length nodes ≡ node-count → length lengths ≡ node-count → length values ≡ variable-count → length cells ≡ cell-count
-    → ((k : ℕ) → getD cells k 0 ≡ 0) → Memory nodes lengths values cells
-fresh-memory a b c d z = record { nodes-length = a; sizes-length = b; values-length = c; cells-length = d; settled = λ i j s t x y. inl (z (i * node-count + j)) }

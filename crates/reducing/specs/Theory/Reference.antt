@@ -85,7 +85,7 @@ tests-agree e exact solves d ρ =
     let (f, g) = reference-test-is e d ρ in
     same-truth _ _ (λ h. g (x .1 (a h))) (λ h. b (x .0 (f h)))
 
-all-agree : (es : List Equation) → Every Exact es → EverySolves es → Every (Agree line-test reference-test) es
+pub all-agree : (es : List Equation) → Every Exact es → EverySolves es → Every (Agree line-test reference-test) es
 all-agree [] x s = tt
 all-agree (e ∷ es) x s = (tests-agree e (x .0) (s .0), all-agree es (x .1) (s .1))
 
@@ -99,7 +99,7 @@ abbrev pub Descending : Term → List Step → Type 0
 Descending subject [] = Unit {0}
 Descending subject (s ∷ steps) = (subject ≻ s .result) × Descending (s .result) steps
 
-source-variables : {e : Equation} → WithinLimits e → (d : Direction) → VariablesBelow variable-count (source e d)
+pub source-variables : {e : Equation} → WithinLimits e → (d : Direction) → VariablesBelow variable-count (source e d)
 unfolding source
 source-variables w left-right = w .left-variables
 source-variables w right-left = w .right-variables
@@ -125,7 +125,7 @@ module _ (es : List Equation) (within : Every WithinLimits es) where
   reference-run-descending k subject = all-taken-descending subject (reference-run es k subject .steps) (run-taken reference-test es k subject)
 
 -- On equations within the limits the tables are exact.
-all-exact : (es : List Equation) → Every WithinLimits es → Every Exact es
+pub all-exact : (es : List Equation) → Every WithinLimits es → Every Exact es
 all-exact [] w = tt
 all-exact (e ∷ es) w = (solve-exact e (w .0), all-exact es (w .1))
 

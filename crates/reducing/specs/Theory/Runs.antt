@@ -178,7 +178,7 @@ module _ (test₁ test₂ : Equation → Direction → Values → Bool) where
         let others = try-positions-same subject (suc p) parts in
         λ i. or-else (here i) (others i)
 
-    step-same : (subject : Term) → step test₁ es subject ≡ step test₂ es subject
+    pub step-same : (subject : Term) → step test₁ es subject ≡ step test₂ es subject
     unfolding step
     step-same subject = try-positions-same subject 0 (subterms subject)
 

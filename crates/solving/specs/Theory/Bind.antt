@@ -7,7 +7,6 @@ use lib.ListN.{length, length-set}
 use lib.Seq.{getD-set-same, getD-set-other}
 use native.Mathlib.Decide.{ℕ-discrete}
 use native.Mathlib.Omega.{arith}
-use Rattle.format.specs.Limits.{variable-count}
 use Rattle.terms.specs.Position.{Node, var-node}
 use Rattle.terms.specs.Theory.View.{Layout}
 use Rattle.solving.specs.Line.{Bindings, lookup, bind}
@@ -32,25 +31,25 @@ module _ (θ : Bindings) (v p : ℕ) (slot : v < length θ) where
   pub bind-keeps : (w q : ℕ) → lookup θ v ≡ none → lookup θ w ≡ some q → lookup (bind θ v p) w ≡ some q
   bind-keeps w q free e = getD-set-other θ v w (some p) none (λ x. let z : _≡_ {A = ℕ} 0 1 = cc in omega arith) ∙ e
 
--- The least fuel for `n` positions: it decides occurrence.
-abbrev fuel-for : ℕ → Fuel
-fuel-for n = record { hops = variable-count; occurs-depth = suc n; unify-depth = suc n }
+-- The least fuel for `vars` variables and `n` positions: it decides occurrence.
+abbrev pub fuel-for : (vars n : ℕ) → Fuel
+fuel-for vars n = record { hops = vars; occurs-depth = suc n; unify-depth = suc n }
 
-fuel-for-suffices : (n : ℕ) → Sufficient n (fuel-for n)
-fuel-for-suffices n = record { hops-suffice = omega arith; occurs-suffices = omega arith; unify-suffices = omega arith }
+pub fuel-for-suffices : (vars n : ℕ) → Sufficient vars n (fuel-for vars n)
+fuel-for-suffices vars n = record { hops-suffice = omega arith; occurs-suffices = omega arith; unify-suffices = omega arith }
 
-module _ {view : ℕ → Node} {n : ℕ} (lay : Layout view n) {θ : Bindings} (pr : Proper view n θ) (v q : ℕ)
+module _ {view : ℕ → Node} {vars n : ℕ} (lay : Layout view vars n) {θ : Bindings} (pr : Proper view vars n θ) (v q : ℕ)
     (slot : v < length θ) (free : lookup θ v ≡ none) (up : (w : ℕ) → view q ≡ var-node w → v < w) (inner : q < n) (away : Occurs view θ v q → ⊥) where
   occurs-at : ℕ → Bool
-  occurs-at p = occurs (fuel-for n) view (suc n) θ v p
+  occurs-at p = occurs (fuel-for vars n) view (suc n) θ v p
 
   at-found : (p : ℕ) → occurs-at p ≡ true → Occurs view θ v p
   unfolding occurs-at
-  at-found p = occurs-found lay (fuel-for-suffices n) pr (suc n) v p
+  at-found p = occurs-found lay (fuel-for-suffices vars n) pr (suc n) v p
 
   at-finds : {p : ℕ} → Occurs view θ v p → occurs-at p ≡ true
   unfolding occurs-at
-  at-finds = occurs-finds lay (fuel-for-suffices n) pr
+  at-finds = occurs-finds lay (fuel-for-suffices vars n) pr
 
   -- Where the variable occurs, the height of what it stands for is added.
   abbrev added : Bool → ℕ
@@ -87,7 +86,7 @@ module _ {view : ℕ → Node} {n : ℕ} (lay : Layout view n) {θ : Bindings} (
           let y : added (occurs-at q) ≡ 0 = added-none (occurs-at q) (λ o. away (at-found q o)) in
           rw (b, x, y) (omega arith)
 
-  pub bind-proper : Proper view n (bind θ v q)
+  pub bind-proper : Proper view vars n (bind θ v q)
   bind-proper = record {
     slots = length-set θ v (some q) ∙ pr .slots;
     rising = λ u p w e d. bind-cases θ v q slot u p e (λ a b. let x : view q ≡ var-node w = cc in omega (arith, up w x)) (λ y. pr .rising u p w y d);

@@ -19,7 +19,7 @@ use Rattle.solving.specs.Theory.Reach.{Sufficient, Proper, reach-reaches
 use Rattle.solving.specs.Theory.Unified.{unified-proper, unify-gives}
 use Rattle.solving.specs.Theory.Values.{Satisfied, satisfied-bind, reaches-value, variable-value, symbol-value, occurs-exceeded, size-measure}
 
-module _ {fuel : Fuel} {view : ℕ → Node} {n : ℕ} (lay : Layout view n) (suf : Sufficient n fuel) {ρ : Values} {value : ℕ → Term} (m : Model view ρ value) where
+module _ {fuel : Fuel} {view : ℕ → Node} {vars n : ℕ} (lay : Layout view vars n) (suf : Sufficient vars n fuel) {ρ : Values} {value : ℕ → Term} (m : Model view ρ value) where
   abbrev pub Succeeds : Option Bindings → Type 0
   Succeeds o = (θ : Bindings) × (o ≡ some θ) × Satisfied ρ value θ
 
@@ -27,9 +27,9 @@ module _ {fuel : Fuel} {view : ℕ → Node} {n : ℕ} (lay : Layout view n) (su
   size-rank p = rank n (λ q. size (value q)) p
 
   abbrev Complete : (Bindings → ℕ → ℕ → Option Bindings) → ℕ → Type 0
-  Complete u k = (θ : Bindings) (p q : ℕ) → Proper view n θ → p < n → q < n → Satisfied ρ value θ → value p ≡ value q → size-rank p < k → Succeeds (u θ p q)
+  Complete u k = (θ : Bindings) (p q : ℕ) → Proper view vars n θ → p < n → q < n → Satisfied ρ value θ → value p ≡ value q → size-rank p < k → Succeeds (u θ p q)
 
-  each-complete : (k : ℕ) → Complete (unify fuel view k) k → (ps qs : List ℕ) (θ : Bindings) → Proper view n θ → ((c : ℕ) → In c ps → c < n) → ((c : ℕ) → In c qs → c < n)
+  each-complete : (k : ℕ) → Complete (unify fuel view k) k → (ps qs : List ℕ) (θ : Bindings) → Proper view vars n θ → ((c : ℕ) → In c ps → c < n) → ((c : ℕ) → In c qs → c < n)
       → Satisfied ρ value θ → values-at value ps ≡ values-at value qs → ((c : ℕ) → In c ps → size-rank c < k) → Succeeds (unify-each (unify fuel view k) θ ps qs)
   unfolding values-at unify-each
   each-complete k h [] [] θ pr i j s e r = (θ, refl, s)
@@ -99,6 +99,6 @@ module _ {fuel : Fuel} {view : ℕ → Node} {n : ℕ} (lay : Layout view n) (su
       go ih (app-node f ps) (var-node w) x y = right w f ps x y (occurs fuel view (fuel .occurs-depth) θ w p′) refl
       go ih (app-node f ps) (app-node g qs) x y = both ih f g ps qs x y (ℕ-discrete f g)
 
-  pub unify-succeeds : (θ : Bindings) (p q : ℕ) → Proper view n θ → p < n → q < n → Satisfied ρ value θ → value p ≡ value q → Succeeds (unify fuel view (fuel .unify-depth) θ p q)
+  pub unify-succeeds : (θ : Bindings) (p q : ℕ) → Proper view vars n θ → p < n → q < n → Satisfied ρ value θ → value p ≡ value q → Succeeds (unify fuel view (fuel .unify-depth) θ p q)
   unfolding size-rank
   unify-succeeds θ p q pr i j s e = unify-complete (fuel .unify-depth) θ p q pr i j s e (omega (arith, suf .unify-suffices, rank-le n (λ q. size (value q)) p))

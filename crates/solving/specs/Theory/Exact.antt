@@ -40,12 +40,12 @@ module _ (ρ : Values) (value : ℕ → Term) (θ : Bindings) where
   always : {A : Type 0} → (BindingsHold ρ value 0 θ → A) → Says ρ value θ A (line θ [] ∷ [])
   always h = record { to = λ b x. inl (b, tt); back = λ x. (only θ x, h (only θ x)) }
 
-module _ {fuel : Fuel} {view : ℕ → Node} {n : ℕ} (lay : Layout view n) (suf : Sufficient n fuel) {ρ : Values} {value : ℕ → Term} (m : Model view ρ value) where
+module _ {fuel : Fuel} {view : ℕ → Node} {vars n : ℕ} (lay : Layout view vars n) (suf : Sufficient vars n fuel) {ρ : Values} {value : ℕ → Term} (m : Model view ρ value) where
   not-below : {s t : Term} → (t ≡ s) ⊎ (t ≻ s) → s ≻ t → ⊥
   not-below (inl e) g = ≻-irrefl (rw e at g)
   not-below (inr h) g = ≻-irrefl (≻-trans g h)
 
-  module _ (θ : Bindings) (p q : ℕ) (ls : List Line) (pr : Proper view n θ) (i : p < n) (j : q < n) where
+  module _ (θ : Bindings) (p q : ℕ) (ls : List Line) (pr : Proper view vars n θ) (i : p < n) (j : q < n) where
     at-p : Reaches view θ p (reach fuel view θ p)
     at-p = reach-reaches lay suf pr p
 
@@ -108,19 +108,19 @@ module _ {fuel : Fuel} {view : ℕ → Node} {n : ℕ} (lay : Layout view n) (su
     greater-says (app-node f ps) (var-node w) a b d = right-variable f w ps a b (occurs fuel view (fuel .occurs-depth) θ w p) refl d
     greater-says (app-node f ps) (app-node g qs) a b d = two-symbols f g ps qs a b d
 
-  pub treat-says : (θ : Bindings) (e : Element) (ls : List Line) → Proper view n θ → Within n e → treat fuel view θ e ≡ becomes ls → Says ρ value θ (ElementHolds ρ value e) ls
+  pub treat-says : (θ : Bindings) (e : Element) (ls : List Line) → Proper view vars n θ → Within n e → treat fuel view θ e ≡ becomes ls → Says ρ value θ (ElementHolds ρ value e) ls
   unfolding treat
   treat-says θ (equal p q) ls pr h d = equal-says θ p q ls pr (h .0) (h .1) (unify fuel view (fuel .unify-depth) θ p q) refl d
   treat-says θ (greater p q) ls pr h d = greater-says θ p q ls pr (h .0) (h .1) (view (reach fuel view θ p)) (view (reach fuel view θ q)) refl refl d
 
-  pub leftmost-says : (θ : Bindings) (es : List Element) (ls : List Line) → Proper view n θ → AllWithin n es → treat-leftmost fuel view θ es ≡ some ls
+  pub leftmost-says : (θ : Bindings) (es : List Element) (ls : List Line) → Proper view vars n θ → AllWithin n es → treat-leftmost fuel view θ es ≡ some ls
       → Says ρ value θ (ElementsHold ρ value es) ls
   unfolding treat-leftmost
   leftmost-says θ [] ls pr h d = let z : _≡_ {A = ℕ} 0 1 = cc in absurd (omega arith)
   leftmost-says θ (e ∷ es) ls pr h d = go (leftmost-says θ es) (treat fuel view θ e) refl d
     where
       IH : Type 0
-      IH = (ls : List Line) → Proper view n θ → AllWithin n es → treat-leftmost fuel view θ es ≡ some ls → Says ρ value θ (ElementsHold ρ value es) ls
+      IH = (ls : List Line) → Proper view vars n θ → AllWithin n es → treat-leftmost fuel view θ es ≡ some ls → Says ρ value θ (ElementsHold ρ value es) ls
 
       later : IH → (o : Option (List Line)) → treat-leftmost fuel view θ es ≡ o → Option·map (map (in-front e)) o ≡ some ls → Says ρ value θ (ElementHolds ρ value e × ElementsHold ρ value es) ls
       later ih none x d = let z : _≡_ {A = ℕ} 0 1 = cc in absurd (omega arith)
@@ -144,13 +144,13 @@ module _ {fuel : Fuel} {view : ℕ → Node} {n : ℕ} (lay : Layout view n) (su
             back = λ k. let (a, c) = behind-from ρ value es ms k in (t .back a .0, (t .back a .1, c));
           })
 
-  pub turn-exact : (table new : List Line) → ProperTable view n table → turn fuel view table ≡ some new → SomeLineHolds ρ value table ↔ SomeLineHolds ρ value new
+  pub turn-exact : (table new : List Line) → ProperTable view vars n table → turn fuel view table ≡ some new → SomeLineHolds ρ value table ↔ SomeLineHolds ρ value new
   unfolding turn
   turn-exact [] new h d = let z : _≡_ {A = ℕ} 0 1 = cc in absurd (omega arith)
   turn-exact (line θ es ∷ ls) new h d = go (turn-exact ls) (treat-leftmost fuel view θ es) refl d
     where
       IH : Type 0
-      IH = (new : List Line) → ProperTable view n ls → turn fuel view ls ≡ some new → SomeLineHolds ρ value ls ↔ SomeLineHolds ρ value new
+      IH = (new : List Line) → ProperTable view vars n ls → turn fuel view ls ≡ some new → SomeLineHolds ρ value ls ↔ SomeLineHolds ρ value new
 
       later : IH → (o : Option (List Line)) → turn fuel view ls ≡ o → Option·map (line θ es ∷_) o ≡ some new → SomeLineHolds ρ value (line θ es ∷ ls) ↔ SomeLineHolds ρ value new
       later ih none x d = let z : _≡_ {A = ℕ} 0 1 = cc in absurd (omega arith)

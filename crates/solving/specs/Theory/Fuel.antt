@@ -10,7 +10,7 @@ use Rattle.terms.specs.Position.{Node, var-node, app-node}
 use Rattle.terms.specs.Theory.View.{In, head, tail, Layout}
 use Rattle.solving.specs.Line.{Bindings, bind, Element, equal, greater, Line, line}
 use Rattle.format.specs.declared.refusal.Refusal.{Refusal}
-use Rattle.solving.specs.Walk.{Fuel, reach, occurs, bind-unless, unify-variables, unify-each, unify-nodes, unify, Treatment, fully-reduced, becomes, in-front, behind, treat-greater, treat, treat-leftmost, treat-line, turn, over-limit, Walked, solved, refused, walk-from}
+use Rattle.solving.specs.Walk.{Fuel, reach, occurs, bind-unless, unify-variables, unify-each, unify-nodes, unify, Treatment, fully-reduced, becomes, in-front, behind, treat-greater, treat, treat-leftmost, treat-line, turn, over-limit, Walked, solved, refused, walk-until, walk-from}
 use Rattle.solving.specs.Theory.Seen.{Occurs, bound-variable, variable-bound}
 use Rattle.solving.specs.Theory.Rank.{Measure, rank, rank-le, rank-down}
 use Rattle.solving.specs.Theory.Reach.{Sufficient, Proper, reach-reaches, reach-is, occurs-found, occurs-finds}
@@ -26,8 +26,8 @@ measure-back {view} {θ} {θ′} x me = record {
 }
 
 -- A unification is found with depth above the rank of its left position.
-module _ {fuel : Fuel} {view : ℕ → Node} {n : ℕ} (lay : Layout view n) (suf : Sufficient n fuel) (m : ℕ → ℕ) where
-  module _ {θ : Bindings} (pr : Proper view n θ) where
+module _ {fuel : Fuel} {view : ℕ → Node} {vars n : ℕ} (lay : Layout view vars n) (suf : Sufficient vars n fuel) (m : ℕ → ℕ) where
+  module _ {θ : Bindings} (pr : Proper view vars n θ) where
     occurs-away : {v s : ℕ} → (Occurs view θ v s → ⊥) → (b : Bool) → occurs fuel view (fuel .occurs-depth) θ v s ≡ b → bind-unless b θ v s ≡ some (bind θ v s)
     unfolding bind-unless
     occurs-away {v} {s} away true e = absurd (away (occurs-found lay suf pr (fuel .occurs-depth) v s e))
@@ -71,7 +71,7 @@ module _ {fuel : Fuel} {view : ℕ → Node} {n : ℕ} (lay : Layout view n) (su
   mutual
     unfolding unify unify-nodes unify-each
 
-    unify-finds : {θ θ′ : Bindings} {p q : ℕ} → Unified view θ p q θ′ → Proper view n θ → p < n → q < n → Measure view θ′ m → (j : ℕ) → rank n m p ≤ j
+    unify-finds : {θ θ′ : Bindings} {p q : ℕ} → Unified view θ p q θ′ → Proper view vars n θ → p < n → q < n → Measure view θ′ m → (j : ℕ) → rank n m p ≤ j
         → unify fuel view (suc j) θ p q ≡ some θ′
     unify-finds (equal-variables {r = r} {s = s} {v = v} a b x y e) pr i k me j l =
         rw (reach-is lay suf pr a, reach-is lay suf pr b, x, y, e) (same-variables pr v r s (ℕ-discrete v v) (decLt v v))
@@ -84,14 +84,14 @@ module _ {fuel : Fuel} {view : ℕ → Node} {n : ℕ} (lay : Layout view n) (su
         let d = each-finds us pr (λ c z. lay .argument-within r f c ps x z) (λ c z. lay .argument-within s f c qs y z) me j (λ c z. omega (arith, rank-down mθ lay f c ps a x z)) in
         rw (reach-is lay suf pr a, reach-is lay suf pr b, x, y) (same-symbol f (ℕ-discrete f f) _ _ ∙ d)
 
-    each-finds : {θ θ′ : Bindings} {ps qs : List ℕ} → EachUnified view θ ps qs θ′ → Proper view n θ → ((c : ℕ) → In c ps → c < n) → ((c : ℕ) → In c qs → c < n)
+    each-finds : {θ θ′ : Bindings} {ps qs : List ℕ} → EachUnified view θ ps qs θ′ → Proper view vars n θ → ((c : ℕ) → In c ps → c < n) → ((c : ℕ) → In c qs → c < n)
         → Measure view θ′ m → (j : ℕ) → ((c : ℕ) → In c ps → rank n m c < j) → unify-each (unify fuel view j) θ ps qs ≡ some θ′
     each-finds (no-more e) pr i k me j l = rw e
     each-finds (one-more {θ = θ} {η = η} {p = p} {q = q} u us) pr i k me j l =
         let x = deeper θ η p q (λ a b. unify-finds u pr (i p head) (k q head) (measure-back (each-extends us) me) a b) j (l p head) in
         rw (x, unify-each) (each-finds us (unified-proper lay u pr (i p head) (k q head)) (λ c z. i c (tail z)) (λ c z. k c (tail z)) me j (λ c z. l c (tail z)))
 
-pub unify-found : {fuel : Fuel} {view : ℕ → Node} {n : ℕ} → Layout view n → Sufficient n fuel → {θ θ′ : Bindings} {p q : ℕ} → Proper view n θ → p < n → q < n → Unified view θ p q θ′
+pub unify-found : {fuel : Fuel} {view : ℕ → Node} {vars n : ℕ} → Layout view vars n → Sufficient vars n fuel → {θ θ′ : Bindings} {p q : ℕ} → Proper view vars n θ → p < n → q < n → Unified view θ p q θ′
     → unify fuel view (fuel .unify-depth) θ p q ≡ some θ′
 unify-found {fuel} {n = n} lay suf {θ} {θ′} {p} {q} pr i k u =
     let pr′ = unified-proper lay u pr i k in
@@ -99,8 +99,8 @@ unify-found {fuel} {n = n} lay suf {θ} {θ′} {p} {q} pr i k u =
     deeper lay suf m θ θ′ p q (unify-finds lay suf m u pr i k (pr′ .falls)) (fuel .unify-depth) (omega (arith, suf .unify-suffices, rank-le n m p))
 
 -- Two fuels that suffice.
-module _ {fuel₁ fuel₂ : Fuel} {view : ℕ → Node} {n : ℕ} (lay : Layout view n) (suf₁ : Sufficient n fuel₁) (suf₂ : Sufficient n fuel₂) where
-  module _ {θ : Bindings} (pr : Proper view n θ) where
+module _ {fuel₁ fuel₂ : Fuel} {view : ℕ → Node} {vars n : ℕ} (lay : Layout view vars n) (suf₁ : Sufficient vars n fuel₁) (suf₂ : Sufficient vars n fuel₂) where
+  module _ {θ : Bindings} (pr : Proper view vars n θ) where
     reach-fuel : (p : ℕ) → reach fuel₁ view θ p ≡ reach fuel₂ view θ p
     reach-fuel p = reach-is lay suf₁ pr (reach-reaches lay suf₂ pr p)
 
@@ -139,7 +139,7 @@ module _ {fuel₁ fuel₂ : Fuel} {view : ℕ → Node} {n : ℕ} (lay : Layout 
         placed : Treatment → Option (List Line) → Option (List Line)
         placed t rest = elim t [ becomes ls ↦ some (map (behind es) ls) | fully-reduced ↦ Option·map (map (in-front e)) rest ]
 
-  pub turn-fuel : (table : List Line) → ProperTable view n table → turn fuel₁ view table ≡ turn fuel₂ view table
+  pub turn-fuel : (table : List Line) → ProperTable view vars n table → turn fuel₁ view table ≡ turn fuel₂ view table
   unfolding turn treat-line
   turn-fuel [] h = refl
   turn-fuel (line θ es ∷ ls) h = ap₂ replaced (leftmost-fuel (h .0 .0) es (h .0 .1)) (turn-fuel ls (h .1))
@@ -147,13 +147,13 @@ module _ {fuel₁ fuel₂ : Fuel} {view : ℕ → Node} {n : ℕ} (lay : Layout 
       replaced : Option (List Line) → Option (List Line) → Option (List Line)
       replaced o rest = elim o [ some new ↦ some (new ++ ls) | none ↦ Option·map (line θ es ∷_) rest ]
 
-  pub walk-from-fuel : (left taken : ℕ) (table : List Line) → ProperTable view n table → walk-from fuel₁ view left taken table ≡ walk-from fuel₂ view left taken table
+  pub walk-from-fuel : (left taken : ℕ) (table : List Line) → ProperTable view vars n table → walk-from fuel₁ view left taken table ≡ walk-from fuel₂ view left taken table
   unfolding walk-from
-  walk-from-fuel zero taken table h = rw (turn-fuel table h, walk-from)
-  walk-from-fuel (suc left) taken table h = rw (turn-fuel table h, walk-from) (go (walk-from-fuel left (suc taken)) (turn fuel₂ view table) refl)
+  walk-from-fuel zero taken table h = rw (turn-fuel table h, walk-from, walk-until)
+  walk-from-fuel (suc left) taken table h = rw (turn-fuel table h, walk-from, walk-until) (go (walk-from-fuel left (suc taken)) (turn fuel₂ view table) refl)
     where
       IH : Type 0
-      IH = (new : List Line) → ProperTable view n new → walk-from fuel₁ view left (suc taken) new ≡ walk-from fuel₂ view left (suc taken) new
+      IH = (new : List Line) → ProperTable view vars n new → walk-from fuel₁ view left (suc taken) new ≡ walk-from fuel₂ view left (suc taken) new
 
       limited : Option Refusal → Walked → Walked
       limited o w = elim o [ some r ↦ refused r | none ↦ w ]

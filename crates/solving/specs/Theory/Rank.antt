@@ -69,11 +69,11 @@ pub record Measure (view : ℕ → Node) (θ : Bindings) (m : ℕ → ℕ) : Typ
   pub along : (p q : ℕ) → bound-to θ (view p) ≡ some q → m q ≤ m p
 
 module _ {view : ℕ → Node} {θ : Bindings} {m : ℕ → ℕ} (me : Measure view θ m) where
-  reaches-le : {p r : ℕ} → Reaches view θ p r → m r ≤ m p
+  pub reaches-le : {p r : ℕ} → Reaches view θ p r → m r ≤ m p
   reaches-le (stays e) = omega arith
   reaches-le (goes {p = p} {q = q} e k) = omega (arith, reaches-le k, me .along p q e)
 
   -- A descent through the bindings goes down in rank.
-  pub rank-down : {n : ℕ} → Layout view n → {p r : ℕ} (f c : ℕ) (ps : List ℕ) → Reaches view θ p r → view r ≡ app-node f ps → In c ps → rank n m c < rank n m p
+  pub rank-down : {vars n : ℕ} → Layout view vars n → {p r : ℕ} (f c : ℕ) (ps : List ℕ) → Reaches view θ p r → view r ≡ app-node f ps → In c ps → rank n m c < rank n m p
   unfolding rank
   rank-down {n} lay {p} {r} f c ps k e i = below-strict m n c (m p) (lay .argument-within r f c ps e i) (omega (arith, me .down r f c ps e i, reaches-le k))

@@ -16,18 +16,18 @@ use Rattle.solving.specs.Walk.{Fuel, enough, bound-to, follow, reach, oc
 use Rattle.solving.specs.Theory.Seen.{Reaches, stays, goes, Occurs, here, inside, bound-variable, reaches-unique}
 use Rattle.solving.specs.Theory.Rank.{Measure, rank, rank-le, rank-down}
 
--- Fuel that suffices where there are `n` positions.
-pub record Sufficient (n : ℕ) (fuel : Fuel) : Type 0 where
-  pub hops-suffice : variable-count ≤ fuel .hops
+-- Fuel that suffices where there are `vars` variables and `n` positions.
+pub record Sufficient (vars n : ℕ) (fuel : Fuel) : Type 0 where
+  pub hops-suffice : vars ≤ fuel .hops
   pub occurs-suffices : n < fuel .occurs-depth
   pub unify-suffices : n < fuel .unify-depth
 
-pub enough-suffices : {n : ℕ} → n ≤ position-count → Sufficient n enough
+pub enough-suffices : {n : ℕ} → n ≤ position-count → Sufficient variable-count n enough
 enough-suffices l = record { hops-suffice = omega arith; occurs-suffices = omega arith; unify-suffices = omega arith }
 
 -- Bindings of the walk: a slot for each variable, variables bound to higher ones, positions of the equation, no cycle.
-pub record Proper (view : ℕ → Node) (n : ℕ) (θ : Bindings) : Type 0 where
-  pub slots : length θ ≡ variable-count
+pub record Proper (view : ℕ → Node) (vars n : ℕ) (θ : Bindings) : Type 0 where
+  pub slots : length θ ≡ vars
   pub rising : (v p w : ℕ) → lookup θ v ≡ some p → view p ≡ var-node w → v < w
   pub within : (v p : ℕ) → lookup θ v ≡ some p → p < n
   pub height : ℕ → ℕ
@@ -51,9 +51,9 @@ any-finds f (tail {p = p} {ps = ps} i) e = go (f p) (any-finds f i e)
     go true h = refl
     go false h = h
 
-module _ {fuel : Fuel} {view : ℕ → Node} {n : ℕ} (lay : Layout view n) (suf : Sufficient n fuel) {θ : Bindings} (pr : Proper view n θ) where
+module _ {fuel : Fuel} {view : ℕ → Node} {vars n : ℕ} (lay : Layout view vars n) (suf : Sufficient vars n fuel) {θ : Bindings} (pr : Proper view vars n θ) where
   -- With enough hops the end of the bindings is reached: a variable is bound to a higher one or to no variable.
-  follow-reaches : (k p : ℕ) → ((v : ℕ) → view p ≡ var-node v → variable-count ≤ k + v) → Reaches view θ p (follow fuel view k θ p)
+  follow-reaches : (k p : ℕ) → ((v : ℕ) → view p ≡ var-node v → vars ≤ k + v) → Reaches view θ p (follow fuel view k θ p)
   unfolding follow
   follow-reaches zero p far = go (bound-to θ (view p)) refl
     where
@@ -62,7 +62,7 @@ module _ {fuel : Fuel} {view : ℕ → Node} {n : ℕ} (lay : Layout view n) (su
       go (some q) e = let (v, d, x) = bound-variable θ (view p) q e in absurd (omega (arith, far v d, lay .variable-low p v d))
   follow-reaches (suc k) p far = go (follow-reaches k) (bound-to θ (view p)) refl
     where
-      go : ((q : ℕ) → ((v : ℕ) → view q ≡ var-node v → variable-count ≤ k + v) → Reaches view θ q (follow fuel view k θ q)) → (o : Option ℕ) → bound-to θ (view p) ≡ o
+      go : ((q : ℕ) → ((v : ℕ) → view q ≡ var-node v → vars ≤ k + v) → Reaches view θ q (follow fuel view k θ q)) → (o : Option ℕ) → bound-to θ (view p) ≡ o
           → Reaches view θ p (elim o as (λ x. ℕ) [ none ↦ p | some q ↦ follow fuel view k θ q ])
       go ih none e = stays e
       go ih (some q) e = let (v, d, x) = bound-variable θ (view p) q e in goes e (ih q (λ u y. omega (arith, far v d, pr .rising v q u x y)))

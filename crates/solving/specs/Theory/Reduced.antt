@@ -22,8 +22,8 @@ abbrev pub Finished : (ℕ → Node) → List Line → Type 0
 Finished view [] = Unit {0}
 Finished view (line θ es ∷ ls) = AllReduced view θ es × Finished view ls
 
-module _ {fuel : Fuel} {view : ℕ → Node} {n : ℕ} (lay : Layout view n) (suf : Sufficient n fuel) where
-  module _ {θ : Bindings} (pr : Proper view n θ) where
+module _ {fuel : Fuel} {view : ℕ → Node} {vars n : ℕ} (lay : Layout view vars n) (suf : Sufficient vars n fuel) where
+  module _ {θ : Bindings} (pr : Proper view vars n θ) where
     left-reduced : (p q v : ℕ) → view (reach fuel view θ p) ≡ var-node v → (b : Bool) → occurs fuel view (fuel .occurs-depth) θ v q ≡ b
         → (elim b as (λ x. Treatment) [ true ↦ becomes [] | false ↦ fully-reduced ]) ≡ fully-reduced → Reduced view θ (greater p q)
     left-reduced p q v x true o d = let z : _≡_ {A = ℕ} 0 1 = cc in absurd (omega arith)
@@ -65,7 +65,7 @@ module _ {fuel : Fuel} {view : ℕ → Node} {n : ℕ} (lay : Layout view n) (su
         go ih fully-reduced x d = (treat-reduced e x, ih (later (treat-leftmost fuel view θ es) d))
         go ih (becomes ms) x d = let z : _≡_ {A = ℕ} 0 1 = cc in absurd (omega arith)
 
-  pub turn-none : (table : List Line) → ProperTable view n table → turn fuel view table ≡ none → Finished view table
+  pub turn-none : (table : List Line) → ProperTable view vars n table → turn fuel view table ≡ none → Finished view table
   unfolding turn
   turn-none [] h d = tt
   turn-none (line θ es ∷ ls) h d = go (turn-none ls (h .1)) (treat-leftmost fuel view θ es) refl d

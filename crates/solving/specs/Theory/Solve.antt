@@ -5,7 +5,7 @@ use mathlib.Core.Logic.{_↔_}
 use mathlib.Core.List.{List}
 use lib.ListN.{length}
 use native.Mathlib.Omega.{arith}
-use Rattle.format.specs.Limits.{max-lines, max-turns, record-bytes, table-bytes}
+use Rattle.format.specs.Limits.{variable-count, max-lines, max-turns, record-bytes, table-bytes}
 use Rattle.terms.specs.Term.{Values, inst}
 use Rattle.terms.specs.Equation.{Equation, Direction, source, target, source-position, target-position, view, value}
 use Rattle.terms.specs.Theory.Limits.{WithinLimits, positions, positions-few}
@@ -31,16 +31,16 @@ pub record AtLeast (least fuel : Fuel) : Type 0 where
   pub deeper-unify : least .unify-depth ≤ fuel .unify-depth
 
 module _ (e : Equation) (w : WithinLimits e) where
-  enough-here : Sufficient (positions e) enough
+  enough-here : Sufficient variable-count (positions e) enough
   enough-here = enough-suffices (positions-few w)
 
-  more-here : (fuel : Fuel) → AtLeast enough fuel → Sufficient (positions e) fuel
+  more-here : (fuel : Fuel) → AtLeast enough fuel → Sufficient variable-count (positions e) fuel
   more-here fuel a =
       let few = positions-few w in
       record { hops-suffice = a .more-hops; occurs-suffices = omega (arith, a .deeper-occurs); unify-suffices = omega (arith, a .deeper-unify) }
 
   -- More fuel changes no turn, and not the walk.
-  pub more-fuel-turn : (fuel : Fuel) → AtLeast enough fuel → (table : List Line) → ProperTable (view e) (positions e) table → turn fuel (view e) table ≡ turn enough (view e) table
+  pub more-fuel-turn : (fuel : Fuel) → AtLeast enough fuel → (table : List Line) → ProperTable (view e) variable-count (positions e) table → turn fuel (view e) table ≡ turn enough (view e) table
   more-fuel-turn fuel a table h = turn-fuel (layout e w) (more-here fuel a) enough-here table h
 
   module _ (d : Direction) where

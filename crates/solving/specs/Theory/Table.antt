@@ -22,9 +22,9 @@ abbrev pub AllWithin : ℕ → List Element → Type 0
 AllWithin n [] = Unit {0}
 AllWithin n (e ∷ es) = Within n e × AllWithin n es
 
-module _ (view : ℕ → Node) (n : ℕ) where
+module _ (view : ℕ → Node) (vars n : ℕ) where
   abbrev pub ProperLine : Line → Type 0
-  ProperLine (line θ es) = Proper view n θ × AllWithin n es
+  ProperLine (line θ es) = Proper view vars n θ × AllWithin n es
 
   abbrev pub ProperTable : List Line → Type 0
   ProperTable [] = Unit {0}
@@ -103,69 +103,69 @@ module _ (n : ℕ) where
         each-append (argument-choices ss t ++ a) b (each-append (argument-choices ss t) a (argument-within ss h) (precedence-within (decLt g f) ts k)) (same-symbol-within (ℕ-discrete f g) ss ts h k)
 
 -- A turn keeps the table proper.
-module _ {fuel : Fuel} {view : ℕ → Node} {n : ℕ} (lay : Layout view n) (suf : Sufficient n fuel) where
-  lines-proper : (θ : Bindings) → Proper view n θ → (ess : List (List Element)) → EachWithin n ess → ProperTable view n (map (line θ) ess)
+module _ {fuel : Fuel} {view : ℕ → Node} {vars n : ℕ} (lay : Layout view vars n) (suf : Sufficient vars n fuel) where
+  lines-proper : (θ : Bindings) → Proper view vars n θ → (ess : List (List Element)) → EachWithin n ess → ProperTable view vars n (map (line θ) ess)
   lines-proper θ h [] k = tt
   lines-proper θ h (es ∷ ess) k = ((h, k .0), lines-proper θ h ess (k .1))
 
-  module _ (θ : Bindings) (p q : ℕ) (ls : List Line) (pr : Proper view n θ) (i : p < n) (j : q < n) where
-    equal-proper : (o : Option Bindings) → unify fuel view (fuel .unify-depth) θ p q ≡ o → unified o ≡ becomes ls → ProperTable view n ls
+  module _ (θ : Bindings) (p q : ℕ) (ls : List Line) (pr : Proper view vars n θ) (i : p < n) (j : q < n) where
+    equal-proper : (o : Option Bindings) → unify fuel view (fuel .unify-depth) θ p q ≡ o → unified o ≡ becomes ls → ProperTable view vars n ls
     unfolding unified
     equal-proper none e d = let x : ls ≡ [] = cc in rw x tt
     equal-proper (some θ′) e d = let x : ls ≡ line θ′ [] ∷ [] = cc in
         rw x ((unified-proper lay (unify-gives lay suf (fuel .unify-depth) θ θ′ p q pr i j e) pr i j, tt), tt)
 
-    delete-line : (b : Bool) → (elim b as (λ x. Treatment) [ true ↦ becomes [] | false ↦ fully-reduced ]) ≡ becomes ls → ProperTable view n ls
+    delete-line : (b : Bool) → (elim b as (λ x. Treatment) [ true ↦ becomes [] | false ↦ fully-reduced ]) ≡ becomes ls → ProperTable view vars n ls
     delete-line true d = let x : ls ≡ [] = cc in rw x tt
     delete-line false d = let z : _≡_ {A = ℕ} 0 1 = cc in absurd (omega arith)
 
-    delete-element : (b : Bool) → (elim b as (λ x. Treatment) [ true ↦ becomes (line θ [] ∷ []) | false ↦ fully-reduced ]) ≡ becomes ls → ProperTable view n ls
+    delete-element : (b : Bool) → (elim b as (λ x. Treatment) [ true ↦ becomes (line θ [] ∷ []) | false ↦ fully-reduced ]) ≡ becomes ls → ProperTable view vars n ls
     delete-element true d = let x : ls ≡ line θ [] ∷ [] = cc in rw x ((pr, tt), tt)
     delete-element false d = let z : _≡_ {A = ℕ} 0 1 = cc in absurd (omega arith)
 
-    greater-proper : (x y : Node) → view (reach fuel view θ p) ≡ x → view (reach fuel view θ q) ≡ y → treat-greater fuel view θ p q x y ≡ becomes ls → ProperTable view n ls
+    greater-proper : (x y : Node) → view (reach fuel view θ p) ≡ x → view (reach fuel view θ q) ≡ y → treat-greater fuel view θ p q x y ≡ becomes ls → ProperTable view vars n ls
     unfolding treat-greater
     greater-proper (var-node v) y a b d = delete-line (occurs fuel view (fuel .occurs-depth) θ v q) d
     greater-proper (app-node f ps) (var-node w) a b d = delete-element (occurs fuel view (fuel .occurs-depth) θ w p) d
     greater-proper (app-node f ps) (app-node g qs) a b d = let x : ls ≡ map (line θ) (choices p q f g ps qs) = cc in
         rw x (lines-proper θ pr (choices p q f g ps qs) (choices-within n p q i j f g ps qs (λ c k. lay .argument-within _ f c ps a k) (λ c k. lay .argument-within _ g c qs b k)))
 
-  pub treat-proper : (θ : Bindings) (e : Element) (ls : List Line) → Proper view n θ → Within n e → treat fuel view θ e ≡ becomes ls → ProperTable view n ls
+  pub treat-proper : (θ : Bindings) (e : Element) (ls : List Line) → Proper view vars n θ → Within n e → treat fuel view θ e ≡ becomes ls → ProperTable view vars n ls
   unfolding treat
   treat-proper θ (equal p q) ls pr k d = equal-proper θ p q ls pr (k .0) (k .1) (unify fuel view (fuel .unify-depth) θ p q) refl d
   treat-proper θ (greater p q) ls pr k d = greater-proper θ p q ls pr (k .0) (k .1) (view (reach fuel view θ p)) (view (reach fuel view θ q)) refl refl d
 
-  pub leftmost-proper : (θ : Bindings) (es : List Element) (ls : List Line) → Proper view n θ → AllWithin n es → treat-leftmost fuel view θ es ≡ some ls → ProperTable view n ls
+  pub leftmost-proper : (θ : Bindings) (es : List Element) (ls : List Line) → Proper view vars n θ → AllWithin n es → treat-leftmost fuel view θ es ≡ some ls → ProperTable view vars n ls
   unfolding treat-leftmost
   leftmost-proper θ [] ls pr h d = let z : _≡_ {A = ℕ} 0 1 = cc in absurd (omega arith)
   leftmost-proper θ (e ∷ es) ls pr h d = go (leftmost-proper θ es) (treat fuel view θ e) refl d
     where
       IH : Type 0
-      IH = (ls : List Line) → Proper view n θ → AllWithin n es → treat-leftmost fuel view θ es ≡ some ls → ProperTable view n ls
+      IH = (ls : List Line) → Proper view vars n θ → AllWithin n es → treat-leftmost fuel view θ es ≡ some ls → ProperTable view vars n ls
 
-      later : IH → (o : Option (List Line)) → treat-leftmost fuel view θ es ≡ o → Option·map (map (in-front e)) o ≡ some ls → ProperTable view n ls
+      later : IH → (o : Option (List Line)) → treat-leftmost fuel view θ es ≡ o → Option·map (map (in-front e)) o ≡ some ls → ProperTable view vars n ls
       later ih none x d = let z : _≡_ {A = ℕ} 0 1 = cc in absurd (omega arith)
-      later ih (some ms) x d = let y : ls ≡ map (in-front e) ms = cc in rw y (proper-in-front view n e (h .0) ms (ih ms pr (h .1) x))
+      later ih (some ms) x d = let y : ls ≡ map (in-front e) ms = cc in rw y (proper-in-front view vars n e (h .0) ms (ih ms pr (h .1) x))
 
       go : IH → (t : Treatment) → treat fuel view θ e ≡ t
           → (elim t as (λ x. Option (List Line)) [ becomes ms ↦ some (map (behind es) ms) | fully-reduced ↦ Option·map (map (in-front e)) (treat-leftmost fuel view θ es) ]) ≡ some ls
-          → ProperTable view n ls
+          → ProperTable view vars n ls
       go ih fully-reduced x d = later ih (treat-leftmost fuel view θ es) refl d
-      go ih (becomes ms) x d = let y : ls ≡ map (behind es) ms = cc in rw y (proper-behind view n es (h .1) ms (treat-proper θ e ms pr (h .0) x))
+      go ih (becomes ms) x d = let y : ls ≡ map (behind es) ms = cc in rw y (proper-behind view vars n es (h .1) ms (treat-proper θ e ms pr (h .0) x))
 
-  pub turn-proper : (table new : List Line) → ProperTable view n table → turn fuel view table ≡ some new → ProperTable view n new
+  pub turn-proper : (table new : List Line) → ProperTable view vars n table → turn fuel view table ≡ some new → ProperTable view vars n new
   unfolding turn
   turn-proper [] new h d = let z : _≡_ {A = ℕ} 0 1 = cc in absurd (omega arith)
   turn-proper (line θ es ∷ ls) new h d = go (turn-proper ls) (treat-leftmost fuel view θ es) refl d
     where
       IH : Type 0
-      IH = (new : List Line) → ProperTable view n ls → turn fuel view ls ≡ some new → ProperTable view n new
+      IH = (new : List Line) → ProperTable view vars n ls → turn fuel view ls ≡ some new → ProperTable view vars n new
 
-      later : IH → (o : Option (List Line)) → turn fuel view ls ≡ o → Option·map (line θ es ∷_) o ≡ some new → ProperTable view n new
+      later : IH → (o : Option (List Line)) → turn fuel view ls ≡ o → Option·map (line θ es ∷_) o ≡ some new → ProperTable view vars n new
       later ih none x d = let z : _≡_ {A = ℕ} 0 1 = cc in absurd (omega arith)
       later ih (some ms) x d = let y : new ≡ line θ es ∷ ms = cc in rw y (h .0, ih ms (h .1) x)
 
       go : IH → (o : Option (List Line)) → treat-leftmost fuel view θ es ≡ o
-          → (elim o as (λ x. Option (List Line)) [ some ms ↦ some (ms ++ ls) | none ↦ Option·map (line θ es ∷_) (turn fuel view ls) ]) ≡ some new → ProperTable view n new
+          → (elim o as (λ x. Option (List Line)) [ some ms ↦ some (ms ++ ls) | none ↦ Option·map (line θ es ∷_) (turn fuel view ls) ]) ≡ some new → ProperTable view vars n new
       go ih none x d = later ih (turn fuel view ls) refl d
-      go ih (some ms) x d = let y : new ≡ ms ++ ls = cc in rw y (proper-append view n ms ls (leftmost-proper θ es ms (h .0 .0) (h .0 .1) x) (h .1))
+      go ih (some ms) x d = let y : new ≡ ms ++ ls = cc in rw y (proper-append view vars n ms ls (leftmost-proper θ es ms (h .0 .0) (h .0 .1) x) (h .1))

@@ -55,32 +55,32 @@ module _ {view : ℕ → Node} where
     each-extends (no-more e) = rw e (record { stay = λ v p d. d })
     each-extends (one-more u us) = let a = unified-extends u in let b = each-extends us in record { stay = λ v p e. b .stay v p (a .stay v p e) }
 
-module _ {view : ℕ → Node} {n : ℕ} (lay : Layout view n) where
-  pub reaches-within : {θ : Bindings} → Proper view n θ → {p r : ℕ} → Reaches view θ p r → p < n → r < n
+module _ {view : ℕ → Node} {vars n : ℕ} (lay : Layout view vars n) where
+  pub reaches-within : {θ : Bindings} → Proper view vars n θ → {p r : ℕ} → Reaches view θ p r → p < n → r < n
   reaches-within pr (stays e) l = l
   reaches-within {θ} pr (goes {p = p} {q = q} e k) l = let (v, d, x) = bound-variable θ (view p) q e in reaches-within pr k (pr .within v q x)
 
-  bindable-proper : {θ : Bindings} → Proper view n θ → (v s : ℕ) → Bindable view θ v s → s < n → Proper view n (bind θ v s)
+  bindable-proper : {θ : Bindings} → Proper view vars n θ → (v s : ℕ) → Bindable view θ v s → s < n → Proper view vars n (bind θ v s)
   bindable-proper pr v s b l = bind-proper lay pr v s (b .slot) (b .free) (b .up) l (b .away)
 
   mutual
-    pub unified-proper : {θ θ′ : Bindings} {p q : ℕ} → Unified view θ p q θ′ → Proper view n θ → p < n → q < n → Proper view n θ′
+    pub unified-proper : {θ θ′ : Bindings} {p q : ℕ} → Unified view θ p q θ′ → Proper view vars n θ → p < n → q < n → Proper view vars n θ′
     unified-proper (equal-variables a b x y e) pr i j = rw e pr
     unified-proper (bound-left {s = s} {v = v} a b x h e) pr i j = rw e (bindable-proper pr v s h (reaches-within pr b j))
     unified-proper (bound-right {r = r} {w = w} a b x h e) pr i j = rw e (bindable-proper pr w r h (reaches-within pr a i))
     unified-proper (symbols {r = r} {s = s} {f = f} {ps = ps} {qs = qs} a b x y us) pr i j =
         each-proper us pr (λ c k. lay .argument-within r f c ps x k) (λ c k. lay .argument-within s f c qs y k)
 
-    pub each-proper : {θ θ′ : Bindings} {ps qs : List ℕ} → EachUnified view θ ps qs θ′ → Proper view n θ → ((c : ℕ) → In c ps → c < n) → ((c : ℕ) → In c qs → c < n) → Proper view n θ′
+    pub each-proper : {θ θ′ : Bindings} {ps qs : List ℕ} → EachUnified view θ ps qs θ′ → Proper view vars n θ → ((c : ℕ) → In c ps → c < n) → ((c : ℕ) → In c qs → c < n) → Proper view vars n θ′
     each-proper (no-more e) pr i j = rw e pr
     each-proper (one-more u us) pr i j = each-proper us (unified-proper u pr (i _ head) (j _ head)) (λ c k. i c (tail k)) (λ c k. j c (tail k))
 
 -- What `unify` gives is such a unification.
-module _ {fuel : Fuel} {view : ℕ → Node} {n : ℕ} (lay : Layout view n) (suf : Sufficient n fuel) where
+module _ {fuel : Fuel} {view : ℕ → Node} {vars n : ℕ} (lay : Layout view vars n) (suf : Sufficient vars n fuel) where
   abbrev Gives : (Bindings → ℕ → ℕ → Option Bindings) → Type 0
-  Gives u = (θ θ′ : Bindings) (p q : ℕ) → Proper view n θ → p < n → q < n → u θ p q ≡ some θ′ → Unified view θ p q θ′
+  Gives u = (θ θ′ : Bindings) (p q : ℕ) → Proper view vars n θ → p < n → q < n → u θ p q ≡ some θ′ → Unified view θ p q θ′
 
-  unify-each-gives : (u : Bindings → ℕ → ℕ → Option Bindings) → Gives u → (ps qs : List ℕ) (θ θ′ : Bindings) → Proper view n θ → ((c : ℕ) → In c ps → c < n) → ((c : ℕ) → In c qs → c < n)
+  unify-each-gives : (u : Bindings → ℕ → ℕ → Option Bindings) → Gives u → (ps qs : List ℕ) (θ θ′ : Bindings) → Proper view vars n θ → ((c : ℕ) → In c ps → c < n) → ((c : ℕ) → In c qs → c < n)
       → unify-each u θ ps qs ≡ some θ′ → EachUnified view θ ps qs θ′
   unfolding unify-each
   unify-each-gives u h [] [] θ θ′ pr i j e = let x : θ′ ≡ θ = cc in no-more x
@@ -88,7 +88,7 @@ module _ {fuel : Fuel} {view : ℕ → Node} {n : ℕ} (lay : Layout view n) (su
   unify-each-gives u h (p ∷ ps) [] θ θ′ pr i j e = let z : _≡_ {A = ℕ} 0 1 = cc in absurd (omega arith)
   unify-each-gives u h (p ∷ ps) (q ∷ qs) θ θ′ pr i j e = go (λ η x. unify-each-gives u h ps qs η θ′ x (λ c k. i c (tail k)) (λ c k. j c (tail k))) (u θ p q) refl e
     where
-      go : ((η : Bindings) → Proper view n η → unify-each u η ps qs ≡ some θ′ → EachUnified view η ps qs θ′) → (o : Option Bindings) → u θ p q ≡ o
+      go : ((η : Bindings) → Proper view vars n η → unify-each u η ps qs ≡ some θ′ → EachUnified view η ps qs θ′) → (o : Option Bindings) → u θ p q ≡ o
           → (elim o as (λ x. Option Bindings) [ none ↦ none | some η ↦ unify-each u η ps qs ]) ≡ some θ′ → EachUnified view θ (p ∷ ps) (q ∷ qs) θ′
       go ih none d e = let z : _≡_ {A = ℕ} 0 1 = cc in absurd (omega arith)
       go ih (some η) d e = let a = h θ η p q pr (i p head) (j q head) d in one-more a (ih η (unified-proper lay a pr (i p head) (j q head)) e)

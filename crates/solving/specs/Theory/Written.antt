@@ -82,7 +82,7 @@ reduced-inequalities : (view : ℕ → Node) (θ : Bindings) (es : List Element)
 reduced-inequalities view θ [] h = tt
 reduced-inequalities view θ (e ∷ es) h = (reduced-inequality e (h .0), reduced-inequalities view θ es (h .1))
 
-pub written-lines : (view : ℕ → Node) (n : ℕ) (table : List Line) → ProperTable view n table → Finished view table → ShortLines table → WrittenLines n table
+pub written-lines : (view : ℕ → Node) (n : ℕ) (table : List Line) → ProperTable view variable-count n table → Finished view table → ShortLines table → WrittenLines n table
 written-lines view n [] p f s = tt
 written-lines view n (line θ es ∷ ls) p f s = (
   record {

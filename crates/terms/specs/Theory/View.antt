@@ -17,9 +17,9 @@ pub data In (c : ℕ) : List ℕ → Type 0 where
   head : {ps : List ℕ} → In c (c ∷ ps)
   tail : {p : ℕ} {ps : List ℕ} → In c ps → In c (p ∷ ps)
 
--- `n` positions, each argument behind its symbol, the variables numbered below their count.
-pub record Layout (view : ℕ → Node) (n : ℕ) : Type 0 where
-  pub variable-low : (p v : ℕ) → view p ≡ var-node v → v < variable-count
+-- `n` positions, each argument behind its symbol, the variables numbered below `vars`.
+pub record Layout (view : ℕ → Node) (vars n : ℕ) : Type 0 where
+  pub variable-low : (p v : ℕ) → view p ≡ var-node v → v < vars
   pub argument-behind : (p f c : ℕ) (ps : List ℕ) → view p ≡ app-node f ps → In c ps → p < c
   pub argument-within : (p f c : ℕ) (ps : List ℕ) → view p ≡ app-node f ps → In c ps → c < n
 
@@ -79,25 +79,28 @@ module _ (e : Equation) where
       go (var w) y x = let z : w ≡ v = cc in cc
       go (app f ts) y x = let z : _≡_ {A = ℕ} 0 1 = cc in absurd (omega arith)
 
-  -- The positions of an equation within the limits.
-  variables-below : WithinLimits e → (p : ℕ) → VariablesBelow variable-count (term-at e p)
+  -- The positions of an equation whose variables are numbered below `vars`.
+  variables-below : (vars : ℕ) → 0 < vars → VariablesBelow vars (e .left) → VariablesBelow vars (e .right) → (p : ℕ) → VariablesBelow vars (term-at e p)
   unfolding term-at
-  variables-below w p =
-      let a = subterms-below variable-count (e .left) (w .left-variables) in
-      let b = subterms-below variable-count (e .right) (w .right-variables) in
-      every-getD (VariablesBelow variable-count) (all-subterms e) p (var 0) (every-append (VariablesBelow variable-count) (subterms (e .left)) (subterms (e .right)) a b) (omega arith)
+  variables-below vars some l r p =
+      let a = subterms-below vars (e .left) l in
+      let b = subterms-below vars (e .right) r in
+      every-getD (VariablesBelow vars) (all-subterms e) p (var 0) (every-append (VariablesBelow vars) (subterms (e .left)) (subterms (e .right)) a b) some
 
-  pub layout : WithinLimits e → Layout (view e) (positions e)
-  layout w = record { variable-low = low; argument-behind = λ p f c ps x i. range p f c ps x i .0; argument-within = λ p f c ps x i. range p f c ps x i .1 }
+  pub layout-below : (vars : ℕ) → 0 < vars → VariablesBelow vars (e .left) → VariablesBelow vars (e .right) → Layout (view e) vars (positions e)
+  layout-below vars some l r = record { variable-low = low; argument-behind = λ p f c ps x i. range p f c ps x i .0; argument-within = λ p f c ps x i. range p f c ps x i .1 }
     where
-      low : (p v : ℕ) → view e p ≡ var-node v → v < variable-count
-      low p v x = rw (variable-at p v x) at (variables-below w p)
+      low : (p v : ℕ) → view e p ≡ var-node v → v < vars
+      low p v x = rw (variable-at p v x) at (variables-below vars some l r p)
 
       range : (p f c : ℕ) (ps : List ℕ) → view e p ≡ app-node f ps → In c ps → (p < c) × (c < positions e)
       range p f c ps x i =
           let (ts, y, z) = symbol-at p f ps x in
           let (a, b) = starts-range e ts (p + 1) c (arguments-at e p f ts y) (rw z at i) in
           (omega arith, b)
+
+  pub layout : WithinLimits e → Layout (view e) variable-count (positions e)
+  layout w = layout-below variable-count (omega arith) (w .left-variables) (w .right-variables)
 
   -- At any values the instances are a model.
   pub model : (ρ : Values) → Model (view e) ρ (value e ρ)

@@ -99,7 +99,7 @@ module _ {nodes sizes : List ℕ} (l : Stored) (s : Sound nodes sizes l) (pre : 
   Fitting [] = Unit {0}
   Fitting (cs ∷ css) = (length pre + (length cs + length post) ≤ max-elements) × Fitting css
 
-  lines-sound : AllReduced nodes sizes (l .bindings) pre → (css : List (List Element)) → ProperTable (view-of nodes sizes) (length nodes) (map (line (bindings-of (l .bindings))) css) → Fitting css
+  lines-sound : AllReduced nodes sizes (l .bindings) pre → (css : List (List Element)) → ProperTable (view-of nodes sizes) variable-count (length nodes) (map (line (bindings-of (l .bindings))) css) → Fitting css
       → AllSound nodes sizes (map (child (l .bindings) pre post) css)
   lines-sound r [] p f = tt
   lines-sound r (cs ∷ css) p f = (child-sound r cs (p .0 .1) (f .0), lines-sound r css (p .1) (f .1))

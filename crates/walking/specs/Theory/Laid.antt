@@ -124,7 +124,7 @@ module _ {nodes sizes : List ℕ} (laid : Laid nodes sizes) where
           let e = past-end nodes sizes p (omega arith) in
           (omega arith, omega arith)
 
-  pub laid-layout : Layout (view-of nodes sizes) (length nodes)
+  pub laid-layout : Layout (view-of nodes sizes) variable-count (length nodes)
   laid-layout = record {
     variable-low = λ p v x. seen-variable p v x .1;
     argument-behind = λ p f c ps x i. let (l, a, h, b, r) = seen-symbol p f ps x in omega (arith, row-start r i);

@@ -45,7 +45,7 @@ pub data Visited (bs : List ℕ) (p : ℕ) (met : List ℕ) (q : ℕ) : Type 0 w
 -- The free variable `v` is looked for.
 pub record Sought (nodes sizes bs : List ℕ) (v : ℕ) : Type 0 where
   pub laid : Laid nodes sizes
-  pub proper : Proper (view-of nodes sizes) (length nodes) (bindings-of bs)
+  pub proper : Proper (view-of nodes sizes) variable-count (length nodes) (bindings-of bs)
   pub free : lookup (bindings-of bs) v ≡ none
 
 abbrev OccursAt : (nodes sizes bs : List ℕ) → ℕ → ℕ → Type 0

@@ -14,7 +14,7 @@ use Rattle.format.specs.declared.refusal.Refusal.{Refusal}
 use Rattle.format.specs.declared.refusal.Refusal.the-variants.{TooManyTurns as too-many-turns, TooManyElements as too-many-elements, TooManyLines as too-many-lines}
 use Rattle.terms.specs.Position.{Node}
 use Rattle.solving.specs.Line.{Bindings, Element, Line, line}
-use Rattle.solving.specs.Walk.{Fuel, enough, Treatment, fully-reduced, becomes, in-front, behind, treat, treat-leftmost, treat-line, turn, crowded, over-limit, Walked, solved, refused, walk-from}
+use Rattle.solving.specs.Walk.{Fuel, enough, Treatment, fully-reduced, becomes, in-front, behind, treat, treat-leftmost, treat-line, turn, crowded, over-limit, Walked, solved, refused, walk-until, walk-from}
 
 -- The line with the elements `pre` to the left and `post` to the right.
 unfoldable pub around : (pre post : List Element) → Line → Line
@@ -111,18 +111,18 @@ within-limits table h l = rw (h, le-ltb max-lines (length table) l, over-limit)
 module _ (view : ℕ → Node) (table : List Line) (taken : ℕ) where
   pub walk-ends : (left : ℕ) → turn enough view table ≡ none → walk-from enough view left taken table ≡ solved table taken
   unfolding walk-from
-  walk-ends zero h = rw (h, walk-from)
-  walk-ends (suc left) h = rw (h, walk-from)
+  walk-ends zero h = rw (h, walk-from, walk-until)
+  walk-ends (suc left) h = rw (h, walk-from, walk-until)
 
   module _ (new : List Line) (h : turn enough view table ≡ some new) where
     pub walk-too-long : walk-from enough view 0 taken table ≡ refused too-many-turns
     unfolding walk-from
-    walk-too-long = rw (h, walk-from)
+    walk-too-long = rw (h, walk-from, walk-until)
 
     pub walk-over : (left : ℕ) (r : Refusal) → over-limit new ≡ some r → walk-from enough view (suc left) taken table ≡ refused r
     unfolding walk-from
-    walk-over left r x = rw (h, x, walk-from)
+    walk-over left r x = rw (h, x, walk-from, walk-until)
 
     pub walk-on : (left : ℕ) → over-limit new ≡ none → walk-from enough view (suc left) taken table ≡ walk-from enough view left (suc taken) new
     unfolding walk-from
-    walk-on left x = rw (h, x, walk-from)
+    walk-on left x = rw (h, x, walk-from, walk-until)

@@ -1,6 +1,7 @@
 -- `calls::compare::compare_terms` gives the verdict of the two terms that the digits write.
 use mathlib.Core.Path.{refl}
 use borrow.Author.Needs.{needs}
+use Rattle.comparing.specs.Theory.Ready.{symbols-zero}
 use Rattle.calls.specs.Theory.Arities.{symbols-room, symbols-taken}
 use Rattle.calls.specs.Theory.Compare.{pair-taken}
 use Rattle.calls.proofs.compare.compare_terms.Statement.{statement}
@@ -15,20 +16,20 @@ slice-aggregate-store c = let pre = c .before .before .before .before .pre in sy
 store-requires : tie.Need-store-requires
 store-requires c κs =
     let pre = c .before .before .before .before .before .before .pre in
-    (record { first = pre .0 .first; second = pre .0 .second; is = pair-taken (pre .1) (pre .0 .is) }, (refl, refl))
+    (record { first = pre .0 .first; second = pre .0 .second; is = pair-taken (pre .1) (pre .0 .is) }, (refl, refl, symbols-zero 224))
 
 compare-stored-requires : tie.Need-compare-stored-requires
 compare-stored-requires c κs =
     let pre = c .before .before .before .before .before .before .before .before .before .before .before .before .pre in
     let store = c .before .before .before .before .before .store in
-    ((store .kept .1 .1 .1 .1 .0, store .kept .1 .1 .1 .1 .1 .0, pre .2), (pre .0 .first, pre .0 .second, store .ensures _ _ (pair-taken (pre .1) (pre .0 .is))))
+    ((store .kept .1 .1 .1 .1 .0, store .kept .1 .1 .1 .1 .1 .0, pre .2, store .ensures .0), (pre .0 .first, pre .0 .second, store .ensures .1 _ _ (pair-taken (pre .1) (pre .0 .is))))
 
 returns : tie.Need-returns
 returns c =
     let pre = c .before .before .before .before .before .before .before .before .before .before .before .before .before .before .before .pre in
     let store = c .before .before .before .before .before .before .before .before .store in
     let compared = c .before .before .compare-stored in
-    (λ s t p. compared .ensures .0 s t (store .ensures s t (pair-taken (pre .1) p)), compared .ensures .1)
+    (λ s t p. compared .ensures .0 s t (store .ensures .1 s t (pair-taken (pre .1) p)), compared .ensures .1)
 
 pub compare-terms-spec : {M : Type 1} → statement M
 compare-terms-spec =

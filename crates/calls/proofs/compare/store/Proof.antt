@@ -1,9 +1,11 @@
 -- `calls::compare::store` leaves the two terms of the task in the nodes.
-use Prim.Native.Nat.{_+_}
+use Prim.Native.Nat.{_+_, _-_}
+use lib.ListN.{length, drop}
 use mathlib.Core.Path.{ap, _∙_}
 use native.Mathlib.Omega.{arith}
 use borrow.Author.Needs.{needs}
-use Rattle.calls.specs.Theory.Compare.{placed, pair-few, pair-measurable, pair-stands}
+use Rattle.comparing.specs.Theory.Ready.{symbols-drop, symbols-take}
+use Rattle.calls.specs.Theory.Compare.{placed, placed-symbols, pair-few, pair-symbols, pair-measurable, pair-stands}
 use Rattle.calls.proofs.compare.store.Statement.{statement}
 use Rattle.calls.proofs.compare.store.Tie as tie
 
@@ -31,10 +33,15 @@ add-result c = omega (arith, c .wide .ensures .0, c .before .slice-known5 .given
 
 returns : tie.Need-returns
 returns c =
-    λ s t p.
     let start = c .before .before .before .before .before .before .before .before .before .before .before .before .before .before .before in
-    let decoded = c .before .before .before .before .before .before .before .before .before .decode .ensures _ (p .spans) in
-    pair-stands p _ (start .args .sizes .now) _ _ _ _ (placed (start .args .nodes .now) _ _ _ _ (omega (arith, start .pre .1 .0)) (decoded .1)) (decoded .0) (omega (arith, start .pre .1 .1)) (c .before .before .before .before .measure .ensures) (ap (64 +_) (c .wide .ensures .0))
+    let decode = c .before .before .before .before .before .before .before .before .before .decode in
+    let nodes = start .args .nodes .now in
+    let symbols = start .pre .1 .2 in (
+      placed-symbols nodes _ _ _ _ symbols (pair-symbols (start .pre .0 .is)) (symbols-take (length nodes - 64) (drop 64 nodes) (symbols-drop 64 nodes symbols)) (symbols-drop (length nodes - 64) (drop 64 nodes) (symbols-drop 64 nodes symbols)) (decode .ensures _ (start .pre .0 .is .spans) .1),
+      λ s t p.
+          let decoded = decode .ensures _ (p .spans) in
+          pair-stands p _ (start .args .sizes .now) _ _ _ _ (placed (start .args .nodes .now) _ _ _ _ (omega (arith, start .pre .1 .0)) (decoded .1)) (decoded .0) (omega (arith, start .pre .1 .1)) (c .before .before .before .before .measure .ensures) (ap (64 +_) (c .wide .ensures .0)),
+    )
 
 pub store-spec : {M : Type 1} → statement M
 store-spec =

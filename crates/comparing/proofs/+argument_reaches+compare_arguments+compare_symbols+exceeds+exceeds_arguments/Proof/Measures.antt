@@ -20,93 +20,94 @@ use Rattle.comparing.proofs.exceeds_arguments.Reads as exceeds-argument
 use Rattle.comparing.proofs.exceeds_arguments.Kinds as exceeds-arguments-kinds
 use Rattle.comparing.proofs.+argument_reaches+compare_arguments+compare_symbols+exceeds+exceeds_arguments.Lts-exceeds_arguments as exceeds-arguments-lts
 use Rattle.comparing.proofs.greater_if.Reads as greater-if-reads
+use Rattle.comparing.proofs.open_row.Reads as open-row-reads
 use Rattle.comparing.proofs.resolve.Reads as resolve-reads
 use Rattle.comparing.proofs.settle.Reads as settle-reads
 use Rattle.comparing.proofs.wide.Reads as wide-reads
 
-abbrev pub μ-argument-reaches : Measures 4 argument-reaches-kinds.ps ℕ
-μ-argument-reaches κs a = (row-weight (a .0 .now) (a .1 .0 .now) (a .1 .1 .0 .now) (a .1 .1 .1 .1 .0) (a .1 .1 .1 .1 .1 .0) + term-weight (a .0 .now) (a .1 .0 .now) (a .1 .1 .0 .now) (a .1 .1 .1 .1 .1 .1 .0)) * 4 + 3
+abbrev pub μ-argument-reaches : Measures 5 argument-reaches-kinds.ps ℕ
+μ-argument-reaches κs a = (row-weight (a .0 .now) (a .1 .0 .now) (a .1 .1 .0 .now) (a .1 .1 .1 .1 .1 .0) (a .1 .1 .1 .1 .1 .1 .0) + term-weight (a .0 .now) (a .1 .0 .now) (a .1 .1 .0 .now) (a .1 .1 .1 .1 .1 .1 .1 .0)) * 4 + 3
 
-abbrev pub μ-compare-arguments : Measures 4 compare-arguments-kinds.ps ℕ
-μ-compare-arguments κs a = (term-weight (a .0 .now) (a .1 .0 .now) (a .1 .1 .0 .now) (a .1 .1 .1 .1 .0) + term-weight (a .0 .now) (a .1 .0 .now) (a .1 .1 .0 .now) (a .1 .1 .1 .1 .1 .0)) * 4
+abbrev pub μ-compare-arguments : Measures 5 compare-arguments-kinds.ps ℕ
+μ-compare-arguments κs a = (term-weight (a .0 .now) (a .1 .0 .now) (a .1 .1 .0 .now) (a .1 .1 .1 .1 .1 .0) + term-weight (a .0 .now) (a .1 .0 .now) (a .1 .1 .0 .now) (a .1 .1 .1 .1 .1 .1 .0)) * 4
 
-abbrev pub μ-compare-symbols : Measures 4 compare-symbols-kinds.ps ℕ
-μ-compare-symbols κs a = (term-weight (a .0 .now) (a .1 .0 .now) (a .1 .1 .0 .now) (a .1 .1 .1 .1 .0) + term-weight (a .0 .now) (a .1 .0 .now) (a .1 .1 .0 .now) (a .1 .1 .1 .1 .1 .0)) * 4 + 1
+abbrev pub μ-compare-symbols : Measures 5 compare-symbols-kinds.ps ℕ
+μ-compare-symbols κs a = (term-weight (a .0 .now) (a .1 .0 .now) (a .1 .1 .0 .now) (a .1 .1 .1 .1 .1 .0) + term-weight (a .0 .now) (a .1 .0 .now) (a .1 .1 .0 .now) (a .1 .1 .1 .1 .1 .1 .0)) * 4 + 1
 
-abbrev pub μ-exceeds : Measures 4 exceeds-kinds.ps ℕ
-μ-exceeds κs a = (term-weight (a .0 .now) (a .1 .0 .now) (a .1 .1 .0 .now) (a .1 .1 .1 .1 .0) + term-weight (a .0 .now) (a .1 .0 .now) (a .1 .1 .0 .now) (a .1 .1 .1 .1 .1 .0)) * 4 + 2
+abbrev pub μ-exceeds : Measures 5 exceeds-kinds.ps ℕ
+μ-exceeds κs a = (term-weight (a .0 .now) (a .1 .0 .now) (a .1 .1 .0 .now) (a .1 .1 .1 .1 .1 .0) + term-weight (a .0 .now) (a .1 .0 .now) (a .1 .1 .0 .now) (a .1 .1 .1 .1 .1 .1 .0)) * 4 + 2
 
-abbrev pub μ-exceeds-arguments : Measures 4 exceeds-arguments-kinds.ps ℕ
-μ-exceeds-arguments κs a = (term-weight (a .0 .now) (a .1 .0 .now) (a .1 .1 .0 .now) (a .1 .1 .1 .1 .0) + row-weight (a .0 .now) (a .1 .0 .now) (a .1 .1 .0 .now) (a .1 .1 .1 .1 .1 .0) (a .1 .1 .1 .1 .1 .1 .0)) * 4 + 3
+abbrev pub μ-exceeds-arguments : Measures 5 exceeds-arguments-kinds.ps ℕ
+μ-exceeds-arguments κs a = (term-weight (a .0 .now) (a .1 .0 .now) (a .1 .1 .0 .now) (a .1 .1 .1 .1 .1 .0) + row-weight (a .0 .now) (a .1 .0 .now) (a .1 .1 .0 .now) (a .1 .1 .1 .1 .1 .1 .0) (a .1 .1 .1 .1 .1 .1 .1 .0)) * 4 + 3
 
-abbrev pub argument-reaches-at : ℕ → In 4 argument-reaches-kinds.ps
+abbrev pub argument-reaches-at : ℕ → In 5 argument-reaches-kinds.ps
 argument-reaches-at t =
     and
-    4
+    5
     argument-reaches-kinds.ps
-    (is 4 argument-reaches-kinds.ps μ-argument-reaches t)
+    (is 5 argument-reaches-kinds.ps μ-argument-reaches t)
     argument-reaches.Pre
 
-abbrev pub argument-reaches-below : ℕ → In 4 argument-reaches-kinds.ps
+abbrev pub argument-reaches-below : ℕ → In 5 argument-reaches-kinds.ps
 argument-reaches-below t =
     and
-    4
+    5
     argument-reaches-kinds.ps
-    (falls 4 argument-reaches-kinds.ps _<_ μ-argument-reaches t)
+    (falls 5 argument-reaches-kinds.ps _<_ μ-argument-reaches t)
     argument-reaches.Pre
 
-abbrev pub compare-arguments-at : ℕ → In 4 compare-arguments-kinds.ps
+abbrev pub compare-arguments-at : ℕ → In 5 compare-arguments-kinds.ps
 compare-arguments-at t =
     and
-    4
+    5
     compare-arguments-kinds.ps
-    (is 4 compare-arguments-kinds.ps μ-compare-arguments t)
+    (is 5 compare-arguments-kinds.ps μ-compare-arguments t)
     compare-arguments.Pre
 
-abbrev pub compare-arguments-below : ℕ → In 4 compare-arguments-kinds.ps
+abbrev pub compare-arguments-below : ℕ → In 5 compare-arguments-kinds.ps
 compare-arguments-below t =
     and
-    4
+    5
     compare-arguments-kinds.ps
-    (falls 4 compare-arguments-kinds.ps _<_ μ-compare-arguments t)
+    (falls 5 compare-arguments-kinds.ps _<_ μ-compare-arguments t)
     compare-arguments.Pre
 
-abbrev pub compare-symbols-at : ℕ → In 4 compare-symbols-kinds.ps
+abbrev pub compare-symbols-at : ℕ → In 5 compare-symbols-kinds.ps
 compare-symbols-at t =
     and
-    4
+    5
     compare-symbols-kinds.ps
-    (is 4 compare-symbols-kinds.ps μ-compare-symbols t)
+    (is 5 compare-symbols-kinds.ps μ-compare-symbols t)
     compare-symbols.Pre
 
-abbrev pub compare-symbols-below : ℕ → In 4 compare-symbols-kinds.ps
+abbrev pub compare-symbols-below : ℕ → In 5 compare-symbols-kinds.ps
 compare-symbols-below t =
     and
-    4
+    5
     compare-symbols-kinds.ps
-    (falls 4 compare-symbols-kinds.ps _<_ μ-compare-symbols t)
+    (falls 5 compare-symbols-kinds.ps _<_ μ-compare-symbols t)
     compare-symbols.Pre
 
-abbrev pub exceeds-at : ℕ → In 4 exceeds-kinds.ps
-exceeds-at t = and 4 exceeds-kinds.ps (is 4 exceeds-kinds.ps μ-exceeds t) exceeds.Pre
+abbrev pub exceeds-at : ℕ → In 5 exceeds-kinds.ps
+exceeds-at t = and 5 exceeds-kinds.ps (is 5 exceeds-kinds.ps μ-exceeds t) exceeds.Pre
 
-abbrev pub exceeds-below : ℕ → In 4 exceeds-kinds.ps
-exceeds-below t = and 4 exceeds-kinds.ps (falls 4 exceeds-kinds.ps _<_ μ-exceeds t) exceeds.Pre
+abbrev pub exceeds-below : ℕ → In 5 exceeds-kinds.ps
+exceeds-below t = and 5 exceeds-kinds.ps (falls 5 exceeds-kinds.ps _<_ μ-exceeds t) exceeds.Pre
 
-abbrev pub exceeds-arguments-at : ℕ → In 4 exceeds-arguments-kinds.ps
+abbrev pub exceeds-arguments-at : ℕ → In 5 exceeds-arguments-kinds.ps
 exceeds-arguments-at t =
     and
-    4
+    5
     exceeds-arguments-kinds.ps
-    (is 4 exceeds-arguments-kinds.ps μ-exceeds-arguments t)
+    (is 5 exceeds-arguments-kinds.ps μ-exceeds-arguments t)
     exceeds-arguments.Pre
 
-abbrev pub exceeds-arguments-below : ℕ → In 4 exceeds-arguments-kinds.ps
+abbrev pub exceeds-arguments-below : ℕ → In 5 exceeds-arguments-kinds.ps
 exceeds-arguments-below t =
     and
-    4
+    5
     exceeds-arguments-kinds.ps
-    (falls 4 exceeds-arguments-kinds.ps _<_ μ-exceeds-arguments t)
+    (falls 5 exceeds-arguments-kinds.ps _<_ μ-exceeds-arguments t)
     exceeds-arguments.Pre
 
 abbrev pub argument-reaches-calls : ℕ → argument-reaches-lts.Claims
@@ -119,7 +120,7 @@ abbrev pub compare-symbols-calls : ℕ → compare-symbols-lts.Claims
 compare-symbols-calls t = (wide-reads.Asked, wide-reads.Learnt, argument-reaches-below t, argument-reaches.Post, greater-if-reads.Asked, greater-if-reads.Learnt, exceeds-arguments-below t, exceeds-arguments.Post, compare-arguments-below t, compare-arguments.Post)
 
 abbrev pub exceeds-calls : ℕ → exceeds-lts.Claims
-exceeds-calls t = (resolve-reads.Asked, resolve-reads.Learnt, compare-symbols-below t, compare-symbols.Post, settle-reads.Asked, settle-reads.Learnt)
+exceeds-calls t = (resolve-reads.Asked, resolve-reads.Learnt, open-row-reads.Asked, open-row-reads.Learnt, compare-symbols-below t, compare-symbols.Post, settle-reads.Asked, settle-reads.Learnt)
 
 abbrev pub exceeds-arguments-calls : ℕ → exceeds-arguments-lts.Claims
 exceeds-arguments-calls t = (exceeds-below t, exceeds.Post, wide-reads.Asked, wide-reads.Learnt)
