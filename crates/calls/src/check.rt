@@ -1,9 +1,9 @@
 // Check: what the sheet earns.
-use crate::number::refusal_number;
-use sheet::read::Reading;
-use sheet::read::read_sheet;
+use answers::number::refusal_number;
+use reading::read::Reading;
+use reading::read::read_sheet;
 ghost use mathlib.Core.Path.{_≡_};
-ghost use Rattle.calls.specs.Outcome.{check-call};
+ghost use Rattle.outcomes.specs.Outcome.{check-call};
 
 // The refusal and its line, or 0.
 #[no_mangle]

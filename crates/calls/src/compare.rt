@@ -1,117 +1,12 @@
 // Compare: the verdict of a task of two ground terms.
-use crate::buffer::fill;
-use crate::number::refusal_number;
-use comparing::CELLS;
-use comparing::SUBJECT;
-use comparing::exceeds;
-use comparing::measure;
-use format::byte::wide;
+use answers::compare::compare_task;
+use answers::number::refusal_number;
 use format::limits::Limits;
 use format::refusal::Refusal;
-use sheet::known::Known;
-use sheet::read::Reading;
-use sheet::read::read_sheet;
-use sheet::seek::TaskHead;
-use sheet::seek::decode;
-use sheet::seek::find_task;
+use reading::read::Reading;
+use reading::read::read_sheet;
 ghost use mathlib.Core.Path.{_≡_};
-ghost use mathlib.Core.Bool.{true};
-ghost use Prim.Native.Nat.{_≤_};
-ghost use lib.ListN.{length};
-ghost use Rattle.format.specs.Limits.{scratch-bytes};
-ghost use Rattle.terms.specs.Term.{Term};
-ghost use Rattle.ordering.specs.Verdict.{verdict, verdict-number};
-ghost use Rattle.comparing.specs.Nodes.{node-count};
-ghost use Rattle.comparing.specs.Ready.{AllSymbols};
-ghost use Rattle.sheet.specs.Seek.{Accepts};
-ghost use Rattle.sheet.specs.Scan.{known-arities};
-ghost use Rattle.sheet.specs.Reader.{Roomy};
-ghost use Rattle.calls.specs.Buffer.{cleared};
-ghost use Rattle.calls.specs.Asked.{asked, comparison-task};
-ghost use Rattle.calls.specs.Outcome.{compare-answer, compare-call};
-ghost use Rattle.calls.specs.Comparison.{HasPair, PairIs, TwoAt};
-
-// Stores two terms as nodes of the subject, with their sizes; the second term's first node.
-fn store(
-    sheet: &[u8],
-    from: usize,
-    end: usize,
-    arities: &[u8],
-    nodes: &mut [u8],
-    sizes: &mut [u8],
-) -> usize
-    requires { ⌜ HasPair (now sheet) (now arities) from end ⌝ }
-    requires { ⌜ (length (now nodes) ≡ node-count) × (length (now sizes) ≡ node-count) × AllSymbols (now nodes) ⌝ }
-    ensures { λ _. ⌜ AllSymbols (now (nodes .exit)) ⌝ }
-    ensures { λ r. ⌜ ((s t : Term) → PairIs (now (sheet .entry)) (now (arities .entry)) from end s t → TwoAt (now (nodes .exit)) (now (sizes .exit)) s t r) ⌝ }
-{
-    let n = decode(sheet, from, end, &mut nodes[SUBJECT..]);
-    measure(nodes, arities, sizes, SUBJECT, SUBJECT + n);
-    SUBJECT + wide(sizes[SUBJECT])
-}
-
-// The verdict of two terms that are stored. The cells stand first in scratch. No row of them counts before, and all of scratch is cleared behind.
-fn compare_stored(nodes: &[u8], sizes: &[u8], scratch: &mut [u8], second: usize) -> u8
-    requires { ⌜ (length (now nodes) ≡ node-count) × (length (now sizes) ≡ node-count) × (scratch-bytes ≤ length (now scratch)) × AllSymbols (now nodes) ⌝ }
-    requires { ⌜ ((s : Term) × (t : Term) × TwoAt (now nodes) (now sizes) s t second) ⌝ }
-    ensures { λ r. ⌜ ((s t : Term) → TwoAt (now (nodes .entry)) (now (sizes .entry)) s t second → r ≡ verdict-number (verdict s t)) ⌝ }
-    ensures { λ _. ⌜ now (scratch .exit) ≡ cleared (now (scratch .entry)) ⌝ }
-{
-    // Ground terms have no variables whose values are asked for.
-    let values = [0u8; 8];
-    let mut ready = [0u8; 224];
-    let verdict = exceeds(
-        nodes,
-        sizes,
-        &values,
-        &mut ready,
-        &mut scratch[..CELLS],
-        SUBJECT,
-        second,
-    );
-    fill(scratch, Limits::SCRATCH, 0);
-    verdict
-}
-
-// The verdict of the two terms that the digits from `from` to `end` write.
-fn compare_terms(sheet: &[u8], known: Known, from: usize, end: usize, scratch: &mut [u8]) -> u8
-    requires { ⌜ HasPair (now sheet) (known-arities known) from end × Roomy known × (scratch-bytes ≤ length (now scratch)) ⌝ }
-    ensures { λ r. ⌜ ((s t : Term) → PairIs (now (sheet .entry)) (known-arities known) from end s t → r ≡ verdict-number (verdict s t)) ⌝ }
-    ensures { λ _. ⌜ now (scratch .exit) ≡ cleared (now (scratch .entry)) ⌝ }
-{
-    let mut nodes = [0u8; 224];
-    let mut sizes = [0u8; 224];
-    let arities = known.arities;
-    let second = store(
-        sheet,
-        from,
-        end,
-        &arities[..known.symbols],
-        &mut nodes,
-        &mut sizes,
-    );
-    compare_stored(&nodes, &sizes, scratch, second)
-}
-
-// Compare on an accepted sheet.
-fn compare_task(sheet: &[u8], known: Known, task: u64, scratch: &mut [u8]) -> u64
-    requires { ⌜ Accepts (now sheet) known × (scratch-bytes ≤ length (now scratch)) ⌝ }
-    ensures { λ r. ⌜ compare-answer (now (scratch .entry)) (asked true (now (sheet .entry)) (comparison-task task)) ≡ record { returned = r; scratch = now (scratch .exit) } ⌝ }
-{
-    if known.tasks as u64 <= task {
-        return refusal_number(Refusal::AbsentArgument, 0);
-    }
-    let found = find_task(sheet, known, task as usize);
-    let head = found.head;
-    match head {
-        TaskHead::Comparison => {
-            let verdict = compare_terms(sheet, known, found.from, found.end, scratch);
-            256 * (verdict as u64)
-        }
-        TaskHead::Run(_) => refusal_number(Refusal::AbsentArgument, 0),
-        TaskHead::Judgement(_, _) => refusal_number(Refusal::AbsentArgument, 0),
-    }
-}
+ghost use Rattle.outcomes.specs.Outcome.{compare-call};
 
 // 0 smaller, 1 equal, 2 greater, above the refusal's byte; scratch's first bytes are left 00, and as they were where the call is refused.
 #[no_mangle]

@@ -1,6 +1,4 @@
 // The calls for a marking host written in C. Each is lent the whole sheet and reads it afresh; nothing is kept between calls.
-pub mod buffer;
 pub mod check;
 pub mod compare;
-pub mod number;
 pub mod solve;

@@ -12,7 +12,7 @@ use Rattle.ordering.specs.Verdict.{verdict, verdict-number}
 use Rattle.solving.specs.Walk.{solve}
 use Rattle.sheet.specs.Text.{LF, bytes-of}
 use Rattle.sheet.specs.Frame.{first-term}
-use Rattle.examiner.specs.Listing.{printed, table-frames, listing}
+use Rattle.listing.specs.Listing.{printed, table-frames, listing}
 use Rattle.cases.specs.Cases.{Case, lists, compares, solves, cases}
 
 -- The bytes of a text, and of lines of it.

@@ -7,11 +7,11 @@ use native.Mathlib.Decide.{ℕ-discrete}
 use native.Mathlib.Omega.{arith}
 use lib.ListN.{length, getD, set, length-set}
 use lib.Seq.{getD-set-same, getD-set-other}
-use Rattle.format.specs.Limits.{position-count}
+use Rattle.format.specs.Limits.{position-count, node-count, cell-count}
 use Rattle.terms.specs.Term.{Term}
 use Rattle.ordering.specs.Verdict.{Verdict, smaller, equal, greater, verdict, verdict-number}
-use Rattle.comparing.specs.Nodes.{node-count, cell-count, TermAt, Memory}
-use Rattle.comparing.specs.Comparing.{resolved, Compares}
+use Rattle.comparing.specs.Contracts.Nodes.{TermAt, Memory}
+use Rattle.comparing.specs.Contracts.Comparing.{resolved, Compares}
 use Rattle.comparing.specs.Theory.Nodes.{within}
 use Rattle.comparing.proofs.Resolved.{resolved-node}
 

@@ -6,5 +6,3 @@ pub mod Rules
 pub mod Cells
 pub mod Opened
 pub mod Pair
-pub mod Added
-pub mod Filled

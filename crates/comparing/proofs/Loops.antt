@@ -5,9 +5,9 @@ use mathlib.Core.Bool.{Bool}
 use mathlib.Core.List.{List}
 use native.Mathlib.Omega.{arith}
 use lib.ListN.{getD}
-use Rattle.format.specs.Limits.{position-count}
-use Rattle.comparing.specs.Nodes.{node-count, Memory}
-use Rattle.comparing.specs.Comparing.{HasTerm, HasTerms, Compares, FindsReaching, ComparesWithAll}
+use Rattle.format.specs.Limits.{position-count, node-count}
+use Rattle.comparing.specs.Contracts.Nodes.{Memory}
+use Rattle.comparing.specs.Contracts.Comparing.{HasTerm, HasTerms, Compares, FindsReaching, ComparesWithAll}
 use Rattle.comparing.specs.Theory.Nodes.{row-first, some-node, within, ends-within}
 use Rattle.comparing.proofs.Weight.{term-weight, row-weight}
 use Rattle.comparing.proofs.Rows.{HasLists, ComparesLists, lighter, reaching-others, all-others, other-lists, lists-equal}

@@ -7,8 +7,8 @@ use native.Mathlib.Decide.{ℕ-discrete, decLt}
 use native.Mathlib.Omega.{arith}
 use lib.ListN.{length, getD, set, length-set}
 use lib.Seq.{getD-set-same, getD-set-other}
-use Rattle.comparing.specs.Nodes.{node-count}
-use Rattle.comparing.specs.Ready.{Cleared, Opened}
+use Rattle.format.specs.Limits.{node-count}
+use Rattle.comparing.specs.Contracts.Ready.{Cleared, Opened}
 
 pub cleared-none : (cells : List ℕ) (from : ℕ) → Cleared cells from from cells
 cleared-none cells from = record { same-length = refl; inside = λ k h l. absurd (omega arith); below = λ k h. refl; above = λ k h. refl }

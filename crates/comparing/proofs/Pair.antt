@@ -4,12 +4,12 @@ use mathlib.Core.Path.{_≡_, refl, sym, ap, subst, _∙_}
 use mathlib.Core.List.{List}
 use native.Mathlib.Omega.{arith}
 use lib.ListN.{getD, set}
-use Rattle.format.specs.Limits.{first-variable, position-count}
+use Rattle.format.specs.Limits.{first-variable, position-count, node-count}
 use Rattle.terms.specs.Term.{app, nil, size, sizes}
 use Rattle.terms.specs.Theory.Append.{append}
 use Rattle.ordering.specs.Verdict.{verdict}
-use Rattle.comparing.specs.Nodes.{node-count, Memory}
-use Rattle.comparing.specs.Comparing.{resolved, HasTerm, HasTerms, Compares}
+use Rattle.comparing.specs.Contracts.Nodes.{Memory}
+use Rattle.comparing.specs.Contracts.Comparing.{resolved, HasTerm, HasTerms, Compares}
 use Rattle.comparing.specs.Theory.Nodes.{within, ends-within, symbol-at}
 use Rattle.comparing.proofs.Weight.{term-weight, row-weight, term-weighs, row-weighs}
 use Rattle.comparing.proofs.Resolved.{resolved-symbol, resolved-node}

@@ -10,8 +10,8 @@ use borrow.Author.Tests.{lt-ltb, le-ltb, ltb-true, ltb-false}
 use Rattle.format.specs.Limits.{first-variable, variable-count}
 use Rattle.format.specs.Theory.Byte.{class-symbol, class-variable}
 use Rattle.terms.specs.Term.{Term}
-use Rattle.comparing.specs.Nodes.{symbol-node, variable-node, TermAt}
-use Rattle.comparing.specs.Comparing.{resolved}
+use Rattle.comparing.specs.Contracts.Nodes.{symbol-node, variable-node, TermAt}
+use Rattle.comparing.specs.Contracts.Comparing.{resolved}
 use Rattle.comparing.specs.Theory.Nodes.{ground-stands, ground-symbol, value-at}
 
 pub resolved-symbol : (nodes values : List ℕ) (i : ℕ) → getD nodes i 0 < first-variable → resolved nodes values i ≡ i

@@ -13,8 +13,8 @@ use Rattle.ordering.specs.Order.{_≻_, SomeReaches, there, ExceedsAll, none, m
 use Rattle.ordering.specs.Verdict.{verdict, verdict-number}
 use Rattle.ordering.specs.Theory.Laws.{≻-irrefl}
 use Rattle.ordering.specs.Theory.Question.{greater-argument, smaller-argument, more-arguments, fewer-arguments}
-use Rattle.comparing.specs.Nodes.{ValueOf, TermAt, TermsAt}
-use Rattle.comparing.specs.Comparing.{greater-if, Compares, FindsReaching, ComparesWithAll}
+use Rattle.comparing.specs.Contracts.Nodes.{ValueOf, TermAt, TermsAt}
+use Rattle.comparing.specs.Contracts.Comparing.{greater-if, Compares, FindsReaching, ComparesWithAll}
 use Rattle.ordering.specs.Theory.Decide.{some-nil, all-head, all-tail}
 use Rattle.comparing.specs.Theory.Nodes.{First, row-first, row-empty}
 use Rattle.ordering.specs.Theory.Verdict.{number-smaller, number-equal, number-greater, number-not-greater, reaches-first, reaches-later, smaller-number, equal-number, greater-number}

@@ -10,8 +10,8 @@ use Rattle.terms.specs.Term.{Term, app, nil}
 use Rattle.terms.specs.Theory.Append.{append}
 use Rattle.ordering.specs.Verdict.{verdict, verdict-number}
 use Rattle.ordering.specs.Theory.Question.{greater-symbol, smaller-symbol}
-use Rattle.comparing.specs.Nodes.{TermAt}
-use Rattle.comparing.specs.Comparing.{greater-if, Compares, FindsReaching, ComparesWithAll}
+use Rattle.comparing.specs.Contracts.Nodes.{TermAt}
+use Rattle.comparing.specs.Contracts.Comparing.{greater-if, Compares, FindsReaching, ComparesWithAll}
 use Rattle.comparing.specs.Theory.Nodes.{symbol-at}
 use Rattle.comparing.proofs.Rows.{ComparesLists, decides}
 

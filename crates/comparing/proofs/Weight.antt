@@ -8,7 +8,7 @@ use Rattle.format.specs.Byte.{class-of}
 use Rattle.format.specs.declared.byte.Class.{Class}
 use Rattle.format.specs.declared.byte.Class.the-variants.{Symbol as symbol, Variable as variable, Foreign as foreign}
 use Rattle.terms.specs.Term.{Term, Terms, size, sizes}
-use Rattle.comparing.specs.Nodes.{symbol-node, variable-node, none, more, TermAt, TermsAt}
+use Rattle.comparing.specs.Contracts.Nodes.{symbol-node, variable-node, none, more, TermAt, TermsAt}
 use Rattle.comparing.specs.Theory.Nodes.{some-node, row-ordered, ground-size}
 
 -- A symbol is one node, a variable the nodes of its value.

@@ -1,5 +1,2 @@
-pub mod Nodes
-pub mod Ready
-pub mod Comparing
-pub mod Sizes
 pub mod Theory
+pub mod Contracts

@@ -1,5 +1,4 @@
 -- The laws of the memory of a comparison.
 pub mod Nodes
-pub mod Sizes
 pub mod Stored
 pub mod Ready

@@ -5,11 +5,10 @@ ghost use mathlib.Core.List.{_∷_, _++_};
 ghost use Prim.Native.Nat.{_+_, _≤_, _<_};
 ghost use lib.ListN.{length, getD, set, take, drop};
 ghost use lib.Seq.{slice};
-ghost use Rattle.format.specs.Limits.{first-variable, position-count};
-ghost use Rattle.comparing.specs.Nodes.{node-count, cell-count, Memory};
-ghost use Rattle.comparing.specs.Ready.{Cleared, Opened};
-ghost use Rattle.comparing.specs.Comparing.{resolved, greater-if, HasTerm, HasTerms, Compares, FindsReaching, ComparesWithAll};
-ghost use Rattle.comparing.specs.Sizes.{Whole, Measurable, node-sizes};
+ghost use Rattle.format.specs.Limits.{first-variable, position-count, node-count, cell-count};
+ghost use Rattle.comparing.specs.Contracts.Nodes.{Memory};
+ghost use Rattle.comparing.specs.Contracts.Ready.{Cleared, Opened};
+ghost use Rattle.comparing.specs.Contracts.Comparing.{resolved, greater-if, HasTerm, HasTerms, Compares, FindsReaching, ComparesWithAll};
 
 // The number of nodes: 64 positions of an equation, then 160 of the subject.
 const NODE_COUNT: usize = 224;
@@ -246,39 +245,4 @@ fn compare_arguments(
         return SMALLER;
     }
     EQUAL
-}
-
-// The number of nodes of the first of whole terms, where `sizes` has those of the terms that start at each node behind the first.
-fn first_size(nodes: &[u8], arities: &[u8], sizes: &[u8]) -> u8
-    requires { ⌜ Whole (now arities) (now nodes) ⌝ }
-    requires { ⌜ (0 < length (now nodes)) × (length (now nodes) ≤ node-count) ⌝ }
-    requires { ⌜ now sizes ≡ node-sizes (now arities) (drop 1 (now nodes)) ⌝ }
-    ensures { λ r. ⌜ node-sizes (now (arities .entry)) (now (nodes .entry)) ≡ r ∷ now (sizes .entry) ⌝ }
-{
-    let byte = nodes[0];
-    if FIRST_VARIABLE <= byte {
-        return 1;
-    }
-    let count = arities[wide(byte)];
-    let mut next: usize = 0;
-    let mut k = 0;
-    while k < count {
-        next = next + wide(sizes[next]);
-        k = k + 1;
-    }
-    (next + 1) as u8
-}
-
-// Fills in the sizes of the terms that start at the nodes from `from` to `end`, which are whole terms.
-pub fn measure(nodes: &[u8], arities: &[u8], sizes: &mut [u8], from: usize, end: usize)
-    requires { ⌜ Measurable (now arities) (now nodes) (now sizes) from end ⌝ }
-    ensures { λ _. ⌜ now (sizes .exit) ≡ take from (now (sizes .entry)) ++ (node-sizes (now (arities .entry)) (slice from end (now (nodes .entry))) ++ drop end (now (sizes .entry))) ⌝ }
-{
-    let mut i = end;
-    while from < i {
-        let behind = i;
-        i = i - 1;
-        let size = first_size(&nodes[i..end], arities, &sizes[behind..end]);
-        sizes[i] = size;
-    }
 }

@@ -57,6 +57,17 @@ max-turns = 10000
 abbrev pub position-count : ℕ
 position-count = 2 * max-side-nodes
 
+-- 'Ground comparison': "verdicts for all pairs among 224 nodes (64 and 160) are 50,176 cells". The positions of an equation, then those of the subject.
+abbrev pub node-count : ℕ
+node-count = position-count + max-task-nodes
+
+abbrev pub cell-count : ℕ
+cell-count = node-count * node-count
+
+-- "(ff for none)", "(ff after the last)": what stands in a record where there is no position.
+abbrev pub no-position : ℕ
+no-position = 0xff
+
 -- "records of 89 bytes: 8 binding positions (ff for none), element count, 40 pairs of positions"
 abbrev pub record-bytes : ℕ
 record-bytes = variable-count + 1 + 2 * max-elements

@@ -1,6 +1,6 @@
-// The fixed numbers that belong to the sheet, the walk and the calls.
+// The fixed numbers that belong to the sheet, the walk and the calls. What follows from others is computed.
 ghost use mathlib.Core.Path.{_≡_};
-ghost use Rattle.format.specs.Limits.{max-text, max-line-digits, max-symbols, max-arity, variable-count, max-equations, max-tasks, max-side-nodes, max-task-nodes, max-elements, max-lines, max-turns, record-bytes, table-bytes, scratch-bytes};
+ghost use Rattle.format.specs.Limits.{max-text, max-line-digits, max-symbols, max-arity, first-variable, variable-count, max-equations, max-tasks, max-side-nodes, position-count, max-task-nodes, node-count, cell-count, max-steps, max-elements, max-lines, max-turns, no-position, record-bytes, table-bytes, scratch-bytes, term-bytes, log-bytes};
 
 pub struct Limits {
     pub nothing: (),
@@ -17,30 +17,49 @@ impl Limits {
 
     pub const ARITY: u8 = 4;
 
+    pub const FIRST_VARIABLE: u8 = 128;
+
     pub const VARIABLES: usize = 8;
 
     pub const EQUATIONS: usize = 16;
 
     pub const TASKS: usize = 32;
 
-    // The nodes of an equation's side, and those of a task's terms together.
+    // The nodes of an equation's side, and the positions of both.
     pub const SIDE_NODES: usize = 32;
 
+    pub const POSITIONS: usize = 2 * Limits::SIDE_NODES;
+
+    // The nodes of a task's terms together, and those of a comparison: an equation's positions and the subject's. A cell for each pair of them.
     pub const TASK_NODES: usize = 160;
 
-    // The bytes of the table and of scratch.
-    pub const TABLE: usize = 22695;
+    pub const NODES: usize = Limits::POSITIONS + Limits::TASK_NODES;
 
-    pub const SCRATCH: usize = 57344;
+    pub const CELLS: usize = Limits::NODES * Limits::NODES;
 
-    // The elements of a line, the lines of a table, the turns of a walk, and the bytes of a record.
+    // The steps of a run.
+    pub const STEPS: usize = 255;
+
+    // The elements of a line, the lines of a table, and the turns of a walk.
     pub const ELEMENTS: usize = 40;
 
     pub const LINES: usize = 255;
 
     pub const TURNS: usize = 10000;
 
-    pub const RECORD: usize = 89;
+    // What stands in a record for no binding, and behind the last element.
+    pub const NO_POSITION: u8 = 255;
+
+    // The bytes of a record, of the table, of scratch, and of a run's term and log.
+    pub const RECORD: usize = Limits::VARIABLES + 1 + 2 * Limits::ELEMENTS;
+
+    pub const TABLE: usize = Limits::LINES * Limits::RECORD;
+
+    pub const SCRATCH: usize = 57344;
+
+    pub const TERM: usize = Limits::TASK_NODES;
+
+    pub const LOG: usize = 3 * Limits::STEPS;
 
     // Each number is the one of the definitions.
     pub fn stated()
@@ -48,16 +67,24 @@ impl Limits {
         ensures { λ _. do ⌜ (← ⟦Limits::LINE_DIGITS⟧ .entry) ≡ max-line-digits ⌝ }
         ensures { λ _. do ⌜ (← ⟦Limits::SYMBOLS⟧ .entry) ≡ max-symbols ⌝ }
         ensures { λ _. do ⌜ (← ⟦Limits::ARITY⟧ .entry) ≡ max-arity ⌝ }
+        ensures { λ _. do ⌜ (← ⟦Limits::FIRST_VARIABLE⟧ .entry) ≡ first-variable ⌝ }
         ensures { λ _. do ⌜ (← ⟦Limits::VARIABLES⟧ .entry) ≡ variable-count ⌝ }
         ensures { λ _. do ⌜ (← ⟦Limits::EQUATIONS⟧ .entry) ≡ max-equations ⌝ }
         ensures { λ _. do ⌜ (← ⟦Limits::TASKS⟧ .entry) ≡ max-tasks ⌝ }
         ensures { λ _. do ⌜ (← ⟦Limits::SIDE_NODES⟧ .entry) ≡ max-side-nodes ⌝ }
+        ensures { λ _. do ⌜ (← ⟦Limits::POSITIONS⟧ .entry) ≡ position-count ⌝ }
         ensures { λ _. do ⌜ (← ⟦Limits::TASK_NODES⟧ .entry) ≡ max-task-nodes ⌝ }
-        ensures { λ _. do ⌜ (← ⟦Limits::TABLE⟧ .entry) ≡ table-bytes ⌝ }
-        ensures { λ _. do ⌜ (← ⟦Limits::SCRATCH⟧ .entry) ≡ scratch-bytes ⌝ }
+        ensures { λ _. do ⌜ (← ⟦Limits::NODES⟧ .entry) ≡ node-count ⌝ }
+        ensures { λ _. do ⌜ (← ⟦Limits::CELLS⟧ .entry) ≡ cell-count ⌝ }
+        ensures { λ _. do ⌜ (← ⟦Limits::STEPS⟧ .entry) ≡ max-steps ⌝ }
         ensures { λ _. do ⌜ (← ⟦Limits::ELEMENTS⟧ .entry) ≡ max-elements ⌝ }
         ensures { λ _. do ⌜ (← ⟦Limits::LINES⟧ .entry) ≡ max-lines ⌝ }
         ensures { λ _. do ⌜ (← ⟦Limits::TURNS⟧ .entry) ≡ max-turns ⌝ }
+        ensures { λ _. do ⌜ (← ⟦Limits::NO_POSITION⟧ .entry) ≡ no-position ⌝ }
         ensures { λ _. do ⌜ (← ⟦Limits::RECORD⟧ .entry) ≡ record-bytes ⌝ }
+        ensures { λ _. do ⌜ (← ⟦Limits::TABLE⟧ .entry) ≡ table-bytes ⌝ }
+        ensures { λ _. do ⌜ (← ⟦Limits::SCRATCH⟧ .entry) ≡ scratch-bytes ⌝ }
+        ensures { λ _. do ⌜ (← ⟦Limits::TERM⟧ .entry) ≡ term-bytes ⌝ }
+        ensures { λ _. do ⌜ (← ⟦Limits::LOG⟧ .entry) ≡ log-bytes ⌝ }
     {}
 }

@@ -8,6 +8,7 @@ use Rattle.format.specs.Limits.{max-task-nodes}
 use Rattle.terms.specs.Term.{Term, size, Values, inst}
 use Rattle.terms.specs.Position.{subterms, replace}
 use Rattle.terms.specs.Equation.{Equation, Direction, left-right, right-left, source, target}
+use Rattle.ordering.specs.Order.{_≻_}
 use Rattle.reducing.specs.Match.{no-match, match, values-of, usable}
 
 -- "The steps (equation, direction, position)", each with the term that it gives.
@@ -95,3 +96,8 @@ terms-of-run subject (s ∷ steps) = subject ∷ terms-of-run (s .result) steps
 unfoldable pub last-term : Term → List Step → Term
 last-term subject [] = subject
 last-term subject (s ∷ steps) = last-term (s .result) steps
+
+-- "each term of the run exceeds the next"
+abbrev pub Descending : Term → List Step → Type 0
+Descending subject [] = Unit {0}
+Descending subject (s ∷ steps) = (subject ≻ s .result) × Descending (s .result) steps

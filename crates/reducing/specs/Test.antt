@@ -1,12 +1,12 @@
 -- The two tests of document 01, 'Runs': that of a run and that of the reference run.
 use Prim.Native.Nat.{ℕ}
 use mathlib.Core.Bool.{Bool, true, false}
-use mathlib.Core.List.{List}
+use mathlib.Core.List.{List, [], _∷_}
 use lib.Dec.{ltb}
 use Rattle.terms.specs.Term.{Term, Terms, var, nth, Values, inst}
 use Rattle.terms.specs.Equation.{Equation, Direction, source, target, value}
 use Rattle.ordering.specs.Theory.Decide.{exceeds?}
-use Rattle.solving.specs.Walk.{Walked, solved, refused, solve}
+use Rattle.solving.specs.Walk.{Walked, solved, refused, solve, Solves}
 use Rattle.solving.specs.Judge.{first-holding}
 use Rattle.reducing.specs.Run.{Run, run}
 
@@ -40,6 +40,11 @@ line-run = run line-test
 unfoldable pub reference-run : List Equation → (k : ℕ) → (subject : Term) → Run
 unfolding run reference-test
 reference-run = run reference-test
+
+-- "where every direction solves"
+abbrev pub EverySolves : List Equation → Type 0
+EverySolves [] = Unit {0}
+EverySolves (e ∷ es) = ((d : Direction) → Solves e d) × EverySolves es
 
 -- The values of a judgement: those of the frame, from variable 80 upward.
 unfoldable pub given-values : Terms → Values

@@ -2,9 +2,6 @@ pub mod Text
 pub mod Sheet
 pub mod Frame
 pub mod Frames
-pub mod Cursor
-pub mod Scan
-pub mod Reader
 pub mod Reading
-pub mod Seek
 pub mod Theory
+pub mod Contracts

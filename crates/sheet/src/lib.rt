@@ -1,9 +1,1 @@
-// Reading a sheet: what every text earns, line by line, and where a frame stands.
-pub mod frame;
-pub mod known;
-pub mod read;
-pub mod scan;
-pub mod seek;
-pub mod symbols;
-pub mod task;
-pub mod text;
+// What every text earns: a refusal with its line, or the sheet that it says. The definitions and their laws stand in specs/.

@@ -201,3 +201,9 @@ module _ (fuel : Fuel) (view : ℕ → Node) where
 unfoldable pub solve : Equation → Direction → Walked
 unfolding walk view source-position target-position
 solve e d = walk enough (view e) (source-position e d) (target-position e d)
+
+-- "a direction solves if its walk earns none of 8 to 10; its table is the one that this walk ends with"
+pub record Solves (e : Equation) (d : Direction) : Type 0 where
+  pub table : List Line
+  pub turns : ℕ
+  pub walked : solve e d ≡ solved table turns

@@ -3,3 +3,4 @@ pub mod Position
 pub mod Equation
 pub mod Prefix
 pub mod Theory
+pub mod Contracts

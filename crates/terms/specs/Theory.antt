@@ -6,3 +6,4 @@ pub mod Positions
 pub mod View
 pub mod Prefix
 pub mod Append
+pub mod Sizes

@@ -1,1 +1,3 @@
 // Terms, their prefix form and their positions. The definitions stand in specs/.
+// Code: the number of nodes of the term that starts at each byte.
+pub mod measure;

@@ -1,12 +1,4 @@
 -- The laws of what the walk's code sees.
-pub mod Laid
-pub mod Equation
-pub mod Bound
-pub mod Follow
-pub mod Unify
-pub mod Within
-pub mod Met
-pub mod Occurrence
 pub mod Treatment
 pub mod Element
 pub mod Stored
@@ -19,11 +11,8 @@ pub mod Marked
 pub mod Lexicographic
 pub mod Shift
 pub mod Widened
-pub mod Count
-pub mod Front
 pub mod Record
 pub mod Rebind
-pub mod Unifier
 pub mod Named
 pub mod Walking
 pub mod Children

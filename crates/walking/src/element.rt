@@ -2,7 +2,7 @@
 ghost use mathlib.Core.Path.{_≡_};
 ghost use Prim.Native.Nat.{_+_, _*_, _<_};
 ghost use lib.ListN.{length, getD};
-ghost use Rattle.walking.specs.Stored.{meaning, marked};
+ghost use Rattle.walking.specs.Contracts.Stored.{meaning, marked};
 
 // An equality or an inequality, each between two positions.
 pub enum Relation {

@@ -5,7 +5,7 @@ ghost use mathlib.Core.List.{_++_};
 ghost use Prim.Native.Nat.{_+_, _≤_};
 ghost use lib.ListN.{length, take, drop};
 ghost use Rattle.format.specs.Limits.{record-bytes};
-ghost use Rattle.walking.specs.Place.{line-bytes, placed};
+ghost use Rattle.walking.specs.Contracts.Place.{line-bytes, placed};
 
 // The bytes of a record in front of the count that it leaves out.
 const FRONT: usize = 9;

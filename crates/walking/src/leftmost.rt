@@ -5,7 +5,7 @@ use crate::record::REDUCED;
 use crate::treat::Treatment;
 use crate::treat::treatment_of;
 use format::byte::wide;
-ghost use Rattle.walking.specs.Sound.{HasLine, FindsLeftmost};
+ghost use Rattle.walking.specs.Contracts.Sound.{HasLine, FindsLeftmost};
 
 // The element's number, and what it asks for; the count and nothing, where all are fully reduced.
 pub struct Leftmost {

@@ -3,19 +3,19 @@ use crate::element::EQUALITY;
 use crate::element::Element;
 use crate::element::FIRST_ELEMENT;
 use crate::element::Relation;
-use crate::reach::UNBOUND;
 use crate::rebind::rebind;
 use crate::record::COUNT;
 use crate::record::LINE;
 use crate::record::put;
 use format::limits::Limits;
+use unifying::reach::UNBOUND;
 ghost use mathlib.Core.Path.{_≡_};
 ghost use mathlib.Core.List.{[], _∷_};
 ghost use Prim.Native.Nat.{_+_, _-_, _≤_};
 ghost use lib.ListN.{length, replicate};
-ghost use Rattle.walking.specs.Stored.{meaning, marks, first-element, Stored, stored-bytes};
-ghost use Rattle.walking.specs.Place.{line-bytes, placed};
-ghost use Rattle.walking.specs.Named.{stored-of, opening-line, Markable, Writable};
+ghost use Rattle.walking.specs.Contracts.Stored.{meaning, marks, first-element, Stored, stored-bytes};
+ghost use Rattle.walking.specs.Contracts.Place.{line-bytes, placed};
+ghost use Rattle.walking.specs.Contracts.Named.{stored-of, opening-line, Markable, Writable};
 
 // What stands behind the last element.
 const FILLER: u8 = 255;

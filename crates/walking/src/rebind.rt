@@ -4,8 +4,8 @@ use format::limits::Limits;
 ghost use mathlib.Core.Path.{_≡_};
 ghost use lib.ListN.{length};
 ghost use Rattle.format.specs.Limits.{variable-count};
-ghost use Rattle.walking.specs.Place.{line-bytes};
-ghost use Rattle.walking.specs.Rebind.{Rebound};
+ghost use Rattle.walking.specs.Contracts.Place.{line-bytes};
+ghost use Rattle.walking.specs.Contracts.Rebind.{Rebound};
 
 // Puts the bindings into the line. No element is then known to be fully reduced.
 pub fn rebind(line: &mut [u8], bindings: &[u8])

@@ -6,7 +6,7 @@ ghost use mathlib.Core.Path.{_≡_};
 ghost use Prim.Native.Nat.{_+_, _-_, _*_, _≤_, _<_};
 ghost use lib.ListN.{length, set};
 ghost use lib.Seq.{slice};
-ghost use Rattle.walking.specs.Place.{line-bytes, placed, Shifted, WideningFits, Widened, ExceedingFit, FillsExceeding, ArgumentsFit, PushesArguments, EqualFit, MarksEqual, LexicographicFit, PushesLexicographic};
+ghost use Rattle.walking.specs.Contracts.Place.{line-bytes, placed, Shifted, WideningFits, Widened, ExceedingFit, FillsExceeding, ArgumentsFit, PushesArguments, EqualFit, MarksEqual, LexicographicFit, PushesLexicographic};
 
 // The bytes of a line.
 pub const LINE: usize = 90;

@@ -13,10 +13,10 @@ ghost use Prim.Native.Nat.{_*_, _≤_, _<_};
 ghost use lib.ListN.{length, take};
 ghost use Rattle.format.specs.Buffer.{written};
 ghost use Rattle.format.specs.Limits.{table-bytes};
-ghost use Rattle.walking.specs.Laid.{Laid};
-ghost use Rattle.walking.specs.Place.{line-bytes};
-ghost use Rattle.walking.specs.Walking.{memory-bytes, Walking, Comes};
-ghost use Rattle.walking.specs.Solve.{WalkedAs};
+ghost use Rattle.unifying.specs.Contracts.Laid.{Laid};
+ghost use Rattle.walking.specs.Contracts.Place.{line-bytes};
+ghost use Rattle.walking.specs.Contracts.Walking.{memory-bytes, Walking, Comes};
+ghost use Rattle.walking.specs.Contracts.Solve.{WalkedAs};
 
 // The place of the first line: the last of the memory.
 const FIRST: usize = Limits::LINES - 1;

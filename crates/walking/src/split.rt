@@ -8,7 +8,7 @@ use crate::record::push_lexicographic;
 use crate::record::store;
 use format::limits::Limits;
 ghost use mathlib.Core.Path.{_≡_};
-ghost use Rattle.walking.specs.Splitting.{lesser, LastCount, TooLong, ChoicesFit, PushesChoices};
+ghost use Rattle.walking.specs.Contracts.Splitting.{lesser, LastCount, TooLong, ChoicesFit, PushesChoices};
 
 fn lesser(a: usize, b: usize) -> usize
     ensures { λ r. ⌜ r ≡ lesser a b ⌝ }

@@ -1,18 +1,18 @@
 // What an element asks for, seen through the bindings of its line.
 use crate::element::Element;
 use crate::element::Relation;
-use crate::occurs::occurs_at;
-use crate::reach::FIRST_VARIABLE;
-use crate::reach::reached;
 use format::byte::wide;
+use unifying::occurs::occurs_at;
+use unifying::reach::FIRST_VARIABLE;
+use unifying::reach::reached;
 ghost use mathlib.Core.Path.{_≡_};
 ghost use Prim.Native.Nat.{_<_};
 ghost use lib.ListN.{length};
 ghost use Rattle.solving.specs.Line.{greater};
 ghost use Rattle.solving.specs.Theory.Table.{Within};
-ghost use Rattle.walking.specs.Bound.{Readable};
-ghost use Rattle.walking.specs.Stored.{meaning};
-ghost use Rattle.walking.specs.Treatment.{Treated};
+ghost use Rattle.unifying.specs.Contracts.Bound.{Readable};
+ghost use Rattle.walking.specs.Contracts.Stored.{meaning};
+ghost use Rattle.walking.specs.Contracts.Treatment.{Treated};
 
 // Nothing, the line deleted, the element deleted, two positions unified, or choices: an inequality's positions and those reached from them.
 pub enum Treatment {

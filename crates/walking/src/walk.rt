@@ -1,5 +1,4 @@
 // The walk's cursor and count, and its turns.
-use crate::count::row_count;
 use crate::finish::write_record;
 use crate::leftmost::find_leftmost;
 use crate::rebind::rebind;
@@ -12,19 +11,20 @@ use crate::split::last_count;
 use crate::split::push_choices;
 use crate::split::too_long;
 use crate::treat::Treatment;
-use crate::unifier::unify_positions;
-use crate::unify::Answer;
 use format::byte::wide;
 use format::limits::Limits;
 use format::refusal::Refusal;
+use unifying::count::row_count;
+use unifying::unifier::unify_positions;
+use unifying::unify::Answer;
 ghost use mathlib.Core.Path.{_≡_};
 ghost use Prim.Native.Nat.{_+_, _<_};
 ghost use lib.ListN.{length};
 ghost use Rattle.format.specs.Limits.{max-lines};
 ghost use Rattle.walking.specs.declared.treat.Treatment.the-variants.{DropElement, DropLine, Reduced, Split, Unify};
 ghost use Rattle.walking.specs.declared.walk.Progress.the-variants.{Going};
-ghost use Rattle.walking.specs.Place.{line-bytes};
-ghost use Rattle.walking.specs.Walking.{Walking, Finishing, Treating, GoesOn, Advances};
+ghost use Rattle.walking.specs.Contracts.Place.{line-bytes};
+ghost use Rattle.walking.specs.Contracts.Walking.{Walking, Finishing, Treating, GoesOn, Advances};
 
 // Where the walk stands: the two sides' positions, how many lines are finished, the place of the first unfinished line, and how many turns are taken.
 // Finished lines' records stand from the front of the memory, unfinished lines as a stack from the back, so that no line is ever moved for another.

@@ -10,11 +10,11 @@ use Rattle.terms.specs.Equation.{Equation, Direction, left-right, right-left}
 use Rattle.terms.specs.Theory.Limits.{WithinLimits}
 use Rattle.sheet.specs.Sheet.{Sheet}
 use Rattle.sheet.specs.Reading.{accepted, read}
-use Rattle.sheet.specs.Theory.Valid.{ValidEquation}
+use Rattle.sheet.specs.Contracts.Valid.{ValidEquation}
 use Rattle.sheet.specs.Theory.Accepted.{accepted-valid}
-use Rattle.solving.specs.Walk.{Walked, solved, refused, solve}
-use Rattle.reducing.specs.Theory.Reference.{Solves, EverySolves}
-use Rattle.calls.specs.Asked.{WalkRefusal, equation-line, first-refusal}
+use Rattle.solving.specs.Walk.{Walked, solved, refused, solve, Solves}
+use Rattle.reducing.specs.Test.{EverySolves}
+use Rattle.outcomes.specs.Asked.{WalkRefusal, equation-line, first-refusal}
 
 pub accepted-limits : (sheet : List ℕ) (s : Sheet) → read sheet ≡ accepted s → Every WithinLimits (s .equations)
 accepted-limits sheet s r = every-map (λ e v. v .limits) (s .equations) (accepted-valid sheet s r .0 .equations)

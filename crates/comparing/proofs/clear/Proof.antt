@@ -2,7 +2,7 @@
 use Prim.Native.Nat.{_-_, _≤_}
 use mathlib.Core.Path.{_≡_}
 use native.Mathlib.Omega.{arith}
-use Rattle.comparing.specs.Ready.{Cleared}
+use Rattle.comparing.specs.Contracts.Ready.{Cleared}
 use Rattle.comparing.proofs.Opened.{cleared-none, cleared-more}
 use borrow.Author.Needs.{needs}
 use Rattle.comparing.proofs.clear.Statement.{statement}

@@ -1,5 +1,5 @@
 -- `greater_if` meets its contract.
-use Rattle.comparing.specs.Comparing.{greater-if}
+use Rattle.comparing.specs.Contracts.Comparing.{greater-if}
 use Rattle.comparing.proofs.greater_if.Statement.{statement}
 use Rattle.comparing.proofs.greater_if.Tie as tie
 use borrow.Author.Needs.{needs}

@@ -4,11 +4,11 @@ use mathlib.Core.Path.{_≡_, refl, sym, ap}
 use mathlib.Core.List.{List}
 use native.Mathlib.Omega.{arith}
 use lib.ListN.{getD}
-use Rattle.format.specs.Limits.{max-symbols, first-variable, variable-count}
+use Rattle.format.specs.Limits.{max-symbols, first-variable, variable-count, node-count}
 use Rattle.format.specs.declared.byte.Class.the-variants.{Symbol as symbol, Variable as variable}
 use Rattle.format.specs.Theory.Byte.{class-symbol, class-variable}
 use Rattle.terms.specs.Term.{Term, Terms, app, nil, cons, size, sizes}
-use Rattle.comparing.specs.Nodes.{node-count, Stands, symbol-node, variable-node, StandInRow, none, more, GroundAt, ValueOf, TermAt, TermsAt}
+use Rattle.comparing.specs.Contracts.Nodes.{Stands, symbol-node, variable-node, StandInRow, none, more, GroundAt, ValueOf, TermAt, TermsAt}
 
 module _ {nodes lengths : List ℕ} {Value : ℕ → Term → Type 0} where
   -- A term stands within the nodes, and has a node; a row ends where its last term ends.

@@ -7,14 +7,14 @@ use native.Mathlib.Omega.{arith}
 use native.Mathlib.Decide.{decLt}
 use lib.ListN.{length, getD, take, drop, replicate}
 use lib.Seq.{getD-drop}
-use Rattle.format.specs.Limits.{max-symbols, position-count, first-variable, variable-count}
+use Rattle.format.specs.Limits.{max-symbols, position-count, first-variable, variable-count, node-count, cell-count}
 use Rattle.format.specs.Byte.{class-of}
 use Rattle.format.specs.Theory.Byte.{class-variable}
 use Rattle.terms.specs.Term.{Term, Terms, var, app, nil, cons, Ground, Grounds}
 use Rattle.terms.specs.Prefix.{prefix, prefixes}
 use Rattle.ordering.specs.Verdict.{verdict, verdict-number}
-use Rattle.comparing.specs.Nodes.{node-count, cell-count, TermAt, Memory, Stands, symbol-node, variable-node, StandInRow, none, more}
-use Rattle.comparing.specs.Ready.{Cleared, Opened, AllSymbols, SameFrom}
+use Rattle.comparing.specs.Contracts.Nodes.{TermAt, Memory, Stands, symbol-node, variable-node, StandInRow, none, more}
+use Rattle.comparing.specs.Contracts.Ready.{Cleared, Opened, AllSymbols, SameFrom}
 use Rattle.comparing.specs.Theory.Nodes.{within}
 
 -- No row counts.

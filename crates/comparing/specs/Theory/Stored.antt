@@ -6,7 +6,7 @@ use native.Mathlib.Omega.{arith}
 use native.Mathlib.Decide.{decLt}
 use lib.ListN.{length, getD, take, drop, length-map}
 use lib.Seq.{length-take-le, drop-drop, drop-at, getD-drop}
-use Rattle.format.specs.Limits.{max-symbols}
+use Rattle.format.specs.Limits.{max-symbols, node-count}
 use Rattle.format.specs.Byte.{class-of}
 use Rattle.format.specs.Theory.Byte.{symbol-class, variable-class}
 use Rattle.terms.specs.Term.{Term, Terms, var, app, nil, cons, size, sizes, Values, inst, insts, Ground, Grounds}
@@ -16,7 +16,7 @@ use Rattle.terms.specs.Theory.Limits.{VariablesBelow, AllVariablesBelow}
 use Rattle.terms.specs.Theory.Position.{length-subterms, subterm-first, subterm-rest}
 use Rattle.terms.specs.Theory.Prefix.{Fits, AllFit, grounds-fit, length-prefix}
 use Rattle.comparing.specs.Theory.Nodes.{ground-stands, ground-size}
-use Rattle.comparing.specs.Nodes.{node-count, GroundAt, TermAt, Stands, symbol-node, variable-node, StandInRow, none, more}
+use Rattle.comparing.specs.Contracts.Nodes.{GroundAt, TermAt, Stands, symbol-node, variable-node, StandInRow, none, more}
 
 -- From `i` on, `all` has the elements of `part`.
 pub record StoredAt (all : List ℕ) (i : ℕ) (part : List ℕ) : Type 0 where

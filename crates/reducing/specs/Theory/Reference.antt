@@ -18,26 +18,16 @@ use Rattle.ordering.specs.Theory.Decide.{exceeds?}
 use Rattle.ordering.specs.Theory.Context.{replace-exceeds}
 use Rattle.solving.specs.Line.{Line}
 use Rattle.solving.specs.Holds.{SomeLineHolds}
-use Rattle.solving.specs.Walk.{solved, solve}
+use Rattle.solving.specs.Walk.{solved, solve, Solves}
 use Rattle.solving.specs.Judge.{first-holding}
 use Rattle.solving.specs.Theory.Judge.{first-holding-pos}
 use Rattle.solving.specs.Theory.Solve.{solve-exact}
 use Rattle.reducing.specs.Match.{values-of}
-use Rattle.reducing.specs.Run.{Step}
-use Rattle.reducing.specs.Test.{holding-in, line-test, reference-test, line-run, reference-run}
+use Rattle.reducing.specs.Run.{Step, Descending}
+use Rattle.reducing.specs.Test.{holding-in, line-test, reference-test, line-run, reference-run, EverySolves}
 use Rattle.reducing.specs.Theory.Match.{match-sound}
 use Rattle.reducing.specs.Theory.Step.{Taken}
 use Rattle.reducing.specs.Theory.Runs.{AllTaken, run-taken, Agree, run-same}
-
--- "a direction solves if its walk earns none of 8 to 10"
-pub record Solves (e : Equation) (d : Direction) : Type 0 where
-  pub table : List Line
-  pub turns : ℕ
-  pub walked : solve e d ≡ solved table turns
-
--- "where every direction solves"
-abbrev pub EverySolves : List Equation → Type 0
-EverySolves = Every (λ e. (d : Direction) → Solves e d)
 
 -- Some line of a solved direction's table holds exactly if the source's instance exceeds the target's.
 abbrev pub Exact : Equation → Type 0
@@ -93,11 +83,6 @@ all-agree (e ∷ es) x s = (tests-agree e (x .0) (s .0), all-agree es (x .1) (s 
 pub exact-run-is-reference-run : (es : List Equation) → Every Exact es → EverySolves es → (k : ℕ) (subject : Term) → line-run es k subject ≡ reference-run es k subject
 unfolding line-run reference-run
 exact-run-is-reference-run es x s k subject = run-same line-test reference-test es (all-agree es x s) k subject
-
--- Each term of a run exceeds the next.
-abbrev pub Descending : Term → List Step → Type 0
-Descending subject [] = Unit {0}
-Descending subject (s ∷ steps) = (subject ≻ s .result) × Descending (s .result) steps
 
 pub source-variables : {e : Equation} → WithinLimits e → (d : Direction) → VariablesBelow variable-count (source e d)
 unfolding source

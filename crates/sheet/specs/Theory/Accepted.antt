@@ -1,5 +1,5 @@
 -- An accepted sheet is valid: each line that is not refused keeps the sheet so.
-use Prim.Native.Nat.{ℕ, zero, suc, _+_, _*_, _-_, _≤_, _<_}
+use Prim.Native.Nat.{ℕ, suc, _≤_}
 use mathlib.Core.Path.{_≡_, refl, sym, ap, subst, _∙_}
 use mathlib.Core.Bool.{Bool, true, false, _&&_}
 use mathlib.Core.Option.{Option, none, some}
@@ -8,21 +8,20 @@ use lib.ListN.{length, length-append}
 use lib.Dec.{ltb, leb, eqb}
 use borrow.Author.Tests.{ltb-true, leb-true, eqb-true}
 use native.Mathlib.Omega.{arith}
-use Rattle.format.specs.Limits.{max-symbols, max-arity, max-equations, max-tasks, max-task-nodes, max-steps, max-text}
-use Rattle.format.specs.Refusal.{Result, refuse, give, Result·map}
-use Rattle.format.specs.declared.refusal.Refusal.{Refusal}
+use Rattle.format.specs.Limits.{max-symbols, max-arity, max-equations, max-tasks, max-task-nodes, max-text}
+use Rattle.format.specs.Refusal.{Result, refuse, give}
 use Rattle.format.specs.declared.refusal.Refusal.the-variants.{SymbolFrame as symbol-frame, FrameOrder as frame-order, Digits as digits, TextLength as text-length}
 use Rattle.format.specs.Lists.{entry, any, all}
 use Rattle.format.specs.Theory.Lists.{Every, every-append, every-map, and-true, all-true, any-true}
-use Rattle.terms.specs.Term.{Term, Terms, nil, cons, size, sizes, count, Ground, Grounds}
+use Rattle.terms.specs.Term.{Terms, nil, cons, size, sizes, count, Ground, Grounds}
 use Rattle.terms.specs.Equation.{Equation, Direction, direction-of}
 use Rattle.sheet.specs.Text.{Row, rows, frame-of}
 use Rattle.sheet.specs.Sheet.{Task, run, judgement, comparison, Sheet, equation-width}
 use Rattle.sheet.specs.Frame.{State, start, within, Kind, symbols-kind, equation-kind, run-kind, judgement-kind, comparison-kind, unknown-kind, kind-of, takes-equation, takes-task, in-order, symbols-right, symbols-body, ground-terms, first-term, second-term, equation-body, run-body, values-body, judgement-body, comparison-body, with-equation, with-task, read-body, read-frame}
 use Rattle.sheet.specs.Reading.{Reading, refused-at, accepted, read-row, finish, read-rows, read}
 use Rattle.sheet.specs.Theory.Text.{Bytes, frame-bytes-small}
-use Rattle.sheet.specs.Theory.Valid.{ValidEquation, ValidTask, ValidSymbols, Valid}
-use Rattle.sheet.specs.Theory.Frame.{mapped, GroundTerms, ground-terms-given, one-term, two-terms, EquationRead, equation-given}
+use Rattle.sheet.specs.Contracts.Valid.{ValidEquation, ValidTask, ValidSymbols, Valid}
+use Rattle.sheet.specs.Theory.Frame.{mapped, ground-terms-given, one-term, two-terms, equation-given}
 
 -- 1. The symbols.
 -- The tests of a symbol frame, one by one.
@@ -79,7 +78,7 @@ symbols-kept (n ∷ arities) state e = go (symbols-right n arities) refl e
     go false d e = let z : _≡_ {A = ℕ} 0 1 = cc in absurd (omega arith)
 
 -- 2. An equation: there is no task yet, so no task can lose its equation.
-no-length : {A : Type 0} (xs : List A) → length xs ≡ 0 → xs ≡ []
+pub no-length : {A : Type 0} (xs : List A) → length xs ≡ 0 → xs ≡ []
 no-length [] e = refl
 no-length (x ∷ xs) e = absurd (omega arith)
 
@@ -113,13 +112,10 @@ module _ (s : Sheet) (v : Valid s) where
   abbrev TaskGiven : Task → Type 0
   TaskGiven t = ValidTask (s .arities) (s .equations) t
 
-  known : length (s .arities) ≤ max-symbols
-  known = v .symbols .few-symbols
-
   one-ground : (ts : Terms) → count ts ≡ 1 → Grounds (s .arities) ts → sizes ts ≤ max-task-nodes → Ground (s .arities) (first-term ts) × (size (first-term ts) ≤ max-task-nodes)
   unfolding size
   one-ground ts c g l =
-      let e : ts ≡ cons (first-term ts) nil = one-term (s .arities) known ts c in
+      let e : ts ≡ cons (first-term ts) nil = one-term ts c in
       let h : Grounds (s .arities) (cons (first-term ts) nil) = subst (Grounds (s .arities)) e g in
       (h .0, omega (arith, ap sizes e))
 
@@ -128,7 +124,7 @@ module _ (s : Sheet) (v : Valid s) where
   run-given [] t small e = let z : _≡_ {A = ℕ} 0 1 = cc in absurd (omega arith)
   run-given (k ∷ bs) t small e =
       let (ts, x, y) = mapped (λ ts. run k (first-term ts)) (ground-terms (s .arities) 1 bs) t e in
-      let g = ground-terms-given (s .arities) known 1 bs ts x in
+      let g = ground-terms-given (s .arities) (v .symbols .few-symbols) 1 bs ts x in
       let (h, l) = one-ground ts (g .counted) (g .grounded) (g .few) in
       subst TaskGiven y (small .0, h, l)
 
@@ -143,15 +139,15 @@ module _ (s : Sheet) (v : Valid s) where
       go (some q) none i e = let z : _≡_ {A = ℕ} 0 1 = cc in absurd (omega arith)
       go (some q) (some o) i e =
           let (ts, x, y) = mapped (λ ts. judgement n o ts) (ground-terms (s .arities) (equation-width q) bs) t e in
-          let g = ground-terms-given (s .arities) known (equation-width q) bs ts x in
+          let g = ground-terms-given (s .arities) (v .symbols .few-symbols) (equation-width q) bs ts x in
           subst TaskGiven y (q, i, g .counted, g .grounded, g .few)
 
   comparison-given : (bs : List ℕ) (t : Task) → comparison-body s bs ≡ give t → TaskGiven t
   unfolding comparison-body size
   comparison-given bs t e =
       let (ts, x, y) = mapped (λ ts. comparison (first-term ts) (second-term ts)) (ground-terms (s .arities) 2 bs) t e in
-      let g = ground-terms-given (s .arities) known 2 bs ts x in
-      let d : ts ≡ cons (first-term ts) (cons (second-term ts) nil) = two-terms (s .arities) known ts (g .counted) in
+      let g = ground-terms-given (s .arities) (v .symbols .few-symbols) 2 bs ts x in
+      let d : ts ≡ cons (first-term ts) (cons (second-term ts) nil) = two-terms ts (g .counted) in
       let h : Grounds (s .arities) (cons (first-term ts) (cons (second-term ts) nil)) = subst (Grounds (s .arities)) d (g .grounded) in
       subst TaskGiven y (h .0, h .1 .0, omega (arith, ap sizes d, g .few))
 

@@ -1,5 +1,5 @@
 -- What the terms of a frame that is not refused are.
-use Prim.Native.Nat.{ℕ, _≤_, _<_}
+use Prim.Native.Nat.{ℕ, _≤_}
 use mathlib.Core.Path.{_≡_, refl, sym, ap, ap₂, subst, _∙_}
 use mathlib.Core.Bool.{true, false}
 use mathlib.Core.List.{List, [], _∷_, _++_, append-nil}
@@ -7,14 +7,13 @@ use lib.ListN.{length}
 use native.Mathlib.Omega.{arith}
 use Rattle.format.specs.Limits.{max-symbols, max-side-nodes, max-task-nodes}
 use Rattle.format.specs.Refusal.{Result, refuse, give, Result·map}
-use Rattle.format.specs.declared.refusal.Refusal.{Refusal}
 use Rattle.terms.specs.Term.{Term, Terms, nil, cons, nth, size, sizes, count, Grounds}
 use Rattle.terms.specs.Equation.{Equation}
 use Rattle.terms.specs.Prefix.{prefix, prefixes, terms-of}
 use Rattle.terms.specs.Theory.Prefix.{Fits, AllFit, terms-of-spelled, fits-variables}
 use Rattle.sheet.specs.Frame.{scan, all-read, ground-terms, scan-sides, first-term, second-term, equation-body}
-use Rattle.sheet.specs.Theory.Scan.{Scanned, scan-sound}
-use Rattle.sheet.specs.Theory.Valid.{ValidEquation}
+use Rattle.sheet.specs.Theory.Scan.{scan-sound}
+use Rattle.sheet.specs.Contracts.Valid.{ValidEquation}
 
 -- A result that is mapped and given was given.
 pub mapped : {A B : Type 0} (f : A → B) (r : Result A) (b : B) → Result·map f r ≡ give b → (a : A) × (r ≡ give a) × (f a ≡ b)
@@ -35,6 +34,20 @@ pub record GroundTerms (arities : List ℕ) (n : ℕ) (bs : List ℕ) (ts : Term
   pub few : sizes ts ≤ max-task-nodes
   pub grounded : Grounds arities ts
 
+-- One term is its first, two are its first and its second.
+pub one-term : (ts : Terms) → count ts ≡ 1 → ts ≡ cons (first-term ts) nil
+unfolding count first-term nth
+one-term nil h = absurd (omega arith)
+one-term (cons t nil) h = refl
+one-term (cons t (cons u us)) h = absurd (omega arith)
+
+pub two-terms : (ts : Terms) → count ts ≡ 2 → ts ≡ cons (first-term ts) (cons (second-term ts) nil)
+unfolding count first-term second-term nth
+two-terms nil h = absurd (omega arith)
+two-terms (cons t nil) h = absurd (omega arith)
+two-terms (cons t (cons u nil)) h = refl
+two-terms (cons t (cons u (cons w ws))) h = absurd (omega arith)
+
 module _ (arities : List ℕ) (known : length arities ≤ max-symbols) where
   pub ground-terms-given : (n : ℕ) (bs : List ℕ) (ts : Terms) → ground-terms arities n bs ≡ give ts → GroundTerms arities n bs ts
   unfolding ground-terms
@@ -45,20 +58,6 @@ module _ (arities : List ℕ) (known : length arities ≤ max-symbols) where
       let q : terms-of arities (prefixes (s .terms)) ≡ s .terms = terms-of-spelled arities known (s .terms) (s .fit) in
       let x : s .terms ≡ ts = cc in
       rw (← x) (record { counted = s .counted; spelled = p; few = s .within; grounded = s .grounded })
-
-  -- One term is its first, two are its first and its second.
-  pub one-term : (ts : Terms) → count ts ≡ 1 → ts ≡ cons (first-term ts) nil
-  unfolding count first-term nth
-  one-term nil h = absurd (omega arith)
-  one-term (cons t nil) h = refl
-  one-term (cons t (cons u us)) h = absurd (omega arith)
-
-  pub two-terms : (ts : Terms) → count ts ≡ 2 → ts ≡ cons (first-term ts) (cons (second-term ts) nil)
-  unfolding count first-term second-term nth
-  two-terms nil h = absurd (omega arith)
-  two-terms (cons t nil) h = absurd (omega arith)
-  two-terms (cons t (cons u nil)) h = refl
-  two-terms (cons t (cons u (cons w ws))) h = absurd (omega arith)
 
   -- 2. An equation.
   pub record EquationRead (bs : List ℕ) (e : Equation) : Type 0 where

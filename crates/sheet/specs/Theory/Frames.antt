@@ -1,5 +1,5 @@
 -- The lines of an accepted text are the frames of its sheet, in order.
-use Prim.Native.Nat.{ℕ, zero, suc, _≤_, _<_}
+use Prim.Native.Nat.{ℕ, zero, suc}
 use mathlib.Core.Path.{_≡_, refl, sym, ap, ap₂, subst, _∙_}
 use mathlib.Core.Bool.{Bool, true, false, _&&_}
 use mathlib.Core.Option.{Option, none, some}
@@ -8,24 +8,22 @@ use lib.ListN.{length}
 use lib.Dec.{leb, ltb, eqb}
 use borrow.Author.Tests.{eqb-true}
 use native.Mathlib.Omega.{arith}
-use Rattle.format.specs.Limits.{max-symbols, max-arity, max-equations, max-text}
-use Rattle.format.specs.Refusal.{Result, refuse, give, Result·map}
-use Rattle.format.specs.declared.refusal.Refusal.{Refusal}
+use Rattle.format.specs.Limits.{max-equations, max-text}
+use Rattle.format.specs.Refusal.{Result, refuse, give}
 use Rattle.format.specs.declared.refusal.Refusal.the-variants.{SymbolFrame as symbol-frame, FrameOrder as frame-order, Digits as digits, TextLength as text-length}
-use Rattle.format.specs.Lists.{entry, any, all}
+use Rattle.format.specs.Lists.{entry}
 use Rattle.format.specs.Theory.Lists.{and-true}
-use Rattle.terms.specs.Term.{Term, Terms, nil, cons, count}
+use Rattle.terms.specs.Term.{nil, cons}
 use Rattle.terms.specs.Equation.{Equation, Direction, left-right, right-left, direction-number, direction-of}
 use Rattle.terms.specs.Prefix.{prefix, prefixes, equation-bytes}
 use Rattle.sheet.specs.Text.{Row, rows, frame-of}
 use Rattle.sheet.specs.Sheet.{Task, run, judgement, comparison, Sheet, equation-width}
-use Rattle.sheet.specs.Frame.{State, start, within, Kind, symbols-kind, equation-kind, run-kind, judgement-kind, comparison-kind, unknown-kind, kind-of, takes-equation, in-order, symbols-right, symbols-body, ground-terms, first-term, second-term, equation-body, run-body, values-body, judgement-body, comparison-body, with-equation, with-task, read-body, read-frame}
+use Rattle.sheet.specs.Frame.{State, start, within, kind-of, takes-equation, in-order, symbols-right, symbols-body, ground-terms, first-term, second-term, equation-body, run-body, values-body, judgement-body, comparison-body, with-equation, with-task, read-body, read-frame}
 use Rattle.sheet.specs.Frames.{task-frame, frames-of}
 use Rattle.sheet.specs.Reading.{Reading, refused-at, accepted, read-row, finish, read-rows, read}
-use Rattle.sheet.specs.Theory.Text.{Bytes, frame-bytes-small}
-use Rattle.sheet.specs.Theory.Valid.{Valid}
+use Rattle.sheet.specs.Contracts.Valid.{Valid}
 use Rattle.sheet.specs.Theory.Frame.{mapped, ground-terms-given, one-term, two-terms, equation-given}
-use Rattle.sheet.specs.Theory.Accepted.{ValidState, symbols-counted, row-kept}
+use Rattle.sheet.specs.Theory.Accepted.{ValidState, symbols-counted, no-length, row-kept}
 
 -- 1. What is read is what is spelled: the tasks' bodies.
 direction-back : (n : ℕ) (d : Direction) → direction-of n ≡ some d → direction-number d ≡ n
@@ -37,16 +35,13 @@ direction-back (suc zero) right-left e = refl
 direction-back (suc (suc n)) d e = let z : _≡_ {A = ℕ} 0 1 = cc in absurd (omega arith)
 
 module _ (s : Sheet) (v : Valid s) where
-  known : length (s .arities) ≤ max-symbols
-  known = v .symbols .few-symbols
-
   run-spelled : (bs : List ℕ) (t : Task) → run-body s bs ≡ give t → 3 ∷ bs ≡ task-frame t
   unfolding run-body task-frame prefix
   run-spelled [] t e = let z : _≡_ {A = ℕ} 0 1 = cc in absurd (omega arith)
   run-spelled (k ∷ bs) t e =
       let (ts, x, y) = mapped (λ ts. run k (first-term ts)) (ground-terms (s .arities) 1 bs) t e in
-      let g = ground-terms-given (s .arities) known 1 bs ts x in
-      let o : bs ≡ prefixes (cons (first-term ts) nil) = g .spelled ∙ ap prefixes (one-term (s .arities) known ts (g .counted)) in
+      let g = ground-terms-given (s .arities) (v .symbols .few-symbols) 1 bs ts x in
+      let o : bs ≡ prefixes (cons (first-term ts) nil) = g .spelled ∙ ap prefixes (one-term ts (g .counted)) in
       ap (λ u. 3 ∷ k ∷ u) (o ∙ append-nil (prefix (first-term ts))) ∙ ap task-frame y
 
   judgement-spelled : (bs : List ℕ) (t : Task) → judgement-body s bs ≡ give t → 4 ∷ bs ≡ task-frame t
@@ -60,15 +55,15 @@ module _ (s : Sheet) (v : Valid s) where
       go (some q) none i e = let z : _≡_ {A = ℕ} 0 1 = cc in absurd (omega arith)
       go (some q) (some o) i e =
           let (ts, x, y) = mapped (λ ts. judgement n o ts) (ground-terms (s .arities) (equation-width q) bs) t e in
-          let g = ground-terms-given (s .arities) known (equation-width q) bs ts x in
+          let g = ground-terms-given (s .arities) (v .symbols .few-symbols) (equation-width q) bs ts x in
           ap₂ (λ a u. 4 ∷ n ∷ a ∷ u) (sym (direction-back d o i)) (g .spelled) ∙ ap task-frame y
 
   comparison-spelled : (bs : List ℕ) (t : Task) → comparison-body s bs ≡ give t → 5 ∷ bs ≡ task-frame t
   unfolding comparison-body task-frame prefix
   comparison-spelled bs t e =
       let (ts, x, y) = mapped (λ ts. comparison (first-term ts) (second-term ts)) (ground-terms (s .arities) 2 bs) t e in
-      let g = ground-terms-given (s .arities) known 2 bs ts x in
-      let o : bs ≡ prefixes (cons (first-term ts) (cons (second-term ts) nil)) = g .spelled ∙ ap prefixes (two-terms (s .arities) known ts (g .counted)) in
+      let g = ground-terms-given (s .arities) (v .symbols .few-symbols) 2 bs ts x in
+      let o : bs ≡ prefixes (cons (first-term ts) (cons (second-term ts) nil)) = g .spelled ∙ ap prefixes (two-terms ts (g .counted)) in
       ap (5 ∷_) (o ∙ ap (prefix (first-term ts) ++_) (append-nil (prefix (second-term ts)))) ∙ ap task-frame y
 
 -- 2. Each line adds its frame.
@@ -79,10 +74,6 @@ frames-so-far (within s) = frames-of s
 map-append : {A B : Type 0} (f : A → B) (xs ys : List A) → map f (xs ++ ys) ≡ map f xs ++ map f ys
 map-append f [] ys = refl
 map-append f (x ∷ xs) ys = ap (f x ∷_) (map-append f xs ys)
-
-no-length : {A : Type 0} (xs : List A) → length xs ≡ 0 → xs ≡ []
-no-length [] e = refl
-no-length (x ∷ xs) e = absurd (omega arith)
 
 equation-added : (s : Sheet) (e : Equation) → takes-equation s ≡ true → frames-so-far (with-equation s e) ≡ frames-of s ++ ((2 ∷ equation-bytes e) ∷ [])
 unfolding takes-equation with-equation frames-of

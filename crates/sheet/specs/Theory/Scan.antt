@@ -1,24 +1,23 @@
 -- What a scan that refuses nothing has read: as many terms as were asked for, over the sheet's symbols, within the room.
-use Prim.Native.Nat.{ℕ, zero, suc, _+_, _-_, _≤_, _<_}
+use Prim.Native.Nat.{ℕ, zero, suc, _+_, _≤_, _<_}
 use mathlib.Core.Path.{_≡_, refl, sym, ap, _∙_}
 use mathlib.Core.Bool.{Bool, true, false}
-use mathlib.Core.List.{List, [], _∷_, _++_, append-assoc, append-nil}
+use mathlib.Core.List.{List, [], _∷_, _++_}
 use lib.ListN.{length}
 use lib.Dec.{ltb}
 use borrow.Author.Tests.{ltb-true}
 use native.Mathlib.Omega.{arith}
-use Rattle.format.specs.Limits.{max-symbols, variable-count, max-side-nodes, max-task-nodes}
+use Rattle.format.specs.Limits.{variable-count}
 use Rattle.format.specs.Refusal.{Result, refuse, give}
-use Rattle.format.specs.declared.refusal.Refusal.{Refusal}
-use Rattle.format.specs.declared.refusal.Refusal.the-variants.{FrameBytes as frame-bytes, NotGround as not-ground}
+use Rattle.format.specs.declared.refusal.Refusal.the-variants.{FrameBytes as frame-bytes}
 use Rattle.format.specs.Byte.{class-of}
 use Rattle.format.specs.declared.byte.Class.{Class}
 use Rattle.format.specs.declared.byte.Class.the-variants.{Symbol as symbol, Variable as variable, Foreign as foreign}
 use Rattle.format.specs.Theory.Byte.{class-symbol, class-variable}
-use Rattle.terms.specs.Term.{Term, Terms, var, app, nil, cons, size, sizes, count, arity, Ground, Grounds}
-use Rattle.terms.specs.Prefix.{prefix, prefixes, take-terms, drop-terms, terms-of}
-use Rattle.terms.specs.Theory.Prefix.{Fits, AllFit, take-drop-terms, count-take, count-drop, sizes-take-drop, fit-take-drop, ground-take-drop, prefixes-append, append-terms, terms-of-spelled}
-use Rattle.sheet.specs.Frame.{after-node, scan, all-read, ground-terms, scan-sides, equation-body, first-term, second-term}
+use Rattle.terms.specs.Term.{Terms, var, app, nil, cons, size, sizes, count, arity, Grounds}
+use Rattle.terms.specs.Prefix.{prefix, prefixes, take-terms, drop-terms}
+use Rattle.terms.specs.Theory.Prefix.{AllFit, take-drop-terms, count-take, count-drop, sizes-take-drop, fit-take-drop, ground-take-drop, prefixes-append}
+use Rattle.sheet.specs.Frame.{after-node, scan}
 
 abbrev pub GroundIf : Bool → List ℕ → Terms → Type 0
 GroundIf true arities ts = Grounds arities ts

@@ -11,7 +11,7 @@ use Rattle.solving.specs.Theory.Table.{AllWithin}
 use Rattle.solving.specs.Theory.Written.{WrittenLine, WrittenLines}
 
 -- "records of 89 bytes".
-length-element-bytes : (es : List Element) → length (element-bytes es) ≡ 2 * length es
+pub length-element-bytes : (es : List Element) → length (element-bytes es) ≡ 2 * length es
 unfolding element-bytes
 length-element-bytes [] = refl
 length-element-bytes (equal p q ∷ es) = omega (arith, length-element-bytes es)

@@ -5,9 +5,9 @@ use mathlib.Core.List.{List, _∷_, _++_, append-assoc}
 use lib.ListN.{length, getD, set, length-append, length-set}
 use native.Mathlib.Omega.{arith}
 use Rattle.solving.specs.Walk.{argument-choices}
-use Rattle.walking.specs.Stored.{equality-mark}
-use Rattle.walking.specs.Place.{line-bytes, placed, choices-bytes, ArgumentsFit, PushesArguments}
-use Rattle.walking.specs.Theory.Laid.{row-ordered, row-empty, row-next, row-first-some}
+use Rattle.walking.specs.Contracts.Stored.{equality-mark}
+use Rattle.walking.specs.Contracts.Place.{line-bytes, placed, choices-bytes, ArgumentsFit, PushesArguments}
+use Rattle.unifying.specs.Theory.Laid.{row-ordered, row-empty, row-next, row-first-some}
 use Rattle.walking.specs.Theory.Place.{placed-none, placed-behind, gap-filled}
 
 module _ (sizes : List ℕ) (at q end : ℕ) (line : List ℕ) where

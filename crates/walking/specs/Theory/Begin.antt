@@ -17,16 +17,16 @@ use Rattle.walking.specs.declared.walk.Advanced.{Advanced}
 use Rattle.walking.specs.declared.walk.Progress.{Progress}
 use Rattle.walking.specs.declared.walk.Progress.the-variants.{Going, Refused}
 use Rattle.walking.specs.declared.solve.Ending.the-variants.{Solved, Refused as Unsolved}
-use Rattle.walking.specs.Solve.{WalkedAs}
-use Rattle.walking.specs.Laid.{view-of, Laid}
-use Rattle.walking.specs.Bound.{bindings-of, Readable}
-use Rattle.walking.specs.Stored.{Stored, line-of, stored-bytes}
-use Rattle.walking.specs.Named.{opening-line}
-use Rattle.walking.specs.Place.{line-bytes, placed, lines-bytes}
-use Rattle.walking.specs.Sound.{Sound}
-use Rattle.walking.specs.Walking.{memory-bytes, Memory, whole-walk, Walking, Further, GoesOn, Advances, Outcome, End, Comes}
-use Rattle.walking.specs.Theory.Front.{Fronting, fronting-next, fronting-done}
-use Rattle.walking.specs.Theory.Laid.{laid-layout}
+use Rattle.walking.specs.Contracts.Solve.{WalkedAs}
+use Rattle.unifying.specs.Contracts.Laid.{view-of, Laid}
+use Rattle.unifying.specs.Contracts.Bound.{bindings-of, Readable}
+use Rattle.walking.specs.Contracts.Stored.{Stored, line-of, stored-bytes}
+use Rattle.walking.specs.Contracts.Named.{opening-line}
+use Rattle.walking.specs.Contracts.Place.{line-bytes, placed, lines-bytes}
+use Rattle.walking.specs.Contracts.Sound.{Sound}
+use Rattle.walking.specs.Contracts.Walking.{memory-bytes, Memory, whole-walk, Walking, Further, GoesOn, Advances, Outcome, End, Comes}
+use Rattle.unifying.specs.Theory.Front.{Fronting, fronting-next, fronting-done}
+use Rattle.unifying.specs.Theory.Laid.{laid-layout}
 use Rattle.walking.specs.Theory.Place.{placed-length}
 use Rattle.walking.specs.Theory.Named.{opening-means}
 use Rattle.walking.specs.Theory.Walking.{placed-back, sound-length, ended}

@@ -16,15 +16,15 @@ use Rattle.solving.specs.Line.{Bindings, Element, equal, greater, Line, line}
 use Rattle.solving.specs.Walk.{enough, becomes, argument-choices, exceeds-each, lexicographic-choices, precedence-choices, same-symbol-choices, choices, treat, treat-line, crowded}
 use Rattle.solving.specs.Theory.Reach.{enough-suffices}
 use Rattle.solving.specs.Theory.Table.{Within, AllWithin, ProperTable, treat-proper}
-use Rattle.walking.specs.Laid.{view-of}
-use Rattle.walking.specs.Bound.{bindings-of, Readable}
-use Rattle.walking.specs.Stored.{marks, padding, Stored, line-of, stored-bytes}
-use Rattle.walking.specs.Place.{lines-bytes, front-bytes, back-bytes, choices-bytes}
-use Rattle.walking.specs.Sound.{AllReduced, Sound}
-use Rattle.walking.specs.Walking.{AllSound}
-use Rattle.walking.specs.Children.{child}
-use Rattle.walking.specs.Splitting.{AllLong, lesser}
-use Rattle.walking.specs.Theory.Laid.{laid-layout}
+use Rattle.unifying.specs.Contracts.Laid.{view-of}
+use Rattle.unifying.specs.Contracts.Bound.{bindings-of, Readable}
+use Rattle.walking.specs.Contracts.Stored.{marks, padding, Stored, line-of, stored-bytes}
+use Rattle.walking.specs.Contracts.Place.{lines-bytes, front-bytes, back-bytes, choices-bytes}
+use Rattle.walking.specs.Contracts.Sound.{AllReduced, Sound}
+use Rattle.walking.specs.Contracts.Walking.{AllSound}
+use Rattle.walking.specs.Contracts.Children.{child}
+use Rattle.walking.specs.Contracts.Splitting.{AllLong, lesser}
+use Rattle.unifying.specs.Theory.Laid.{laid-layout}
 use Rattle.walking.specs.Theory.Stored.{marks-append}
 use Rattle.walking.specs.Theory.Turn.{around, leftmost-some}
 use Rattle.walking.specs.Theory.Walking.{settled}

@@ -14,8 +14,8 @@ use Rattle.walking.specs.declared.element.Relation.the-variants.{Equal, 
 use Rattle.walking.specs.declared.element.Element.{Element as Held}
 use Rattle.walking.specs.declared.treat.Treatment.{Treatment}
 use Rattle.walking.specs.declared.treat.Treatment.the-variants.{Unify}
-use Rattle.walking.specs.Stored.{said, meaning, equality-mark, marked}
-use Rattle.walking.specs.Treatment.{Treated}
+use Rattle.walking.specs.Contracts.Stored.{said, meaning, equality-mark, marked}
+use Rattle.walking.specs.Contracts.Treatment.{Treated}
 
 -- Two bytes read as an element.
 pub marked-greater : (a b : ℕ) → a < equality-mark → marked a b ≡ greater a b

@@ -5,9 +5,9 @@ use mathlib.Core.List.{List, [], _∷_, _++_, append-assoc}
 use lib.ListN.{length, getD, set, length-append, length-set}
 use native.Mathlib.Omega.{arith}
 use Rattle.solving.specs.Walk.{exceeds-each}
-use Rattle.walking.specs.Stored.{marks}
-use Rattle.walking.specs.Place.{ExceedingFit, FillsExceeding}
-use Rattle.walking.specs.Theory.Laid.{row-ordered, row-empty, row-next, row-first-some}
+use Rattle.walking.specs.Contracts.Stored.{marks}
+use Rattle.walking.specs.Contracts.Place.{ExceedingFit, FillsExceeding}
+use Rattle.unifying.specs.Theory.Laid.{row-ordered, row-empty, row-next, row-first-some}
 use Rattle.walking.specs.Theory.Place.{set-pair, two-bytes, no-bytes}
 
 module _ (sizes : List ℕ) (p end : ℕ) where

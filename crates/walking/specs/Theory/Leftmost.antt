@@ -12,11 +12,12 @@ use Rattle.solving.specs.Theory.Table.{Within, AllWithin}
 use Rattle.walking.specs.declared.element.Element.{Element as Held}
 use Rattle.walking.specs.declared.treat.Treatment.{Treatment}
 use Rattle.walking.specs.declared.treat.Treatment.the-variants.{Reduced}
-use Rattle.walking.specs.Bound.{Readable}
-use Rattle.walking.specs.Stored.{meaning, marked, Stored, stored-bytes}
-use Rattle.walking.specs.Treatment.{Treated}
-use Rattle.walking.specs.Sound.{AllReduced, Sound, HasLine, Found, nothing, this-one, FindsLeftmost}
-use Rattle.walking.specs.Theory.Stored.{readable-slots, count-there, reduced-there, bindings-there, length-stored, element-there}
+use Rattle.unifying.specs.Contracts.Bound.{Readable}
+use Rattle.walking.specs.Contracts.Stored.{meaning, marked, Stored, stored-bytes}
+use Rattle.walking.specs.Contracts.Treatment.{Treated}
+use Rattle.walking.specs.Contracts.Sound.{AllReduced, Sound, HasLine, Found, nothing, this-one, FindsLeftmost}
+use Rattle.walking.specs.Theory.Stored.{count-there, reduced-there, bindings-there, length-stored, element-there}
+use Rattle.unifying.specs.Theory.Bound.{readable-slots}
 
 pub reduced-append : (nodes sizes bs : List ℕ) (es fs : List Element) → AllReduced nodes sizes bs es → AllReduced nodes sizes bs fs → AllReduced nodes sizes bs (es ++ fs)
 reduced-append nodes sizes bs [] fs h k = k

@@ -7,11 +7,11 @@ use lib.ListN.{length, getD, set, length-append, length-set, length-map}
 use native.Mathlib.Omega.{arith}
 use Rattle.solving.specs.Line.{Element, equal, greater}
 use Rattle.solving.specs.Walk.{exceeds-each, lexicographic-choices}
-use Rattle.walking.specs.Stored.{equality-mark, marks}
-use Rattle.walking.specs.Laid.{Row, none}
-use Rattle.walking.specs.Place.{line-bytes, placed, choices-bytes, marked-equal, EqualFit, MarksEqual, LexicographicFit, PushesLexicographic}
+use Rattle.walking.specs.Contracts.Stored.{equality-mark, marks}
+use Rattle.unifying.specs.Contracts.Laid.{Row, none}
+use Rattle.walking.specs.Contracts.Place.{line-bytes, placed, choices-bytes, marked-equal, EqualFit, MarksEqual, LexicographicFit, PushesLexicographic}
 use Rattle.walking.specs.Theory.Marked.{length-marked, marked-last, marked-set, marked-placed, row-last}
-use Rattle.walking.specs.Theory.Laid.{row-ordered, row-empty, row-next, row-first-some}
+use Rattle.unifying.specs.Theory.Laid.{row-ordered, row-empty, row-next, row-first-some}
 use Rattle.walking.specs.Theory.Place.{placed-none, placed-behind, set-pair}
 
 pub marks-first : (e : Element) (es : List Element) → marks (e ∷ es) ≡ marks (e ∷ []) ++ marks es

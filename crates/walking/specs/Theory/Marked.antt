@@ -5,10 +5,10 @@ use mathlib.Core.List.{List, [], _∷_, _++_}
 use lib.ListN.{length, getD, set, length-set}
 use lib.Seq.{set-comm}
 use native.Mathlib.Omega.{arith}
-use Rattle.walking.specs.Laid.{Row, none, more}
-use Rattle.walking.specs.Stored.{equality-mark}
-use Rattle.walking.specs.Place.{placed, marked-equal, EqualFit, MarksEqual}
-use Rattle.walking.specs.Theory.Laid.{row-ordered, row-empty, row-next, row-first-some}
+use Rattle.unifying.specs.Contracts.Laid.{Row, none, more}
+use Rattle.walking.specs.Contracts.Stored.{equality-mark}
+use Rattle.walking.specs.Contracts.Place.{placed, marked-equal, EqualFit, MarksEqual}
+use Rattle.unifying.specs.Theory.Laid.{row-ordered, row-empty, row-next, row-first-some}
 use Rattle.walking.specs.Theory.Place.{set-placed}
 
 pub length-marked : (ss : List ℕ) (at : ℕ) (l : List ℕ) → length (marked-equal ss at l) ≡ length l

@@ -12,11 +12,11 @@ use Rattle.walking.specs.declared.element.Relation.{Relation}
 use Rattle.walking.specs.declared.element.Relation.the-variants.{Equal, Greater}
 use Rattle.walking.specs.declared.element.Element.{Element as Held}
 use Rattle.walking.specs.declared.line.Line.{Line as Named}
-use Rattle.walking.specs.Bound.{binding-of, bindings-of}
-use Rattle.walking.specs.Stored.{meaning, equality-mark, marks, padding, first-element, Stored, line-of, stored-bytes}
-use Rattle.walking.specs.Place.{line-bytes, placed}
-use Rattle.walking.specs.Rebind.{Rebound}
-use Rattle.walking.specs.Named.{stored-of, opening-line, Markable, Writable}
+use Rattle.unifying.specs.Contracts.Bound.{binding-of, bindings-of}
+use Rattle.walking.specs.Contracts.Stored.{meaning, equality-mark, marks, padding, first-element, Stored, line-of, stored-bytes}
+use Rattle.walking.specs.Contracts.Place.{line-bytes, placed}
+use Rattle.walking.specs.Contracts.Rebind.{Rebound}
+use Rattle.walking.specs.Contracts.Named.{stored-of, opening-line, Markable, Writable}
 use Rattle.walking.specs.Theory.Element.{says-equal, says-greater}
 use Rattle.walking.specs.Theory.Stored.{length-marks, marks-append}
 use Rattle.walking.specs.Theory.Place.{placed-none, placed-behind, placed-length, set-pair}

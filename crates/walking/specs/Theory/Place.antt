@@ -7,7 +7,7 @@ use lib.Seq.{slice, slice-empty, paste, paste-zero, paste-suc, length-paste, len
 use native.Mathlib.Nat.{add-zero, zero-add, suc-add}
 use native.Mathlib.Numerals.{add-one}
 use native.Mathlib.Omega.{arith}
-use Rattle.walking.specs.Place.{line-bytes, placed, Gap}
+use Rattle.walking.specs.Contracts.Place.{line-bytes, placed, Gap}
 
 -- One more element of a part.
 pub slice-suc : (f t : ℕ) (l : List ℕ) → f ≤ t → t < length l → slice f (suc t) l ≡ slice f t l ++ (getD l t 0 ∷ [])

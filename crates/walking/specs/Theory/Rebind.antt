@@ -6,7 +6,7 @@ use lib.ListN.{length, set, drop, length-append}
 use lib.Seq.{drop-at, set-at}
 use native.Mathlib.Omega.{arith}
 use Rattle.format.specs.Limits.{variable-count}
-use Rattle.walking.specs.Rebind.{Rebound}
+use Rattle.walking.specs.Contracts.Rebind.{Rebound}
 
 pub rebound : (bindings before fronted : List ℕ) → length bindings ≡ variable-count → fronted ≡ bindings ++ drop variable-count before → Rebound bindings before (set fronted 9 0)
 rebound bindings before fronted w e = record {

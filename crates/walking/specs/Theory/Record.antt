@@ -12,12 +12,12 @@ use Rattle.format.specs.Limits.{variable-count, max-elements, record-bytes}
 use Rattle.solving.specs.Line.{Bindings, Element, equal, greater, binding-byte, element-bytes, record-of}
 use Rattle.solving.specs.Walk.{Treatment, fully-reduced, unified, enough, unify, treat}
 use Rattle.solving.specs.Theory.Written.{Inequalities}
-use Rattle.walking.specs.Laid.{view-of}
-use Rattle.walking.specs.Bound.{binding-of, bindings-of}
-use Rattle.walking.specs.Stored.{marks, padding, Stored, line-of, stored-bytes}
-use Rattle.walking.specs.Place.{line-bytes, placed}
-use Rattle.walking.specs.Sound.{AllReduced}
-use Rattle.walking.specs.Theory.Bound.{bound-byte, free-byte}
+use Rattle.unifying.specs.Contracts.Laid.{view-of}
+use Rattle.unifying.specs.Contracts.Bound.{binding-of, bindings-of}
+use Rattle.walking.specs.Contracts.Stored.{marks, padding, Stored, line-of, stored-bytes}
+use Rattle.walking.specs.Contracts.Place.{line-bytes, placed}
+use Rattle.walking.specs.Contracts.Sound.{AllReduced}
+use Rattle.unifying.specs.Theory.Bound.{bound-byte, free-byte}
 
 -- All bytes of a line but number 9.
 abbrev pub record-part : List ℕ → List ℕ

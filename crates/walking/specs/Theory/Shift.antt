@@ -5,7 +5,7 @@ use mathlib.Core.List.{List, [], _∷_, _++_, append-assoc}
 use lib.ListN.{length, getD, set, take, drop, length-append, length-set, length-drop}
 use lib.Seq.{slice, slice-empty, slice-cons, length-slice, length-take-le, take-suc-set, take-set-le, take-set-lt, drop-set-lt, drop-cons, getD-set-same, take-at, drop-at, take-append-add, drop-append-add, drop-append-le}
 use native.Mathlib.Omega.{arith}
-use Rattle.walking.specs.Place.{placed, Gap, rest-after, Shifted}
+use Rattle.walking.specs.Contracts.Place.{placed, Gap, rest-after, Shifted}
 use Rattle.walking.specs.Theory.Place.{placed-none, set-pair, slice-suc, two-bytes, no-bytes}
 
 -- The first byte of a part is put first, or the last one last.

@@ -15,18 +15,18 @@ use Rattle.solving.specs.Walk.{enough, becomes, refused, argument-choices, choi
 use Rattle.solving.specs.Theory.Table.{Within}
 use Rattle.walking.specs.declared.treat.Treatment.the-variants.{Split}
 use Rattle.walking.specs.declared.walk.Walk.{Walk}
-use Rattle.walking.specs.Laid.{view-of, arguments-of, Row}
-use Rattle.walking.specs.Bound.{bindings-of}
-use Rattle.walking.specs.Stored.{Stored, line-of, stored-bytes}
-use Rattle.walking.specs.Place.{line-bytes, placed, lines-bytes}
-use Rattle.walking.specs.Treatment.{BothSymbols, Treated}
-use Rattle.walking.specs.Sound.{Sound}
-use Rattle.walking.specs.Children.{child}
-use Rattle.walking.specs.Count.{HasRow, CountsRow}
-use Rattle.walking.specs.Splitting.{AllLong, Lasts, LastCount, Splitting, ChoicesFit, PushesChoices}
-use Rattle.walking.specs.Walking.{AllSound, Memory, whole-walk, Treating, GoesOn}
-use Rattle.walking.specs.Theory.Laid.{arguments-there}
-use Rattle.walking.specs.Theory.Stored.{readable-slots}
+use Rattle.unifying.specs.Contracts.Laid.{view-of, arguments-of, Row}
+use Rattle.unifying.specs.Contracts.Bound.{bindings-of}
+use Rattle.walking.specs.Contracts.Stored.{Stored, line-of, stored-bytes}
+use Rattle.walking.specs.Contracts.Place.{line-bytes, placed, lines-bytes}
+use Rattle.walking.specs.Contracts.Treatment.{BothSymbols, Treated}
+use Rattle.walking.specs.Contracts.Sound.{Sound}
+use Rattle.walking.specs.Contracts.Children.{child}
+use Rattle.unifying.specs.Contracts.Count.{HasRow, CountsRow}
+use Rattle.walking.specs.Contracts.Splitting.{AllLong, Lasts, LastCount, Splitting, ChoicesFit, PushesChoices}
+use Rattle.walking.specs.Contracts.Walking.{AllSound, Memory, whole-walk, Treating, GoesOn}
+use Rattle.unifying.specs.Theory.Laid.{arguments-there}
+use Rattle.unifying.specs.Theory.Bound.{readable-slots}
 use Rattle.walking.specs.Theory.Treatment.{split-becomes}
 use Rattle.walking.specs.Theory.Turn.{around}
 use Rattle.walking.specs.Theory.Walking.{sound-short, refused-elements, refused-lines, turned}

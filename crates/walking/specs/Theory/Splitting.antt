@@ -11,12 +11,12 @@ use native.Mathlib.Omega.{arith}
 use Rattle.format.specs.Limits.{variable-count, max-elements}
 use Rattle.solving.specs.Line.{Element}
 use Rattle.solving.specs.Walk.{argument-choices, exceeds-each, lexicographic-choices, choices}
-use Rattle.walking.specs.Laid.{Row}
-use Rattle.walking.specs.Stored.{equality-mark, marks, padding, Stored, stored-bytes}
-use Rattle.walking.specs.Place.{line-bytes, placed, lines-bytes, Gap, front-bytes, back-bytes, WideningFits, Widened, ExceedingFit, FillsExceeding, choices-bytes, ArgumentsFit, PushesArguments, LexicographicFit, PushesLexicographic}
-use Rattle.walking.specs.Children.{child}
-use Rattle.walking.specs.Splitting.{lesser, AllLong, Lasts, LastCount, TooLong, Splitting, ChoicesFit, PushesChoices}
-use Rattle.walking.specs.Theory.Laid.{row-unique}
+use Rattle.unifying.specs.Contracts.Laid.{Row}
+use Rattle.walking.specs.Contracts.Stored.{equality-mark, marks, padding, Stored, stored-bytes}
+use Rattle.walking.specs.Contracts.Place.{line-bytes, placed, lines-bytes, Gap, front-bytes, back-bytes, WideningFits, Widened, ExceedingFit, FillsExceeding, choices-bytes, ArgumentsFit, PushesArguments, LexicographicFit, PushesLexicographic}
+use Rattle.walking.specs.Contracts.Children.{child}
+use Rattle.walking.specs.Contracts.Splitting.{lesser, AllLong, Lasts, LastCount, TooLong, Splitting, ChoicesFit, PushesChoices}
+use Rattle.unifying.specs.Theory.Laid.{row-unique}
 use Rattle.walking.specs.Theory.Stored.{length-marks, length-stored, count-there}
 use Rattle.walking.specs.Theory.Place.{placed-behind, placed-length}
 use Rattle.walking.specs.Theory.Walking.{lines-append}

@@ -15,13 +15,13 @@ use Rattle.walking.specs.declared.treat.Treatment.{Treatment}
 use Rattle.walking.specs.declared.treat.Treatment.the-variants.{Reduced, DropLine, DropElement, Unify, Split}
 use Rattle.walking.specs.declared.leftmost.Leftmost.{Leftmost}
 use Rattle.walking.specs.declared.walk.Walk.{Walk}
-use Rattle.walking.specs.Laid.{view-of, arguments-of}
-use Rattle.walking.specs.Bound.{bindings-of}
-use Rattle.walking.specs.Stored.{Stored, line-of, stored-bytes}
-use Rattle.walking.specs.Place.{line-bytes}
-use Rattle.walking.specs.Treatment.{Treated}
-use Rattle.walking.specs.Sound.{AllReduced, Sound, HasLine, Found, nothing, this-one, FindsLeftmost}
-use Rattle.walking.specs.Walking.{memory-bytes, Memory, whole-walk, Walking, Finishing, Treating}
+use Rattle.unifying.specs.Contracts.Laid.{view-of, arguments-of}
+use Rattle.unifying.specs.Contracts.Bound.{bindings-of}
+use Rattle.walking.specs.Contracts.Stored.{Stored, line-of, stored-bytes}
+use Rattle.walking.specs.Contracts.Place.{line-bytes}
+use Rattle.walking.specs.Contracts.Treatment.{Treated}
+use Rattle.walking.specs.Contracts.Sound.{AllReduced, Sound, HasLine, Found, nothing, this-one, FindsLeftmost}
+use Rattle.walking.specs.Contracts.Walking.{memory-bytes, Memory, whole-walk, Walking, Finishing, Treating}
 use Rattle.walking.specs.Theory.Treatment.{split-becomes}
 use Rattle.walking.specs.Theory.Walking.{first-there, refused-turns}
 use Rattle.walking.specs.Theory.Children.{first-treated}

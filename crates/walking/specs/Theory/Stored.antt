@@ -8,13 +8,10 @@ use native.Mathlib.Omega.{arith}
 use Rattle.format.specs.Limits.{variable-count, max-elements}
 use Rattle.solving.specs.Line.{Element, equal, greater}
 use Rattle.solving.specs.Theory.Table.{Within, AllWithin}
-use Rattle.walking.specs.Bound.{Readable}
-use Rattle.walking.specs.Stored.{equality-mark, marked, marks, padding, Stored, stored-bytes}
-use Rattle.walking.specs.Theory.Bound.{length-bindings}
+use Rattle.unifying.specs.Contracts.Bound.{Readable}
+use Rattle.walking.specs.Contracts.Stored.{equality-mark, marked, marks, padding, Stored, stored-bytes}
+use Rattle.unifying.specs.Theory.Bound.{length-bindings}
 use Rattle.walking.specs.Theory.Element.{marked-greater, marked-equal}
-
-pub readable-slots : {nodes sizes bs : List ℕ} → Readable nodes sizes bs → length bs ≡ variable-count
-readable-slots {bs = bs} r = sym (length-bindings bs) ∙ r .proper .slots
 
 pub length-marks : (es : List Element) → length (marks es) ≡ 2 * length es
 unfolding marks

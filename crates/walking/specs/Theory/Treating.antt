@@ -11,24 +11,25 @@ use Rattle.solving.specs.Line.{Bindings, Element, equal, greater, Line, line as
 use Rattle.solving.specs.Walk.{Fuel, enough, becomes, unified, unify, treat, treat-line}
 use Rattle.walking.specs.declared.treat.Treatment.{Treatment}
 use Rattle.walking.specs.declared.treat.Treatment.the-variants.{Reduced, DropLine, DropElement, Unify, Split}
-use Rattle.walking.specs.declared.unify.Answer.{Answer}
-use Rattle.walking.specs.declared.unify.Answer.the-variants.{Unified, Failed}
-use Rattle.walking.specs.declared.unifier.Unifier.{Unifier}
+use Rattle.unifying.specs.declared.unify.Answer.{Answer}
+use Rattle.unifying.specs.declared.unify.Answer.the-variants.{Unified, Failed}
+use Rattle.unifying.specs.declared.unifier.Unifier.{Unifier}
 use Rattle.walking.specs.declared.walk.Walk.{Walk}
-use Rattle.walking.specs.Laid.{view-of}
-use Rattle.walking.specs.Bound.{bindings-of, Readable}
-use Rattle.walking.specs.Unify.{answered}
-use Rattle.walking.specs.Unifier.{Unifies}
-use Rattle.walking.specs.Rebind.{Rebound}
-use Rattle.walking.specs.Stored.{marks, padding, Stored, line-of, stored-bytes}
-use Rattle.walking.specs.Place.{line-bytes, placed, lines-bytes, Gap, front-bytes, back-bytes, WideningFits, Widened}
-use Rattle.walking.specs.Children.{child}
-use Rattle.walking.specs.Sound.{AllReduced, Sound}
-use Rattle.walking.specs.Walking.{memory-bytes, Memory, Walking, Finishing, Treating, GoesOn}
-use Rattle.walking.specs.Theory.Unify.{answered-unified, answered-failed, unified-readable}
+use Rattle.unifying.specs.Contracts.Laid.{view-of}
+use Rattle.unifying.specs.Contracts.Bound.{bindings-of, Readable}
+use Rattle.unifying.specs.Contracts.Unify.{answered}
+use Rattle.unifying.specs.Contracts.Unifier.{Unifies}
+use Rattle.walking.specs.Contracts.Rebind.{Rebound}
+use Rattle.walking.specs.Contracts.Stored.{marks, padding, Stored, line-of, stored-bytes}
+use Rattle.walking.specs.Contracts.Place.{line-bytes, placed, lines-bytes, Gap, front-bytes, back-bytes, WideningFits, Widened}
+use Rattle.walking.specs.Contracts.Children.{child}
+use Rattle.walking.specs.Contracts.Sound.{AllReduced, Sound}
+use Rattle.walking.specs.Contracts.Walking.{memory-bytes, Memory, Walking, Finishing, Treating, GoesOn}
+use Rattle.unifying.specs.Theory.Unify.{answered-unified, answered-failed, unified-readable}
 use Rattle.solving.specs.Theory.Table.{Within}
-use Rattle.walking.specs.Treatment.{Treated}
-use Rattle.walking.specs.Theory.Stored.{bindings-there, readable-slots, count-there, length-stored, marks-append}
+use Rattle.walking.specs.Contracts.Treatment.{Treated}
+use Rattle.walking.specs.Theory.Stored.{bindings-there, count-there, length-stored, marks-append}
+use Rattle.unifying.specs.Theory.Bound.{readable-slots}
 use Rattle.walking.specs.Theory.Place.{placed-none}
 use Rattle.walking.specs.Theory.Record.{record-part, reduced-inequalities, record-there}
 use Rattle.walking.specs.Theory.Turn.{around}

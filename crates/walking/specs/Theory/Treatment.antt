@@ -10,10 +10,10 @@ use Rattle.terms.specs.Position.{Node, var-node, app-node}
 use Rattle.solving.specs.Line.{Element, equal, greater, line}
 use Rattle.solving.specs.Walk.{Fuel, enough, reach, occurs, choices, Treatment, fully-reduced, becomes, treat-greater, treat}
 use Rattle.walking.specs.declared.treat.Treatment.the-variants.{Reduced, DropLine, DropElement, Unify, Split}
-use Rattle.walking.specs.Laid.{view-of, arguments-of}
-use Rattle.walking.specs.Bound.{bindings-of}
-use Rattle.walking.specs.Treatment.{BothSymbols, Treated}
-use Rattle.walking.specs.Theory.Laid.{symbol-there, variable-there}
+use Rattle.unifying.specs.Contracts.Laid.{view-of, arguments-of}
+use Rattle.unifying.specs.Contracts.Bound.{bindings-of}
+use Rattle.walking.specs.Contracts.Treatment.{BothSymbols, Treated}
+use Rattle.unifying.specs.Theory.Laid.{symbol-there, variable-there}
 
 module _ (nodes sizes bs : List ℕ) (p q s : ℕ) (at-p : s ≡ reach enough (view-of nodes sizes) (bindings-of bs) p) where
   left-variable : (v : ℕ) → view-of nodes sizes s ≡ var-node v → (o : Bool) → occurs enough (view-of nodes sizes) (enough .occurs-depth) (bindings-of bs) v q ≡ o

@@ -16,15 +16,15 @@ use Rattle.format.specs.declared.refusal.Refusal.the-variants.{TooManyTurns as 
 use Rattle.solving.specs.Line.{Bindings, Element, equal, greater, Line, line, binding-byte, element-bytes, record-of, records}
 use Rattle.solving.specs.Walk.{enough, treat-line, turn, crowded, over-limit, Walked, solved, refused, walk-from, walk}
 use Rattle.walking.specs.declared.walk.Walk.{Walk}
-use Rattle.walking.specs.Laid.{view-of, Laid}
-use Rattle.walking.specs.Bound.{bindings-of}
-use Rattle.walking.specs.Stored.{Stored, line-of, stored-bytes}
-use Rattle.walking.specs.Place.{line-bytes, placed, lines-bytes}
-use Rattle.walking.specs.Sound.{AllReduced, Sound}
-use Rattle.walking.specs.Walking.{memory-bytes, AllSound, Memory, whole-walk, Walking, Further, GoesOn}
-use Rattle.walking.specs.Theory.Bound.{length-bindings}
+use Rattle.unifying.specs.Contracts.Laid.{view-of, Laid}
+use Rattle.unifying.specs.Contracts.Bound.{bindings-of}
+use Rattle.walking.specs.Contracts.Stored.{Stored, line-of, stored-bytes}
+use Rattle.walking.specs.Contracts.Place.{line-bytes, placed, lines-bytes}
+use Rattle.walking.specs.Contracts.Sound.{AllReduced, Sound}
+use Rattle.walking.specs.Contracts.Walking.{memory-bytes, AllSound, Memory, whole-walk, Walking, Further, GoesOn}
+use Rattle.unifying.specs.Theory.Bound.{length-bindings, readable-slots}
 use Rattle.walking.specs.Theory.Place.{placed-length}
-use Rattle.walking.specs.Theory.Stored.{readable-slots, length-stored}
+use Rattle.walking.specs.Theory.Stored.{length-stored}
 use Rattle.walking.specs.Theory.Turn.{Settled, leftmost-none, Finished, AllFinished, finished-append, turn-none, turn-some, short-append, finished-short, crowded-middle, over-elements, over-lines, within-limits, walk-ends, walk-too-long, walk-over, walk-on}
 
 -- 1. Parts of a buffer.

@@ -8,8 +8,8 @@ use native.Mathlib.Nat.{zero-add, suc-add}
 use native.Mathlib.Omega.{arith}
 use Rattle.format.specs.Limits.{variable-count, max-elements}
 use Rattle.solving.specs.Line.{Element, equal, greater}
-use Rattle.walking.specs.Stored.{equality-mark, marks, padding, stored-bytes}
-use Rattle.walking.specs.Place.{front-bytes, back-bytes, rest-after, Shifted, WideningFits, Widened}
+use Rattle.walking.specs.Contracts.Stored.{equality-mark, marks, padding, stored-bytes}
+use Rattle.walking.specs.Contracts.Place.{front-bytes, back-bytes, rest-after, Shifted, WideningFits, Widened}
 use Rattle.walking.specs.Theory.Place.{set-pair}
 
 pub marks-append : (es fs : List Element) → marks (es ++ fs) ≡ marks es ++ marks fs

@@ -2,7 +2,7 @@
 use mathlib.Core.Path.{refl, sym, _∙_}
 use native.Mathlib.Omega.{arith}
 use borrow.Author.Needs.{needs}
-use Rattle.calls.specs.Theory.Check.{check-accepted, check-refused, refused-line}
+use Rattle.calls.proofs.Checked.{check-accepted, check-refused, refused-line}
 use Rattle.calls.proofs.check.neblinaro_check.Statement.{statement}
 use Rattle.calls.proofs.check.neblinaro_check.Tie as tie
 

@@ -1,8 +1,8 @@
 -- `neblinaro_compare` returns the defined outcome for every sheet, task number and scratch, leaves scratch as defined, and the sheet as it is.
 use mathlib.Core.Path.{refl, _∙_}
 use borrow.Author.Needs.{needs}
-use Rattle.calls.specs.Theory.Check.{refused-line}
-use Rattle.calls.specs.Theory.CompareTask.{compare-short, compare-long, compare-refused, sheet-accepted}
+use Rattle.calls.proofs.Checked.{refused-line, sheet-accepted}
+use Rattle.calls.proofs.CompareCall.{compare-short, compare-long, compare-refused}
 use Rattle.calls.proofs.compare.neblinaro_compare.Statement.{statement}
 use Rattle.calls.proofs.compare.neblinaro_compare.Tie as tie
 

@@ -1,9 +1,8 @@
 -- `neblinaro_solve` returns the defined outcome for every sheet, equation, direction, table and scratch, leaves table and scratch as defined, and the sheet as it is.
 use mathlib.Core.Path.{refl, _∙_}
 use borrow.Author.Needs.{needs}
-use Rattle.calls.specs.Theory.Check.{refused-line}
-use Rattle.calls.specs.Theory.CompareTask.{sheet-accepted}
-use Rattle.calls.specs.Theory.SolveTask.{table-short, scratch-short, buffers-long, sheet-refused}
+use Rattle.calls.proofs.Checked.{refused-line, sheet-accepted}
+use Rattle.calls.proofs.SolveCall.{table-short, scratch-short, buffers-long, sheet-refused}
 use Rattle.calls.proofs.solve.neblinaro_solve.Statement.{statement}
 use Rattle.calls.proofs.solve.neblinaro_solve.Tie as tie
 

@@ -1,7 +1,7 @@
 -- The needs of `exceeds`.
 use Prim.Native.Nat.{ℕ}
 use native.Mathlib.Omega.{arith}
-use Rattle.comparing.specs.Nodes.{Memory}
+use Rattle.comparing.specs.Contracts.Nodes.{Memory}
 use Rattle.comparing.specs.Theory.Nodes.{within}
 use Rattle.comparing.specs.Theory.Ready.{opened-memory}
 use Rattle.comparing.proofs.Resolved.{byte-low}

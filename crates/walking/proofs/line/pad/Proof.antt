@@ -1,7 +1,7 @@
 -- `walking::line::pad` fills the rest of a line. The loop's invariant, `Padding`: the bytes passed are filled.
 use Prim.Native.Nat.{_-_}
 use native.Mathlib.Omega.{arith}
-use Rattle.walking.specs.Place.{line-bytes}
+use Rattle.walking.specs.Contracts.Place.{line-bytes}
 use Rattle.walking.specs.Theory.Named.{Padding, padding-start, padding-length, padding-next, padding-done}
 use borrow.Author.Needs.{needs}
 use Rattle.walking.proofs.line.pad.Statement.{statement}

@@ -4,7 +4,7 @@ use mathlib.Core.Path.{_∙_}
 use lib.ListN.{length-set}
 use native.Mathlib.Omega.{arith}
 use Rattle.format.specs.Limits.{variable-count}
-use Rattle.walking.specs.Theory.Front.{Fronting, fronting-start, fronting-length, fronting-next, fronting-done}
+use Rattle.unifying.specs.Theory.Front.{Fronting, fronting-start, fronting-length, fronting-next, fronting-done}
 use Rattle.walking.specs.Theory.Rebind.{rebound}
 use borrow.Author.Needs.{needs}
 use Rattle.walking.proofs.rebind.rebind.Statement.{statement}

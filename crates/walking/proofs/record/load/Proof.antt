@@ -1,7 +1,7 @@
 -- `walking::record::load` copies a line. The loop's invariant, `Loading`: the bytes passed stand in the line.
 use Prim.Native.Nat.{_-_}
 use borrow.Author.Needs.{needs}
-use Rattle.walking.specs.Place.{line-bytes}
+use Rattle.walking.specs.Contracts.Place.{line-bytes}
 use Rattle.walking.specs.Theory.Place.{Loading, loading-start, loading-next, loading-done}
 use Rattle.walking.proofs.record.load.Statement.{statement}
 use Rattle.walking.proofs.record.load.Tie as tie

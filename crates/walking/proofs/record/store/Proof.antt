@@ -2,7 +2,7 @@
 use Prim.Native.Nat.{_-_}
 use native.Mathlib.Omega.{arith}
 use borrow.Author.Needs.{needs}
-use Rattle.walking.specs.Place.{line-bytes}
+use Rattle.walking.specs.Contracts.Place.{line-bytes}
 use Rattle.walking.specs.Theory.Place.{Storing, storing-start, storing-next, storing-done, storing-length}
 use Rattle.walking.proofs.record.store.Statement.{statement}
 use Rattle.walking.proofs.record.store.Tie as tie

@@ -2,7 +2,7 @@
 use mathlib.Core.Path.{refl, ap, _∙_}
 use native.Mathlib.Omega.{arith}
 use borrow.Author.Needs.{needs}
-use Rattle.walking.specs.Stored.{stored-bytes}
+use Rattle.walking.specs.Contracts.Stored.{stored-bytes}
 use Rattle.walking.specs.Theory.Begin.{opening-walks}
 use Rattle.walking.proofs.solve.begin_walk.Statement.{statement}
 use Rattle.walking.proofs.solve.begin_walk.Tie as tie

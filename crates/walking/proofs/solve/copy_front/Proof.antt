@@ -4,7 +4,7 @@ use native.Mathlib.Omega.{arith}
 use lib.ListN.{take}
 use lib.Seq.{length-take-le}
 use borrow.Author.Needs.{needs}
-use Rattle.walking.specs.Theory.Front.{Fronting, fronting-start, fronting-length}
+use Rattle.unifying.specs.Theory.Front.{Fronting, fronting-start, fronting-length}
 use Rattle.walking.specs.Theory.Begin.{front-next, front-done}
 use Rattle.walking.proofs.solve.copy_front.Statement.{statement}
 use Rattle.walking.proofs.solve.copy_front.Tie as tie

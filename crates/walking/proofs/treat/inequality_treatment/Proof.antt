@@ -1,15 +1,15 @@
 -- `inequality_treatment` meets its contract, by what stands at the two positions reached.
 use mathlib.Core.Path.{sym, _∙_}
 use borrow.Author.Needs.{needs}
-use Rattle.walking.specs.Theory.Unify.{variable-free}
+use Rattle.unifying.specs.Theory.Unify.{variable-free}
 use Rattle.walking.specs.Theory.Treatment.{left-drops, left-reduced, right-drops, right-reduced, splits}
 use Rattle.walking.proofs.treat.inequality_treatment.Statement.{statement}
 use Rattle.walking.proofs.treat.inequality_treatment.Tie as tie
 use Rattle.walking.proofs.treat.inequality_treatment.Reads as reads
 use Rattle.walking.proofs.treat.inequality_treatment.Lts as lts
 use Rattle.format.proofs.byte.wide.Reads as wide-reads
-use Rattle.walking.proofs.occurs.occurs_at.Reads as occurs-at-reads
-use Rattle.walking.proofs.reach.reached.Reads as reached-reads
+use Rattle.unifying.proofs.occurs.occurs_at.Reads as occurs-at-reads
+use Rattle.unifying.proofs.reach.reached.Reads as reached-reads
 
 -- src/treat.rt:38:9
 reached-requires : tie.Need-reached-requires

@@ -1,7 +1,7 @@
 -- `walking::line::Line::opening` makes the walk's first line.
 use mathlib.Core.Path.{refl}
 use native.Mathlib.Omega.{arith}
-use Rattle.walking.specs.Named.{stored-of, opening-line}
+use Rattle.walking.specs.Contracts.Named.{stored-of, opening-line}
 use Rattle.walking.proofs.line.Line.opening.Statement.{statement}
 use Rattle.walking.proofs.line.Line.opening.Tie as tie
 use Rattle.walking.proofs.line.Line.opening.Reads as reads

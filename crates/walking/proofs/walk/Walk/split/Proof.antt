@@ -10,7 +10,7 @@ use Rattle.walking.proofs.walk.Walk.split.Tie as tie
 use Rattle.walking.proofs.walk.Walk.split.Reads as reads
 use Rattle.walking.proofs.walk.Walk.split.Lts as lts
 use Rattle.format.proofs.byte.wide.Reads as wide-reads
-use Rattle.walking.proofs.count.row_count.Reads as row-count-reads
+use Rattle.unifying.proofs.count.row_count.Reads as row-count-reads
 use Rattle.walking.proofs.split.last_count.Reads as last-count-reads
 use Rattle.walking.proofs.split.push_choices.Reads as push-choices-reads
 use Rattle.walking.proofs.split.too_long.Reads as too-long-reads

@@ -13,7 +13,7 @@ use Rattle.walking.proofs.walk.Walk.unify.Lts as lts
 use Rattle.walking.proofs.rebind.rebind.Reads as rebind-reads
 use Rattle.walking.proofs.record.make_room.Reads as make-room-reads
 use Rattle.walking.proofs.record.store.Reads as store-reads
-use Rattle.walking.proofs.unifier.unify_positions.Reads as unify-positions-reads
+use Rattle.unifying.proofs.unifier.unify_positions.Reads as unify-positions-reads
 use Rattle.walking.proofs.walk.Walk.turned.Reads as turned-reads
 
 -- src/walk.rt:119:53

@@ -1,0 +1,5 @@
+pub mod Arities
+pub mod CompareTask
+pub mod Fill
+pub mod SolveTask
+pub mod Stored

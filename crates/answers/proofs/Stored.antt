@@ -1,0 +1,141 @@
+-- Laws for the call compare: the terms that its code stores are those of the task.
+use Prim.Native.Nat.{ℕ, _+_, _≤_}
+use mathlib.Core.Path.{_≡_, refl, sym, ap, subst, _∙_}
+use mathlib.Core.List.{List, _++_, map, append-assoc, append-nil}
+use lib.ListN.{length, getD, take, drop, replicate, length-append, length-replicate}
+use lib.Seq.{slice, length-take-le, take-append-add, take-at, drop-at}
+use native.Mathlib.Omega.{arith}
+use Rattle.format.specs.Limits.{max-symbols, max-task-nodes, position-count, variable-count, scratch-bytes, node-count, cell-count}
+use Rattle.format.specs.Buffer.{written}
+use Rattle.terms.specs.Term.{Term, Terms, nil, cons, size, sizes, Ground, Grounds}
+use Rattle.terms.specs.Position.{subterms-of}
+use Rattle.terms.specs.Prefix.{prefix, prefixes, terms-of}
+use Rattle.terms.specs.Theory.Prefix.{AllFit, grounds-fit, length-prefix, terms-of-spelled}
+use Rattle.comparing.specs.Contracts.Nodes.{GroundAt, TermAt, Memory, StandInRow, none, more}
+use Rattle.comparing.specs.Contracts.Ready.{AllSymbols}
+use Rattle.terms.specs.Contracts.Sizes.{Whole, Measurable, node-sizes}
+use Rattle.comparing.specs.Theory.Nodes.{ground-stands}
+use Rattle.terms.specs.Theory.Sizes.{whole}
+use Rattle.comparing.specs.Theory.Stored.{StoredAt, ground-row-stands}
+use Rattle.comparing.specs.Theory.Ready.{fresh-memory, symbols-append, symbols-drop, symbols-take, zero-bytes, ground-symbols}
+use Rattle.scanning.specs.declared.known.Known.{Known}
+use Rattle.scanning.specs.Contracts.Scan.{known-arities}
+use Rattle.scanning.specs.Contracts.Body.{Roomy}
+use Rattle.outcomes.specs.Buffer.{filled, cleared}
+use Rattle.answers.proofs.Fill.{filled-behind, cleared-is}
+use Rattle.answers.specs.Contracts.Comparison.{PairIs, HasPair, TwoAt}
+use Rattle.answers.proofs.Arities.{arities-taken}
+
+-- These bytes stand in the nodes from the subject's first node on.
+pub record Placed (nodes bs : List ℕ) : Type 0 where
+  pub before : List ℕ
+  pub after : List ℕ
+  pub at : length before ≡ position-count
+  pub is : nodes ≡ before ++ (bs ++ after)
+
+pub placed : (nodes part former after bs : List ℕ) → position-count ≤ length nodes → part ≡ written bs former → Placed (take position-count nodes ++ (part ++ after)) bs
+unfolding written
+placed nodes part former after bs h e =
+    record {
+      before = take position-count nodes;
+      after = drop (length bs) former ++ after;
+      at = length-take-le position-count nodes h;
+      is = ap (λ p. take position-count nodes ++ p) (ap (_++ after) e ∙ append-assoc bs (drop (length bs) former) after);
+    }
+
+pub placed-symbols : (nodes part former after bs : List ℕ) → AllSymbols nodes → AllSymbols bs → AllSymbols former → AllSymbols after → part ≡ written bs former
+    → AllSymbols (take position-count nodes ++ (part ++ after))
+unfolding written
+placed-symbols nodes part former after bs a b c d e =
+    symbols-append (take position-count nodes) (part ++ after) (symbols-take position-count nodes a)
+    (symbols-append part after (rw e (symbols-append bs (drop (length bs) former) b (symbols-drop (length bs) former c))) d)
+
+placed-slice : (nodes bs : List ℕ) → Placed nodes bs → (n : ℕ) → n ≡ length bs → slice position-count (position-count + n) nodes ≡ bs
+placed-slice nodes bs p n e =
+    ap (slice position-count (position-count + n)) (p .is)
+    ∙ ap (λ k. drop position-count (take (k + n) (p .before ++ (bs ++ p .after)))) (sym (p .at))
+    ∙ ap (drop position-count) (take-append-add (p .before) (bs ++ p .after) n)
+    ∙ drop-at (p .before) (take n (bs ++ p .after)) position-count (p .at)
+    ∙ take-at bs (p .after) n (sym e)
+
+placed-stored : (nodes bs : List ℕ) → Placed nodes bs → StoredAt nodes position-count bs
+placed-stored nodes bs p = record { rest = p .after; is = ap (drop position-count) (p .is) ∙ drop-at (p .before) (bs ++ p .after) position-count (p .at) }
+
+module _ {sheet arities : List ℕ} {from end : ℕ} {s t : Term} (p : PairIs sheet arities from end s t) where
+  abbrev the-pair : Terms
+  the-pair = cons s (cons t nil)
+
+  pair-bytes : prefix s ++ prefix t ≡ prefixes (cons s (cons t nil))
+  unfolding prefix
+  pair-bytes = ap (prefix s ++_) (sym (append-nil (prefix t)))
+
+  pub pair-few : length (prefix s ++ prefix t) ≤ max-task-nodes
+  pair-few = omega (arith, length-append (prefix s) (prefix t), length-prefix s, length-prefix t, p .few-nodes)
+
+  pub pair-symbols : AllSymbols (prefix s ++ prefix t)
+  pair-symbols = symbols-append (prefix s) (prefix t) (ground-symbols arities (p .few-symbols) s (p .first-ground)) (ground-symbols arities (p .few-symbols) t (p .second-ground))
+
+  pair-fits : AllFit arities (cons s (cons t nil))
+  pair-fits = grounds-fit arities (cons s (cons t nil)) (p .first-ground, (p .second-ground, tt))
+
+  pub pair-measurable : (nodes lengths : List ℕ) (n : ℕ) → Placed nodes (prefix s ++ prefix t) → n ≡ length (prefix s ++ prefix t)
+      → length nodes ≡ node-count → length lengths ≡ node-count → Measurable arities nodes lengths position-count (position-count + n)
+  pair-measurable nodes lengths n a e x y =
+      record {
+        ordered = omega arith;
+        few = omega (arith, pair-few);
+        nodes-room = omega (arith, pair-few);
+        sizes-room = omega (arith, pair-few);
+        terms = subst (Whole arities) (sym (placed-slice nodes (prefix s ++ prefix t) a n e ∙ pair-bytes)) (whole arities (p .few-symbols) (cons s (cons t nil)) pair-fits);
+      }
+
+  measured : (nodes : List ℕ) (n : ℕ) → Placed nodes (prefix s ++ prefix t) → n ≡ length (prefix s ++ prefix t)
+      → node-sizes arities (slice position-count (position-count + n) nodes) ≡ map size (subterms-of (cons s (cons t nil)))
+  unfolding node-sizes
+  measured nodes n a e =
+      ap (λ bs. map size (subterms-of (terms-of arities bs))) (placed-slice nodes (prefix s ++ prefix t) a n e ∙ pair-bytes)
+      ∙ ap (λ ts. map size (subterms-of ts)) (terms-of-spelled arities (p .few-symbols) (cons s (cons t nil)) pair-fits)
+
+  two-at : (nodes lengths : List ℕ) (second end : ℕ) → second ≡ position-count + getD lengths position-count 0
+      → StandInRow nodes lengths (λ v u. ⊥) position-count end (cons s (cons t nil)) → TwoAt nodes lengths s t second
+  two-at nodes lengths second end e (more a (more b r)) =
+      record {
+        first-stands = λ values. ground-stands a;
+        second-stands = λ values. subst (λ i. TermAt nodes lengths values i t) (sym e) (ground-stands b);
+        second-low = omega arith;
+      }
+
+  pub pair-stands : (nodes before lengths after : List ℕ) (n second : ℕ) → Placed nodes (prefix s ++ prefix t) → n ≡ length (prefix s ++ prefix t)
+      → position-count ≤ length before
+      → lengths ≡ take position-count before ++ (node-sizes arities (slice position-count (position-count + n) nodes) ++ after)
+      → second ≡ position-count + getD lengths position-count 0 → TwoAt nodes lengths s t second
+  unfolding size
+  pair-stands nodes before lengths after n second a e h l r =
+      let bytes = subst (StoredAt nodes position-count) pair-bytes (placed-stored nodes (prefix s ++ prefix t) a) in
+      let there = placed-stored lengths (map size (subterms-of (cons s (cons t nil)))) (record {
+        before = take position-count before;
+        after = after;
+        at = length-take-le position-count before h;
+        is = l ∙ ap (λ m. take position-count before ++ (m ++ after)) (measured nodes n a e);
+      }) in
+      two-at nodes lengths second (position-count + sizes (cons s (cons t nil))) r
+      (ground-row-stands arities (p .few-symbols) (cons s (cons t nil)) (p .first-ground, (p .second-ground, tt)) bytes there (omega (arith, p .few-nodes)))
+
+-- The cells stand first in scratch.
+module _ (scratch : List ℕ) (room : scratch-bytes ≤ length scratch) where
+  pub cells-there : length (take cell-count scratch) ≡ cell-count
+  cells-there = length-take-le cell-count scratch (omega arith)
+
+  pub no-row-counts : (nodes lengths values : List ℕ) → length nodes ≡ node-count → length lengths ≡ node-count → length values ≡ variable-count → AllSymbols nodes
+      → Memory nodes lengths values (replicate node-count 0) (take cell-count scratch)
+  unfolding AllSymbols
+  no-row-counts nodes lengths values a b c h = fresh-memory a b c (length-replicate {A = ℕ} node-count 0) cells-there (λ i l. h i) (zero-bytes node-count)
+
+  pub scratch-cleared : (front last : List ℕ) → length front ≡ length (take cell-count scratch) → last ≡ filled scratch-bytes 0 (front ++ drop cell-count scratch) → last ≡ cleared scratch
+  scratch-cleared front last l e =
+      e ∙ filled-behind scratch-bytes cell-count 0 (front ++ drop cell-count scratch) scratch (omega arith) (drop-at front (drop cell-count scratch) cell-count (l ∙ cells-there))
+      ∙ sym (cleared-is scratch)
+
+pub pair-taken : {sheet : List ℕ} {known : Known} {from end : ℕ} {s t : Term} → Roomy known
+    → PairIs sheet (known-arities known) from end s t → PairIs sheet (take (known .symbols) (known .arities)) from end s t
+pair-taken {sheet} {known} {from} {end} {s} {t} roomy p = subst (λ a. PairIs sheet a from end s t) (arities-taken roomy (p .few-symbols)) p

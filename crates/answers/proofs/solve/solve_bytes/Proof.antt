@@ -1,0 +1,46 @@
+-- `calls::solve::solve_bytes` is solve on an equation's bytes.
+use native.Mathlib.Omega.{arith}
+use borrow.Author.Needs.{needs}
+use Rattle.answers.proofs.SolveTask.{walk-cleared, walk-solved, walk-refused, counts-low, some-direction}
+use Rattle.answers.proofs.solve.solve_bytes.Statement.{statement}
+use Rattle.answers.proofs.solve.solve_bytes.Tie as tie
+
+fields-number-requires : tie.Need-fields-number-requires
+fields-number-requires c κs =
+    let pre = c .before .before .before .before .before .before .before .before .before .before .before .before .before .before .before .before .before .pre in
+    let is = pre .0 .0 .is in
+    let (d, x) = some-direction _ (pre .0 .2) in
+    let (lines, turns) = counts-low d is (c .before .before .before .before .before .before .before .before .before .before .solve-equation .ensures .0 _ d is x) (c .enum-told .given .1) in
+    (lines, turns, omega arith)
+
+returns : tie.Need-returns
+returns c =
+    let scratch = c .before .before .before .before .before .before .before .before .before .before .before .before .before .before .before .before .before .before .args .scratch .now in
+    let walked = c .before .before .before .before .before .before .before .before .before .before .before .solve-equation in
+    λ e d is x. walk-solved _ scratch (walked .ensures .0 e d is x) (c .before .enum-told .given .1) (c .fields-number .ensures) (walk-cleared scratch _ _ (walked .ensures .1) (c .before .before .before .before .before .fill .ensures))
+
+returns-2 : tie.Need-returns-2
+returns-2 c =
+    let scratch = c .before .before .before .before .before .before .before .before .before .before .before .before .before .before .before .before .before .before .before .before .before .before .before .args .scratch .now in
+    let walked = c .before .before .before .before .before .before .before .before .before .before .before .before .before .before .before .before .solve-equation in
+    λ e d is x.
+    walk-refused _ scratch (walked .ensures .0 e d is x) (c .before .before .before .before .before .before .ending .given .1) (c .refusal-number .ensures) (c .before .before .before .fill2 .ensures) (walk-cleared scratch _ _ (walked .ensures .1) (c .before .before .before .before .before .before .before .before .before .before .fill .ensures))
+
+pub solve-bytes-spec : {M : Type 1} → statement M
+solve-bytes-spec =
+    tie.close
+    (tie.spec
+    (λ c κs. search needs)
+    (λ c κs. search needs)
+    (λ c. search needs)
+    fields-number-requires
+    (λ c. search needs)
+    (λ c κs. search needs)
+    (λ c. search needs)
+    (λ c κs. search needs)
+    (λ c. search needs)
+    (λ c. search needs)
+    returns
+    (λ c. search needs)
+    (λ c. search needs)
+    returns-2)

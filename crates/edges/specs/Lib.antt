@@ -1,0 +1,4 @@
+pub mod Calls
+pub mod Texts
+pub mod Walks
+pub mod Limits

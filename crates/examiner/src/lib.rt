@@ -1,1 +1,0 @@
-// What the program prints. The listing stands in specs/.

@@ -1,0 +1,136 @@
+-- The program's listing (document 01, 'The program'): from the bytes of standard input to the bytes of standard output.
+use Prim.Native.Nat.{ℕ, zero, suc, _+_, _/_, _%_}
+use mathlib.Core.Bool.{true, false}
+use mathlib.Core.Option.{Option, none, some}
+use mathlib.Core.List.{List, [], _∷_, _++_, map, flatMap}
+use lib.ListN.{length}
+use lib.Dec.{ltb}
+use Rattle.format.specs.Limits.{first-variable}
+use Rattle.format.specs.Refusal.{number}
+use Rattle.format.specs.declared.refusal.Refusal.{Refusal}
+use Rattle.format.specs.Lists.{entry}
+use Rattle.terms.specs.Term.{Term, Values}
+use Rattle.terms.specs.Equation.{Equation, Direction, left-right, right-left, direction-number, term-at}
+use Rattle.terms.specs.Prefix.{prefix}
+use Rattle.ordering.specs.Verdict.{verdict, verdict-number}
+use Rattle.sheet.specs.Text.{LF}
+use Rattle.sheet.specs.Sheet.{Task, run, judgement, comparison, Sheet}
+use Rattle.sheet.specs.Reading.{Reading, refused-at, accepted, read}
+use Rattle.solving.specs.Line.{Bindings, Element, equal, greater, Line, line}
+use Rattle.solving.specs.Walk.{Walked, solved, refused, solve}
+use Rattle.reducing.specs.Run.{Step, Run, ending-number, last-term}
+use Rattle.reducing.specs.Test.{holding-line, line-run, given-values}
+use Rattle.outcomes.specs.Asked.{WalkRefusal, first-refusal}
+
+-- "prints frames in the sheet's digits, LF after each"
+unfoldable pub digit-byte : ℕ → ℕ
+digit-byte n = elim (ltb n 10) [ true ↦ 0x30 + n | false ↦ 0x57 + n ]
+
+unfoldable pub digits : List ℕ → List ℕ
+unfolding digit-byte
+digits [] = []
+digits (b ∷ bs) = digit-byte (b / 16) ∷ digit-byte (b % 16) ∷ digits bs
+
+unfoldable pub printed : (frames : List (List ℕ)) → List ℕ
+unfolding digits
+printed [] = []
+printed (f ∷ fs) = digits f ++ LF ∷ printed fs
+
+-- "two bytes, high first"
+unfoldable pub two-bytes : ℕ → List ℕ
+two-bytes n = n / 256 ∷ n % 256 ∷ []
+
+-- "Refused (8 to 10 included): only 'ff', number, line in two bytes."
+unfoldable pub refusal-frame : Refusal → (line : ℕ) → List ℕ
+unfolding two-bytes
+refusal-frame r n = 0xff ∷ number r ∷ two-bytes n
+
+-- "each variable with its term", "bindings by ascending variable, terms as in the equation": the slots of the variables from `v` upward.
+unfoldable pub binding-count : Bindings → ℕ
+binding-count [] = 0
+binding-count (none ∷ θ) = binding-count θ
+binding-count (some p ∷ θ) = suc (binding-count θ)
+
+unfoldable pub binding-terms : Equation → (v : ℕ) → Bindings → List ℕ
+unfolding prefix term-at
+binding-terms e v [] = []
+binding-terms e v (none ∷ θ) = binding-terms e (suc v) θ
+binding-terms e v (some p ∷ θ) = (first-variable + v) ∷ prefix (term-at e p) ++ binding-terms e (suc v) θ
+
+-- "each left and right term"
+unfoldable pub element-terms : Equation → Element → List ℕ
+unfolding prefix term-at
+element-terms e (equal p q) = prefix (term-at e p) ++ prefix (term-at e q)
+element-terms e (greater p q) = prefix (term-at e p) ++ prefix (term-at e q)
+
+-- "per line '12', binding count, each variable with its term, element count, each left and right term"
+unfoldable pub line-frame : Equation → Line → List ℕ
+unfolding binding-count binding-terms element-terms flatMap
+line-frame e (line θ es) = 0x12 ∷ binding-count θ ∷ binding-terms e 0 θ ++ length es ∷ flatMap (element-terms e) es
+
+-- "for each equation and direction '11', equation, direction, lines, turns (two bytes, high first), then per line '12'"
+unfoldable pub table-frames : (n : ℕ) → Equation → Direction → Walked → List (List ℕ)
+unfolding direction-number two-bytes line-frame
+table-frames n e d (solved ls t) = (0x11 ∷ n ∷ direction-number d ∷ length ls ∷ two-bytes t) ∷ map (line-frame e) ls
+-- Not met: a sheet is listed where every walk solves.
+table-frames n e d (refused r) = []
+
+unfoldable pub equation-frames : (n : ℕ) → List Equation → List (List ℕ)
+unfolding table-frames solve
+equation-frames n [] = []
+equation-frames n (e ∷ es) = table-frames n e left-right (solve e left-right) ++ table-frames n e right-left (solve e right-left) ++ equation-frames (suc n) es
+
+-- "run, each step '14', equation, direction, position, then '13', ending, steps, term"
+unfoldable pub step-frame : Step → List ℕ
+unfolding direction-number
+step-frame s = 0x14 ∷ s .equation ∷ direction-number (s .direction) ∷ s .position ∷ []
+
+unfoldable pub run-frames : (subject : Term) → Run → List (List ℕ)
+unfolding step-frame ending-number prefix last-term
+run-frames subject r = map step-frame (r .steps) ++ (0x13 ∷ ending-number (r .ending) ∷ length (r .steps) ∷ prefix (last-term subject (r .steps))) ∷ []
+
+-- "judgement, '15', yes 01 or no 00, holding line or 00"
+unfoldable pub judgement-frame : (holding : ℕ) → List ℕ
+judgement-frame zero = 0x15 ∷ 0 ∷ 0 ∷ []
+judgement-frame (suc i) = 0x15 ∷ 1 ∷ suc i ∷ []
+
+unfoldable pub holding : Option Equation → Direction → Values → ℕ
+unfolding holding-line
+-- Not met: the equation of an accepted judgement is there.
+holding none d ρ = 0
+holding (some e) d ρ = holding-line e d ρ
+
+-- "comparison, '16', 00 smaller, 01 equal, 02 greater"
+unfoldable pub task-frames : List Equation → Task → List (List ℕ)
+unfolding run-frames line-run judgement-frame holding given-values entry verdict verdict-number
+task-frames es (run k s) = run-frames s (line-run es k s)
+task-frames es (judgement n d ts) = judgement-frame (holding (entry es n) d (given-values ts)) ∷ []
+task-frames es (comparison s t) = (0x16 ∷ verdict-number (verdict s t) ∷ []) ∷ []
+
+-- "steps of all runs"
+unfoldable pub steps-taken : List Equation → List Task → ℕ
+unfolding line-run
+steps-taken es [] = 0
+steps-taken es (run k s ∷ ts) = length (line-run es k s .steps) + steps-taken es ts
+steps-taken es (judgement n d vs ∷ ts) = steps-taken es ts
+steps-taken es (comparison s t ∷ ts) = steps-taken es ts
+
+-- "Last '1f', steps of all runs in two bytes."
+unfoldable pub sheet-frames : Sheet → List (List ℕ)
+unfolding equation-frames task-frames steps-taken two-bytes flatMap
+sheet-frames s = equation-frames 0 (s .equations) ++ flatMap (task-frames (s .equations)) (s .tasks) ++ (0x1f ∷ two-bytes (steps-taken (s .equations) (s .tasks))) ∷ []
+
+unfoldable pub walked-frames : Sheet → Option WalkRefusal → List (List ℕ)
+unfolding refusal-frame sheet-frames
+walked-frames s (some r) = refusal-frame (r .refusal) (r .line) ∷ []
+walked-frames s none = sheet-frames s
+
+unfoldable pub frames : Reading Sheet → List (List ℕ)
+unfolding refusal-frame walked-frames first-refusal
+frames (refused-at r n) = refusal-frame r n ∷ []
+frames (accepted s) = walked-frames s (first-refusal 0 (s .equations))
+
+-- "It reads a sheet from standard input and prints frames"
+unfoldable pub listing : List ℕ → List ℕ
+unfolding printed frames read
+listing input = printed (frames (read input))

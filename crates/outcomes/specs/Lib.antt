@@ -1,0 +1,4 @@
+pub mod Asked
+pub mod Buffer
+pub mod Outcome
+pub mod Theory

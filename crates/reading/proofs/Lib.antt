@@ -1,0 +1,5 @@
+pub mod Decode
+pub mod Lines
+pub mod Located
+pub mod Seeking
+pub mod Step

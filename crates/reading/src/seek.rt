@@ -1,0 +1,125 @@
+// Where the frames of an accepted sheet stand, and their bytes.
+use scanning::known::Known;
+use scanning::text::RowEnd;
+use scanning::text::byte_at;
+use scanning::text::row_end;
+ghost use mathlib.Core.Path.{_≡_};
+ghost use mathlib.Core.Option.{some};
+ghost use mathlib.Core.List.{List};
+ghost use Prim.Native.Nat.{ℕ, _≤_, _<_};
+ghost use lib.ListN.{length, drop};
+ghost use Rattle.format.specs.Lists.{entry};
+ghost use Rattle.terms.specs.Equation.{Equation};
+ghost use Rattle.terms.specs.Prefix.{equation-bytes};
+ghost use Rattle.sheet.specs.Text.{Row, rows};
+ghost use Rattle.sheet.specs.Sheet.{Task};
+ghost use Rattle.sheet.specs.Frames.{task-frame};
+ghost use Rattle.reading.specs.Contracts.Seek.{Accepts, FrameIn, EquationIn, TaskIn, Spans, Decoded, TaskAt};
+
+// The digits from `from` to `end`.
+pub struct Span {
+    pub from: usize,
+    pub end: usize,
+}
+
+// Where line `n` starts; lines are numbered from 0.
+fn line_start(s: &[u8], n: usize) -> usize
+    requires { ⌜ ((row : Row) × (entry (rows (now s)) n ≡ some row)) ⌝ }
+    ensures { λ r. ⌜ entry (rows (drop r (now (s .entry)))) 0 ≡ entry (rows (now (s .entry))) n ⌝ }
+{
+    let mut at = 0;
+    let mut left = n;
+    while 0 < left {
+        if s[at] == 10 {
+            left = left - 1;
+        }
+        at = at + 1;
+    }
+    at
+}
+
+// The digits of line `n`, where it is a frame.
+pub fn frame_at(s: &[u8], n: usize) -> Span
+    requires { ⌜ ((frame : List ℕ) × FrameIn (now s) n frame) ⌝ }
+    ensures { λ r. ⌜ ((frame : List ℕ) → FrameIn (now (s .entry)) n frame → Spans (now (s .entry)) (r .from) (r .end) frame) ⌝ }
+{
+    let from = line_start(s, n);
+    match row_end(s, from) {
+        RowEnd::At(end) => Span {
+            from: from,
+            end: end,
+        },
+        RowEnd::Broken => Span { from: 0, end: 0 },
+    }
+}
+
+// The bytes that the digits from `from` to `end` write, to the front of `out`; how many.
+pub fn decode(s: &[u8], from: usize, end: usize, out: &mut [u8]) -> usize
+    requires { ⌜ ((bs : List ℕ) × Spans (now s) from end bs × (length bs ≤ length (now out))) ⌝ }
+    ensures { λ r. ⌜ ((bs : List ℕ) → Spans (now (s .entry)) from end bs → Decoded bs (now (out .entry)) (now (out .exit)) r) ⌝ }
+{
+    let mut at = from;
+    let mut n = 0;
+    while at < end {
+        out[n] = byte_at(s, at) as u8;
+        at = at + 2;
+        n = n + 1;
+    }
+    n
+}
+
+// The bytes of equation `e`, left side then right side, to the front of `out`; how many.
+pub fn equation_at(s: &[u8], known: Known, e: usize, out: &mut [u8]) -> usize
+    requires { ⌜ Accepts (now s) known × (e < known .equations) × (64 ≤ length (now out)) ⌝ }
+    ensures { λ r. ⌜ ((q : Equation) → EquationIn (now (s .entry)) e q → Decoded (equation-bytes q) (now (out .entry)) (now (out .exit)) r) ⌝ }
+{
+    let frame = frame_at(s, e + 1);
+    decode(s, frame.from + 2, frame.end, out)
+}
+
+// What a task asks for besides its terms: a run's step limit, a judgement's equation and direction.
+pub enum TaskHead {
+    Run(usize),
+    Judgement(usize, usize),
+    Comparison,
+}
+
+// A task, and the digits of its terms.
+pub struct TaskFound {
+    pub head: TaskHead,
+    pub from: usize,
+    pub end: usize,
+}
+
+// Task `k`.
+pub fn find_task(s: &[u8], known: Known, k: usize) -> TaskFound
+    requires { ⌜ Accepts (now s) known × (k < known .tasks) ⌝ }
+    ensures { λ r. ⌜ ((t : Task) → TaskIn (now (s .entry)) k t → TaskAt (now (s .entry)) t r) ⌝ }
+{
+    let frame = frame_at(s, known.equations + k + 1);
+    task_head(s, frame.from, frame.end)
+}
+
+// The frame of a task taken apart.
+fn task_head(s: &[u8], from: usize, end: usize) -> TaskFound
+    requires { ⌜ ((t : Task) × Spans (now s) from end (task-frame t)) ⌝ }
+    ensures { λ r. ⌜ ((t : Task) → Spans (now (s .entry)) from end (task-frame t) → TaskAt (now (s .entry)) t r) ⌝ }
+{
+    match byte_at(s, from) {
+        3 => TaskFound {
+            head: TaskHead::Run(byte_at(s, from + 2)),
+            from: from + 4,
+            end: end,
+        },
+        4 => TaskFound {
+            head: TaskHead::Judgement(byte_at(s, from + 2), byte_at(s, from + 4)),
+            from: from + 6,
+            end: end,
+        },
+        _ => TaskFound {
+            head: TaskHead::Comparison,
+            from: from + 2,
+            end: end,
+        },
+    }
+}

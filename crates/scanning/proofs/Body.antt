@@ -1,0 +1,135 @@
+-- Laws for the bodies of frames: a scan with nothing behind it, an equation's two sides, and its highest variable.
+use Prim.Native.Nat.{ℕ, zero, suc, _+_, _*_, _≤_, max}
+use mathlib.Core.Path.{_≡_, refl, ap, _∙_}
+use mathlib.Core.Bool.{Bool, false}
+use mathlib.Core.List.{List, [], _∷_, _++_}
+use lib.ListN.{length}
+use native.Mathlib.Omega.{arith}
+use Rattle.format.specs.Limits.{max-symbols, max-side-nodes}
+use Rattle.format.specs.Refusal.{Result, refuse, give, Result·map}
+use Rattle.format.specs.declared.refusal.Refusal.{Refusal}
+use Rattle.format.specs.declared.refusal.Refusal.the-variants.{FrameBytes}
+use Rattle.format.specs.Theory.Byte.{symbol-class, variable-class}
+use Rattle.terms.specs.Term.{Term, Terms, var, app, nil, cons}
+use Rattle.terms.specs.Equation.{Equation}
+use Rattle.terms.specs.Prefix.{prefix, prefixes, terms-of}
+use Rattle.terms.specs.Theory.Prefix.{Fits, AllFit}
+use Rattle.scanning.specs.declared.scan.Outcome.{Outcome}
+use Rattle.scanning.specs.declared.scan.Outcome.the-variants.{Done, Refused}
+use Rattle.scanning.specs.declared.scan.Scanned.{Scanned}
+use Rattle.scanning.specs.declared.known.Known.{Known}
+use Rattle.scanning.specs.declared.frame.Sides.{Sides}
+use Rattle.sheet.specs.Sheet.{width, widths, equation-width}
+use Rattle.sheet.specs.Frame.{scan, all-read, scan-sides, first-term, second-term, equation-body}
+use Rattle.scanning.specs.Contracts.Cursor.{bytes-between}
+use Rattle.scanning.specs.Contracts.Scan.{known-arities, widest, FrameReady, outcome-result, ScanRead, LastSide, EquationGiven}
+use Rattle.scanning.specs.Theory.Listed.{length-listed}
+use Rattle.scanning.specs.Theory.Between.{between-end, between-cons}
+use Rattle.sheet.specs.Theory.Frame.{equation-given}
+
+-- 1. A scan, and what is left behind it.
+module _ (text : List ℕ) (from end : ℕ) (arities : List ℕ) (ground : Bool) (terms nodes w : ℕ) (r : Scanned) (g : ScanRead text from end arities ground terms nodes w r) where
+  pub scan-refusal : {x : Refusal} → r .outcome ≡ Refused x → scan arities ground (bytes-between text from end) terms nodes ≡ refuse x
+  scan-refusal e = g .given ∙ ap (outcome-result (bytes-between text (r .at) end)) e
+
+  pub scan-done : r .outcome ≡ Done → scan arities ground (bytes-between text from end) terms nodes ≡ give (bytes-between text (r .at) end)
+  scan-done e = g .given ∙ ap (outcome-result (bytes-between text (r .at) end)) e
+
+  pub refused-read : {x : Refusal} → r .outcome ≡ Refused x → (ts : Terms) → all-read ts (scan arities ground (bytes-between text from end) terms nodes) ≡ refuse x
+  unfolding all-read
+  refused-read e ts = ap (all-read ts) (scan-refusal e)
+
+  pub done-whole : r .outcome ≡ Done → r .at ≡ end → scan arities ground (bytes-between text from end) terms nodes ≡ give []
+  done-whole e d = scan-done e ∙ ap give (between-end text (r .at) end (omega arith))
+
+  pub whole-read : r .outcome ≡ Done → r .at ≡ end → (ts : Terms) → all-read ts (scan arities ground (bytes-between text from end) terms nodes) ≡ give ts
+  unfolding all-read
+  whole-read e d ts = ap (all-read ts) (done-whole e d)
+
+  pub left-over : end ≤ length text → r .outcome ≡ Done → (r .at ≡ end → ⊥) → (ts : Terms) → all-read ts (scan arities ground (bytes-between text from end) terms nodes) ≡ refuse FrameBytes
+  unfolding all-read
+  left-over inside e n ts = ap (all-read ts) (scan-done e ∙ ap give (between-cons text (r .at) end (two (g .pairs) (g .even)) inside))
+    where
+      two : (k : ℕ) → end ≡ r .at + 2 * k → r .at + 2 ≤ end
+      two zero d = absurd (n (omega arith))
+      two (suc k) d = omega arith
+
+  pub done-width : r .outcome ≡ Done → r .at ≡ end → max w (widest (bytes-between text from end)) ≡ r .width
+  unfolding widest
+  done-width e d = g .widths ∙ ap (λ bs. max (r .width) (widest bs)) (between-end text (r .at) end (omega arith)) ∙ omega arith
+
+-- 2. The two sides of an equation.
+after-left : (arities : List ℕ) → Result (List ℕ) → Result (List ℕ)
+after-left arities r = elim r [ refuse x ↦ refuse x | give rest ↦ scan arities false rest 1 max-side-nodes ]
+
+pub sides-refused : (arities bs : List ℕ) {x : Refusal} → scan arities false bs 1 max-side-nodes ≡ refuse x → equation-body arities bs ≡ refuse x
+unfolding equation-body scan-sides all-read Result·map after-left
+sides-refused arities bs e = ap (λ r. Result·map (λ ts. let q : Equation = record { left = first-term ts; right = second-term ts } in q) (all-read (terms-of arities bs) (after-left arities r))) e
+
+sides-second : (arities bs rest : List ℕ) → scan arities false bs 1 max-side-nodes ≡ give rest → scan-sides arities bs ≡ scan arities false rest 1 max-side-nodes
+unfolding scan-sides after-left
+sides-second arities bs rest e = ap (after-left arities) e
+
+pub second-refused : (arities bs rest : List ℕ) {x : Refusal} → scan arities false bs 1 max-side-nodes ≡ give rest → ((ts : Terms) → all-read ts (scan arities false rest 1 max-side-nodes) ≡ refuse x)
+    → equation-body arities bs ≡ refuse x
+unfolding equation-body Result·map
+second-refused arities bs rest e h = rw (sides-second arities bs rest e, h (terms-of arities bs))
+
+second-read : (arities bs rest : List ℕ) → scan arities false bs 1 max-side-nodes ≡ give rest → scan arities false rest 1 max-side-nodes ≡ give [] → (e : Equation) × (equation-body arities bs ≡ give e)
+unfolding equation-body Result·map all-read
+second-read arities bs rest d e = (record { left = first-term (terms-of arities bs); right = second-term (terms-of arities bs) }, rw (sides-second arities bs rest d, e))
+
+-- 3. The highest variable of an equation is that of its bytes.
+widest-append : (xs ys : List ℕ) → widest (xs ++ ys) ≡ max (widest xs) (widest ys)
+unfolding widest
+widest-append [] ys = omega arith
+widest-append (x ∷ xs) ys = omega (arith, widest-append xs ys)
+
+module _ (arities : List ℕ) (known : length arities ≤ max-symbols) where
+  mutual
+    unfolding widest prefix width
+
+    width-spelled : (t : Term) → Fits arities t → widest (prefix t) ≡ width t
+    width-spelled (var v) h = rw (variable-class v h) (omega arith)
+    width-spelled (app f ts) h = let e = symbol-class f (omega (arith, h .0)) in rw e (omega (arith, widths-spelled ts (h .2)))
+
+    widths-spelled : (ts : Terms) → AllFit arities ts → widest (prefixes ts) ≡ widths ts
+    widths-spelled nil h = refl
+    widths-spelled (cons t ts) h = widest-append (prefix t) (prefixes ts) ∙ omega (arith, width-spelled t (h .0), widths-spelled ts (h .1))
+
+  pub equation-width-read : (bs : List ℕ) (e : Equation) → equation-body arities bs ≡ give e → equation-width e ≡ widest bs
+  unfolding equation-width
+  equation-width-read bs e d =
+      let r = equation-given arities known bs e d in
+      omega (arith, ap widest (r .spelled), widest-append (prefix (e .left)) (prefix (e .right)), width-spelled (e .left) (r .valid .left-fits), width-spelled (e .right) (r .valid .right-fits))
+
+  -- Both sides are done.
+  pub sides-done : (text : List ℕ) (from at end w highest : ℕ) → scan arities false (bytes-between text from end) 1 max-side-nodes ≡ give (bytes-between text at end)
+      → scan arities false (bytes-between text at end) 1 max-side-nodes ≡ give [] → max 0 (widest (bytes-between text from end)) ≡ max w (widest (bytes-between text at end))
+      → max w (widest (bytes-between text at end)) ≡ highest → EquationGiven arities (bytes-between text from end) highest Done
+  sides-done text from at end w highest d e i j =
+      let (q, x) = second-read arities (bytes-between text from end) (bytes-between text at end) d e in
+      (q, x, omega (arith, equation-width-read (bytes-between text from end) q x))
+
+-- 4. What the equation's code puts together.
+-- What lies behind a scan is a frame's end again.
+pub frame-behind : (text : List ℕ) (from end : ℕ) (arities : List ℕ) (ground : Bool) (terms nodes w : ℕ) (r : Scanned) → ScanRead text from end arities ground terms nodes w r → {k : Known} → FrameReady text from end k
+    → FrameReady text (r .at) end k
+frame-behind text from end arities ground terms nodes w r g f = record {
+  pairs = g .pairs;
+  even = g .even;
+  inside = f .inside;
+  are-bytes = g .are-bytes;
+  few-symbols = f .few-symbols;
+}
+
+pub equation-outcome : (text : List ℕ) (from end : ℕ) (k : Known) → FrameReady text from end k → (l : Scanned) → ScanRead text from end (known-arities k) false 1 max-side-nodes 0 l → l .outcome ≡ Done
+    → (r : Sides) → LastSide (known-arities k) (bytes-between text (l .at) end) (l .width) (r .width) (r .outcome) → EquationGiven (known-arities k) (bytes-between text from end) (r .width) (r .outcome)
+equation-outcome text from end k f l g d r h = go (r .outcome) (r .width) h
+  where
+    few : length (known-arities k) ≤ max-symbols
+    few = omega (arith, length-listed (k .symbols) (k .arities), f .few-symbols)
+
+    go : (o : Outcome) (w : ℕ) → LastSide (known-arities k) (bytes-between text (l .at) end) (l .width) w o → EquationGiven (known-arities k) (bytes-between text from end) w o
+    go Done w h = sides-done (known-arities k) few text from (l .at) end (l .width) w (scan-done text from end (known-arities k) false 1 max-side-nodes 0 l g d) (h .0) (g .widths) (h .1)
+    go (Refused x) w h = second-refused (known-arities k) (bytes-between text from end) (bytes-between text (l .at) end) (scan-done text from end (known-arities k) false 1 max-side-nodes 0 l g d) h

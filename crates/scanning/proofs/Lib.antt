@@ -1,0 +1,5 @@
+pub mod Arities
+pub mod Body
+pub mod Cursor
+pub mod Scanning
+pub mod Tasks

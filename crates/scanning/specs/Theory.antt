@@ -1,0 +1,4 @@
+-- Laws.
+pub mod Between
+pub mod Listed
+pub mod Outcome

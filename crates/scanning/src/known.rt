@@ -1,0 +1,26 @@
+// What the reader remembers of the lines it has passed.
+ghost use Rattle.scanning.specs.Contracts.Body.{none-known};
+
+// The symbols' arities and their count; for each equation how many variables there are up to its highest; how many equations and tasks.
+// No symbols: no line is passed yet.
+pub struct Known {
+    pub symbols: usize,
+    pub arities: [u8; 16],
+    pub equations: usize,
+    pub widths: [u8; 16],
+    pub tasks: usize,
+}
+
+impl Known {
+    pub fn nothing() -> Known
+        ensures { λ k. ⌜ none-known k ⌝ }
+    {
+        Known {
+            symbols: 0,
+            arities: [0u8; 16],
+            equations: 0,
+            widths: [0u8; 16],
+            tasks: 0,
+        }
+    }
+}

@@ -1,0 +1,23 @@
+-- The variables of an equation within the limits are as few as a sheet may have.
+use Prim.Native.Nat.{ℕ, _≤_}
+use native.Mathlib.Omega.{arith}
+use Rattle.format.specs.Limits.{variable-count}
+use Rattle.terms.specs.Term.{Term, Terms, var, app, nil, cons}
+use Rattle.terms.specs.Equation.{Equation}
+use Rattle.terms.specs.Theory.Limits.{VariablesBelow, AllVariablesBelow, WithinLimits}
+use Rattle.sheet.specs.Sheet.{width, widths, equation-width}
+
+mutual
+  unfolding width
+
+  width-low : (n : ℕ) (t : Term) → VariablesBelow n t → width t ≤ n
+  width-low n (var v) h = h
+  width-low n (app f ts) h = widths-low n ts h
+
+  widths-low : (n : ℕ) (ts : Terms) → AllVariablesBelow n ts → widths ts ≤ n
+  widths-low n nil h = omega arith
+  widths-low n (cons t ts) h = omega (arith, width-low n t (h .0), widths-low n ts (h .1))
+
+pub equation-width-low : (e : Equation) → WithinLimits e → equation-width e ≤ variable-count
+unfolding equation-width
+equation-width-low e w = omega (arith, width-low variable-count (e .left) (w .left-variables), width-low variable-count (e .right) (w .right-variables))

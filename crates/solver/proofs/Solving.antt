@@ -1,0 +1,104 @@
+-- Laws for the call solve: the walk over an equation's bytes is that of the equation.
+use Prim.Native.Nat.{ℕ, _≤_, _<_}
+use mathlib.Core.Path.{_≡_, refl, sym, ap, subst, _∙_}
+use mathlib.Core.Option.{some}
+use mathlib.Core.List.{List, _++_}
+use lib.ListN.{length, getD, take, drop, List·getD-append}
+use lib.Seq.{slice, take-all, take-at, drop-at, length-take-le}
+use native.Mathlib.Omega.{arith}
+use Rattle.format.specs.Limits.{position-count}
+use Rattle.terms.specs.Term.{size}
+use Rattle.terms.specs.Equation.{Equation, Direction, left-right, right-left, direction-of, source-position, target-position}
+use Rattle.terms.specs.Theory.Limits.{positions, positions-few}
+use Rattle.terms.specs.Theory.Position.{size-pos}
+use Rattle.terms.specs.Theory.Positions.{left-at}
+use Rattle.terms.specs.Contracts.Sizes.{Whole, Measurable, node-sizes}
+use Rattle.solving.specs.Walk.{enough, walk, solve}
+use Rattle.unifying.specs.Contracts.Laid.{view-of, Laid}
+use Rattle.unifying.specs.Contracts.Equation.{equation-sizes}
+use Rattle.unifying.specs.Theory.Equation.{length-nodes, length-sizes, size-at, equation-walk, equation-laid}
+use Rattle.walking.specs.declared.solve.Walked.{Walked as Told}
+use Rattle.walking.specs.Contracts.Solve.{Tells}
+use Rattle.solver.specs.Contracts.Equation.{EquationIs, walk-bytes}
+use Rattle.solver.specs.Theory.Equation.{equation-whole, equation-measured}
+
+-- "Direction 00 is left > right, 01 is right > left"
+first-direction : {n : ℕ} {d : Direction} → n ≡ 0 → direction-of n ≡ some d → d ≡ left-right
+unfolding direction-of
+first-direction {n} {d} e h = let x : some left-right ≡ some d = sym (ap direction-of e) ∙ h in cc
+
+second-direction : {n : ℕ} {d : Direction} → n ≡ 1 → direction-of n ≡ some d → d ≡ right-left
+unfolding direction-of
+second-direction {n} {d} e h = let x : some right-left ≡ some d = sym (ap direction-of e) ∙ h in cc
+
+module _ {bytes arities : List ℕ} {e : Equation} (is : EquationIs bytes arities e) where
+  bytes-count : length bytes ≡ positions e
+  bytes-count = ap length (is .spelled) ∙ length-nodes e
+
+  pub bytes-few : length bytes ≤ position-count
+  bytes-few = omega (arith, bytes-count, positions-few (is .limits))
+
+  bytes-slice : slice 0 (length bytes) bytes ≡ bytes
+  bytes-slice = take-all (length bytes) bytes (omega arith)
+
+  pub bytes-measurable : (sizes : List ℕ) → length sizes ≡ position-count → Measurable arities bytes sizes 0 (length bytes)
+  bytes-measurable sizes l = record {
+    ordered = omega arith;
+    few = omega (arith, bytes-few);
+    nodes-room = omega arith;
+    sizes-room = omega (arith, bytes-few);
+    terms = subst (Whole arities) (sym (bytes-slice ∙ is .spelled)) (equation-whole arities (is .few-symbols) e (is .left-fits) (is .right-fits));
+  }
+
+  pub sizes-room : (sizes : List ℕ) → length sizes ≡ position-count → length bytes ≡ length (take (length bytes) sizes)
+  sizes-room sizes l = sym (length-take-le (length bytes) sizes (omega (arith, bytes-few)))
+
+  -- What `measure` leaves: the equation's sizes stand first, and the first of them tells where the right side starts.
+  module _ (before after : List ℕ) (fills : after ≡ take 0 before ++ (node-sizes arities (slice 0 (length bytes) bytes) ++ drop (length bytes) before)) where
+    sizes-first : after ≡ equation-sizes e ++ drop (length bytes) before
+    sizes-first =
+        fills
+        ∙ ap (λ bs. node-sizes arities bs ++ drop (length bytes) before) (bytes-slice ∙ is .spelled)
+        ∙ ap (_++ drop (length bytes) before) (equation-measured arities (is .few-symbols) e (is .left-fits) (is .right-fits))
+
+    sizes-taken : take (length bytes) after ≡ equation-sizes e
+    sizes-taken = ap (take (length bytes)) sizes-first ∙ take-at (equation-sizes e) (drop (length bytes) before) (length bytes) (length-sizes e ∙ sym bytes-count)
+
+    module _ (right : ℕ) (r : right ≡ getD after 0 0) where
+      right-start : right ≡ size (e .left)
+      right-start =
+          let few : 0 < length (equation-sizes e) = omega (arith, length-sizes e, size-pos (e .left)) in
+          r ∙ ap (λ l. getD l 0 0) sizes-first ∙ List·getD-append (equation-sizes e) (drop (length bytes) before) 0 0 few ∙ size-at e 0 (omega (arith, length-sizes e)) ∙ ap size (left-at e)
+
+      pub sides-laid : Laid bytes (take (length bytes) after)
+      sides-laid = rw (sizes-taken, is .spelled) (equation-laid e arities (is .few-symbols) (is .left-fits) (is .right-fits) (is .limits))
+
+      pub left-within : 0 < length bytes
+      left-within = omega (arith, bytes-count, size-pos (e .left))
+
+      pub right-within : right < length bytes
+      right-within = omega (arith, bytes-count, right-start, size-pos (e .right))
+
+      -- The walk over the bytes is that of the equation.
+      walk-is : (d : Direction) (s t : ℕ) → s ≡ source-position e d → t ≡ target-position e d → walk enough (view-of bytes (take (length bytes) after)) s t ≡ solve e d
+      walk-is d s t x y = rw (x, y, sizes-taken, is .spelled) (equation-walk e arities (is .few-symbols) (is .left-fits) (is .right-fits) d)
+
+      module _ (n : ℕ) (d : Direction) (is-direction : direction-of n ≡ some d) (b a : List ℕ) (told : Told) where
+        pub tells-left : n ≡ 0 → Tells (walk enough (view-of bytes (take (length bytes) after)) 0 right) b a told → Tells (solve e d) b a told
+        unfolding source-position target-position
+        tells-left h t =
+            let x = first-direction h is-direction in
+            subst (λ d. Tells (solve e d) b a told) (sym x) (subst (λ w. Tells w b a told) (walk-is left-right 0 right refl right-start) t)
+
+        pub tells-right : n ≡ 1 → Tells (walk enough (view-of bytes (take (length bytes) after)) right 0) b a told → Tells (solve e d) b a told
+        unfolding source-position target-position
+        tells-right h t =
+            let x = second-direction h is-direction in
+            subst (λ d. Tells (solve e d) b a told) (sym x) (subst (λ w. Tells w b a told) (walk-is right-left right 0 right-start refl) t)
+
+-- Behind the bytes that the walk works in scratch is as it was.
+pub behind-kept : (scratch front : List ℕ) → walk-bytes ≤ length scratch → length front ≡ length (take walk-bytes scratch) → drop walk-bytes (front ++ drop walk-bytes scratch) ≡ drop walk-bytes scratch
+behind-kept scratch front h l = drop-at front (drop walk-bytes scratch) walk-bytes (l ∙ length-take-le walk-bytes scratch h)
+
+pub walk-room : (scratch : List ℕ) → walk-bytes ≤ length scratch → walk-bytes ≡ length (take walk-bytes scratch)
+walk-room scratch h = sym (length-take-le walk-bytes scratch h)

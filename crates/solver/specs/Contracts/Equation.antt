@@ -1,0 +1,28 @@
+-- What the code of solve cites: an equation's bytes.
+use Prim.Native.Nat.{ℕ, _*_, _≤_}
+use mathlib.Core.Path.{_≡_}
+use mathlib.Core.List.{List}
+use lib.ListN.{length}
+use Rattle.format.specs.Limits.{max-symbols, max-lines}
+use Rattle.terms.specs.Equation.{Equation}
+use Rattle.terms.specs.Prefix.{equation-bytes}
+use Rattle.terms.specs.Theory.Limits.{WithinLimits}
+use Rattle.terms.specs.Theory.Prefix.{Fits}
+use Rattle.walking.specs.Contracts.Place.{line-bytes}
+
+module _ (bytes arities : List ℕ) where
+  -- These are the bytes of this equation, which is over symbols with these arities and within the limits.
+  pub record EquationIs (e : Equation) : Type 0 where
+    pub spelled : bytes ≡ equation-bytes e
+    pub limits : WithinLimits e
+    pub left-fits : Fits arities (e .left)
+    pub right-fits : Fits arities (e .right)
+    pub few-symbols : length arities ≤ max-symbols
+
+  pub record HasEquation : Type 0 where
+    pub equation : Equation
+    pub is : EquationIs equation
+
+-- The bytes of scratch that the walk works in.
+abbrev pub walk-bytes : ℕ
+walk-bytes = max-lines * line-bytes

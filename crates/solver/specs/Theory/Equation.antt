@@ -1,0 +1,35 @@
+-- The bytes of an equation over the sheet's symbols are whole terms, and what `measure` fills in beside them is their sizes.
+use Prim.Native.Nat.{ℕ, _≤_}
+use mathlib.Core.Path.{_≡_, sym, ap, subst, _∙_}
+use mathlib.Core.List.{List, _++_, map, append-nil}
+use lib.ListN.{length}
+use Rattle.format.specs.Limits.{max-symbols}
+use Rattle.terms.specs.Term.{Terms, nil, cons, size}
+use Rattle.terms.specs.Position.{subterms, subterms-of}
+use Rattle.terms.specs.Prefix.{prefix, prefixes, equation-bytes, terms-of}
+use Rattle.terms.specs.Equation.{Equation}
+use Rattle.terms.specs.Theory.Prefix.{Fits, AllFit, terms-of-spelled}
+use Rattle.terms.specs.Contracts.Sizes.{Whole, node-sizes}
+use Rattle.terms.specs.Theory.Sizes.{whole}
+use Rattle.unifying.specs.Contracts.Equation.{equation-sizes}
+
+module _ (arities : List ℕ) (known : length arities ≤ max-symbols) (e : Equation) (left-fits : Fits arities (e .left)) (right-fits : Fits arities (e .right)) where
+  abbrev sides : Terms
+  sides = cons (e .left) (cons (e .right) nil)
+
+  nodes-spelled : equation-bytes e ≡ prefixes sides
+  unfolding equation-bytes prefix
+  nodes-spelled = ap (prefix (e .left) ++_) (sym (append-nil (prefix (e .right))))
+
+  sides-fit : AllFit arities sides
+  sides-fit = (left-fits, (right-fits, tt))
+
+  pub equation-whole : Whole arities (equation-bytes e)
+  equation-whole = subst (Whole arities) (sym nodes-spelled) (whole arities known sides sides-fit)
+
+  pub equation-measured : node-sizes arities (equation-bytes e) ≡ equation-sizes e
+  unfolding node-sizes equation-sizes subterms
+  equation-measured =
+      ap (λ bs. map size (subterms-of (terms-of arities bs))) nodes-spelled
+      ∙ ap (λ ts. map size (subterms-of ts)) (terms-of-spelled arities known sides sides-fit)
+      ∙ ap (λ l. map size (subterms (e .left) ++ l)) (append-nil (subterms (e .right)))

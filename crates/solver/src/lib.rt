@@ -1,0 +1,2 @@
+// One direction of an equation, solved.
+pub mod solve;

@@ -1,0 +1,5 @@
+pub mod Follow
+pub mod Occurrence
+pub mod Within
+pub mod Copied
+pub mod Rows

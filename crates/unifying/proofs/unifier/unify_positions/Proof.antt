@@ -1,0 +1,77 @@
+-- `walking::unifier::unify_positions` meets its contract. The loop's invariant, `Fronting`: the bindings passed are copied.
+use Prim.Native.Nat.{_-_}
+use mathlib.Core.Path.{refl, sym}
+use native.Mathlib.Omega.{arith}
+use Rattle.format.specs.Limits.{variable-count}
+use Rattle.unifying.specs.Theory.Front.{Fronting, fronting-start, fronting-length, fronting-next, fronting-whole}
+use Rattle.unifying.proofs.Copied.{copy-unified}
+use Rattle.unifying.specs.Theory.Bound.{readable-slots}
+use borrow.Author.Needs.{needs}
+use Rattle.unifying.proofs.unifier.unify_positions.Statement.{statement}
+use Rattle.unifying.proofs.unifier.unify_positions.Tie as tie
+use Rattle.unifying.proofs.unifier.unify_positions.Reads as reads
+use Rattle.unifying.proofs.unifier.unify_positions.Lts as lts
+use Rattle.unifying.proofs.unify.unify_terms.Reads as unify-terms-reads
+
+abbrev Inv-loop : tie.InvT-loop
+Inv-loop nodes sizes bindings p q own₀ i₀ own i = Fronting variable-count bindings own₀ own i
+
+abbrev μ-loop : tie.MeasureT-loop
+μ-loop nodes sizes bindings p q own₀ i₀ own i = variable-count - i
+
+-- src/unifier.rt:27:5
+loop-holds : tie.Need-loop-holds Inv-loop μ-loop
+loop-holds c = fronting-start _ _ _ (readable-slots (c .before .before .before .pre .0)) (omega arith)
+
+-- src/unifier.rt:28:18
+shared-slice-read-own : tie.Need-shared-slice-read-own Inv-loop μ-loop
+shared-slice-read-own c = search needs
+
+-- src/unifier.rt:28:9
+array-write-own : tie.Need-array-write-own Inv-loop μ-loop
+array-write-own c = search needs
+
+-- src/unifier.rt:27:9
+add-i : tie.Need-add-i Inv-loop μ-loop
+add-i c = search needs
+
+-- src/unifier.rt:27:5
+loop-less : tie.Need-loop-less Inv-loop μ-loop
+loop-less c = search needs
+
+-- src/unifier.rt:27:5
+loop-again : tie.Need-loop-again Inv-loop μ-loop
+loop-again c = fronting-next (c .before .before .loop .inv) (c .before .loop-test .taken)
+
+-- src/unifier.rt:30:44
+slice-aggregate-unify-terms : tie.Need-slice-aggregate-unify-terms Inv-loop μ-loop
+slice-aggregate-unify-terms c = sym (fronting-length (c .before .before .loop .inv))
+
+-- src/unifier.rt:30:9
+unify-terms-requires : tie.Need-unify-terms-requires Inv-loop μ-loop
+unify-terms-requires c κs =
+    let start = c .before .before .before .before .before .before in
+    ((rw (fronting-whole (c .before .before .loop .inv) (c .before .loop-test .left) refl) (start .pre .0), omega arith), start .pre .1)
+
+-- src/unifier.rt:21:1
+returns : tie.Need-returns Inv-loop μ-loop
+returns c =
+    let loop = c .before .before .before .before .loop in
+    let start = c .before .before .before .before .before .before .before .before in
+    copy-unified _ _ _ _ (c .before .unify-terms .last .1 .1 .0) _ _ _ (start .pre .0) (start .pre .1 .0) (start .pre .1 .1) (fronting-whole (loop .inv) (c .before .before .before .loop-test .left) refl) (c .before .unify-terms .ensures) (c .own2 .given)
+
+pub unify-positions-spec : {M : Type 1} → statement M
+unify-positions-spec =
+    tie.close
+    (tie.spec
+    Inv-loop
+    μ-loop
+    loop-holds
+    shared-slice-read-own
+    array-write-own
+    add-i
+    loop-less
+    loop-again
+    slice-aggregate-unify-terms
+    unify-terms-requires
+    returns)

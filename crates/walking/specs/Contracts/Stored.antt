@@ -1,0 +1,55 @@
+-- Lines as the walk keeps them in scratch: the bindings' bytes, the number of elements, how many of the first ones are known to be fully reduced,
+-- and the elements, each as two bytes.
+use Prim.Native.Nat.{ℕ, _+_, _-_, _*_}
+use mathlib.Core.Bool.{true, false}
+use mathlib.Core.List.{List, [], _∷_, _++_}
+use lib.ListN.{length, replicate}
+use lib.Dec.{ltb}
+use Rattle.format.specs.Limits.{max-elements, variable-count}
+use Rattle.solving.specs.Line.{Element, equal, greater, Line, line}
+use Rattle.walking.specs.declared.element.Relation.{Relation}
+use Rattle.walking.specs.declared.element.Relation.the-variants.{Equal, Greater}
+use Rattle.walking.specs.declared.element.Element.{Element as Held}
+use Rattle.unifying.specs.Contracts.Bound.{bindings-of}
+
+-- What the code's element says.
+unfoldable pub said : Relation → Element
+said (Equal p q) = equal p q
+said (Greater p q) = greater p q
+
+unfoldable pub meaning : Held → Element
+unfolding said
+meaning e = said (e .relation)
+
+-- An equality is marked by the high bit of its first position.
+abbrev pub equality-mark : ℕ
+equality-mark = 0x80
+
+unfoldable pub marked : (a b : ℕ) → Element
+marked a b = elim (ltb a equality-mark) [ true ↦ greater a b | false ↦ equal (a - equality-mark) b ]
+
+unfoldable pub marks : List Element → List ℕ
+marks [] = []
+marks (equal p q ∷ es) = (equality-mark + p) ∷ q ∷ marks es
+marks (greater p q ∷ es) = p ∷ q ∷ marks es
+
+-- A line in scratch.
+pub record Stored : Type 0 where
+  pub bindings : List ℕ
+  pub elements : List Element
+  pub reduced : ℕ
+
+unfoldable pub line-of : Stored → Line
+unfolding bindings-of
+line-of l = line (bindings-of (l .bindings)) (l .elements)
+
+unfoldable pub padding : ℕ → List ℕ
+padding count = replicate (2 * (max-elements - count)) 0xff
+
+-- Where the elements stand: behind the bindings and the two counts.
+abbrev pub first-element : ℕ
+first-element = variable-count + 2
+
+unfoldable pub stored-bytes : Stored → List ℕ
+unfolding marks padding
+stored-bytes l = l .bindings ++ (length (l .elements) ∷ l .reduced ∷ (marks (l .elements) ++ padding (length (l .elements))))

@@ -1,0 +1,110 @@
+-- The memory of the walk, and what it means.
+use Prim.Native.Nat.{ℕ, _+_, _-_, _*_, _≤_, _<_}
+use mathlib.Core.Path.{_≡_}
+use mathlib.Core.List.{List, [], _∷_, _++_, map}
+use lib.ListN.{length, take, drop}
+use Rattle.format.specs.Limits.{max-lines, max-turns, record-bytes}
+use Rattle.format.specs.declared.refusal.Refusal.{Refusal}
+use Rattle.solving.specs.Line.{Element, Line, records}
+use Rattle.solving.specs.Walk.{enough, Walked, refused, walk-from, walk}
+use Rattle.walking.specs.declared.treat.Treatment.{Treatment}
+use Rattle.walking.specs.declared.treat.Treatment.the-variants.{Reduced}
+use Rattle.walking.specs.declared.walk.Walk.{Walk}
+use Rattle.walking.specs.declared.walk.Progress.{Progress}
+use Rattle.walking.specs.declared.walk.Progress.the-variants.{Going, Refused}
+use Rattle.walking.specs.declared.walk.Advanced.{Advanced}
+use Rattle.unifying.specs.Contracts.Laid.{view-of, Laid}
+use Rattle.walking.specs.Contracts.Stored.{Stored, line-of, stored-bytes}
+use Rattle.walking.specs.Contracts.Place.{line-bytes, lines-bytes}
+use Rattle.walking.specs.Contracts.Treatment.{Treated}
+use Rattle.walking.specs.Contracts.Sound.{AllReduced, Sound}
+use Rattle.walking.specs.Theory.Turn.{AllFinished}
+
+-- 255 places for lines.
+abbrev pub memory-bytes : ℕ
+memory-bytes = max-lines * line-bytes
+
+abbrev pub AllSound : (nodes sizes : List ℕ) → List Stored → Type 0
+AllSound nodes sizes [] = Unit {0}
+AllSound nodes sizes (l ∷ ls) = Sound nodes sizes l × AllSound nodes sizes ls
+
+-- Finished lines stand as records from the front, the others from their place to the end.
+pub record Memory (nodes sizes memory : List ℕ) (done top : ℕ) (finished : List Line) (unfinished : List Stored) : Type 0 where
+  pub length-is : length memory ≡ memory-bytes
+  pub records-are : take (done * record-bytes) memory ≡ records finished
+  pub lines-are : drop (top * line-bytes) memory ≡ lines-bytes unfinished
+  pub done-is : length finished ≡ done
+  pub top-is : top + length unfinished ≡ max-lines
+  pub ordered : done ≤ top
+  pub all-finished : AllFinished (view-of nodes sizes) finished
+  pub all-sound : AllSound nodes sizes unfinished
+
+-- The walk as it is defined, from the positions that the cursor has.
+abbrev pub whole-walk : (nodes sizes : List ℕ) → Walk → Walked
+whole-walk nodes sizes w = walk enough (view-of nodes sizes) (w .source) (w .target)
+
+-- The walk has come so far: from the table in the memory it goes on as it is defined.
+pub record Walking (nodes sizes memory : List ℕ) (w : Walk) : Type 0 where
+  pub laid : Laid nodes sizes
+  pub finished : List Line
+  pub unfinished : List Stored
+  pub holds : Memory nodes sizes memory (w .done) (w .top) finished unfinished
+  pub turns-within : w .turns ≤ max-turns
+  pub leads : walk-from enough (view-of nodes sizes) (max-turns - w .turns) (w .turns) (finished ++ map line-of unfinished) ≡ whole-walk nodes sizes w
+
+-- The first unfinished line is taken out, and all its elements are fully reduced.
+pub record Finishing (nodes sizes line memory : List ℕ) (w : Walk) : Type 0 where
+  pub laid : Laid nodes sizes
+  pub finished : List Line
+  pub first : Stored
+  pub others : List Stored
+  pub holds : Memory nodes sizes memory (w .done) (w .top) finished (first ∷ others)
+  pub line-is : line ≡ stored-bytes first
+  pub turns-within : w .turns ≤ max-turns
+  pub leads : walk-from enough (view-of nodes sizes) (max-turns - w .turns) (w .turns) (finished ++ map line-of (first ∷ others)) ≡ whole-walk nodes sizes w
+  pub all-reduced : AllReduced nodes sizes (first .bindings) (first .elements)
+
+-- The first unfinished line is taken out, and element number `at` of it is to be treated.
+pub record Treating (nodes sizes line memory : List ℕ) (w : Walk) (at : ℕ) (t : Treatment) : Type 0 where
+  pub laid : Laid nodes sizes
+  pub finished : List Line
+  pub first : Stored
+  pub others : List Stored
+  pub holds : Memory nodes sizes memory (w .done) (w .top) finished (first ∷ others)
+  pub line-is : line ≡ stored-bytes first
+  pub turns-below : w .turns < max-turns
+  pub leads : walk-from enough (view-of nodes sizes) (max-turns - w .turns) (w .turns) (finished ++ map line-of (first ∷ others)) ≡ whole-walk nodes sizes w
+  pub pre : List Element
+  pub element : Element
+  pub post : List Element
+  pub split : first .elements ≡ pre ++ (element ∷ post)
+  pub at-is : length pre ≡ at
+  pub pre-reduced : AllReduced nodes sizes (first .bindings) pre
+  pub treated : Treated nodes sizes (first .bindings) element t
+
+-- The same walk, further on: a line more is finished, or a turn more is taken.
+pub record Further (w v : Walk) : Type 0 where
+  pub same-source : v .source ≡ w .source
+  pub same-target : v .target ≡ w .target
+  pub top-within : v .top ≤ max-lines
+  pub falls : 300 * (max-turns - v .turns) + (max-lines - v .top) < 300 * (max-turns - w .turns) + (max-lines - w .top)
+
+-- The walk goes on from a new table, or it is refused.
+pub record GoesOn (nodes sizes memory : List ℕ) (w v : Walk) : Type 0 where
+  pub walking : Walking nodes sizes memory v
+  pub further : Further w v
+
+abbrev pub Outcome : (nodes sizes memory : List ℕ) (w v : Walk) → Progress → Type 0
+Outcome nodes sizes memory w v Going = GoesOn nodes sizes memory w v
+Outcome nodes sizes memory w v (Refused r) = whole-walk nodes sizes w ≡ refused r
+
+pub record Advances (nodes sizes memory : List ℕ) (w : Walk) (a : Advanced) : Type 0 where
+  pub outcome : Outcome nodes sizes memory w (a .walk) (a .progress)
+
+-- The walk has come to an end: no line is left unfinished, or it is refused.
+abbrev pub End : (nodes sizes memory : List ℕ) (w v : Walk) → Progress → Type 0
+End nodes sizes memory w v Going = Walking nodes sizes memory v × (max-lines ≤ v .top) × (whole-walk nodes sizes v ≡ whole-walk nodes sizes w)
+End nodes sizes memory w v (Refused r) = whole-walk nodes sizes w ≡ refused r
+
+pub record Comes (nodes sizes memory : List ℕ) (w : Walk) (a : Advanced) : Type 0 where
+  pub end : End nodes sizes memory w (a .walk) (a .progress)
