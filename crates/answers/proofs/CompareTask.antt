@@ -1,43 +1,38 @@
 -- Laws for the call compare: what it earns, by the task that is found.
-use Prim.Native.Nat.{ℕ, _+_, _*_, _≤_, _<_}
-use mathlib.Core.Path.{_≡_, refl, sym, ap, subst, _∙_}
-use mathlib.Core.Bool.{Bool, true, false}
+use Prim.Native.Nat.{ℕ, _≤_, _<_}
+use mathlib.Core.Path.{_≡_, sym, ap, subst, _∙_}
+use mathlib.Core.Bool.{true}
 use mathlib.Core.Option.{Option, none, some}
 use mathlib.Core.List.{List}
 use lib.ListN.{length}
-use borrow.Author.Tests.{le-leb, lt-leb}
 use native.Mathlib.Omega.{arith}
-use Rattle.format.specs.Limits.{scratch-bytes}
-use Rattle.format.specs.declared.refusal.Refusal.{Refusal}
-use Rattle.format.specs.declared.refusal.Refusal.the-variants.{ShortBuffer as short-buffer, AbsentArgument as absent-argument}
+use Rattle.format.specs.declared.refusal.Refusal.the-variants.{AbsentArgument as absent-argument}
 use Rattle.format.specs.Lists.{entry}
 use Rattle.format.specs.Theory.Lists.{entry-none, every-entry}
 use Rattle.terms.specs.Term.{Term, Ground}
+use Rattle.ordering.specs.declared.verdict.Verdict.{Verdict}
 use Rattle.ordering.specs.Verdict.{verdict, verdict-number}
 use Rattle.scanning.specs.declared.known.Known.{Known}
-use Rattle.reading.specs.declared.read.Reading.{Reading as Read}
-use Rattle.reading.specs.declared.read.Reading.the-variants.{Accepted, Refused}
 use Rattle.reading.specs.declared.seek.TaskFound.{TaskFound}
 use Rattle.reading.specs.declared.seek.TaskHead.the-variants.{Run, Judgement, Comparison}
 use Rattle.sheet.specs.Sheet.{Task, run, judgement, comparison, Sheet}
 use Rattle.sheet.specs.Reading.{accepted, read}
 use Rattle.scanning.specs.Contracts.Scan.{known-arities}
-use Rattle.reading.specs.Contracts.Reader.{SheetRead}
-use Rattle.scanning.specs.Contracts.Body.{KnowsSheet, Roomy}
-use Rattle.reading.specs.Contracts.Seek.{Accepts, TaskIn, TaskAt, task-head, task-terms}
+use Rattle.scanning.specs.Contracts.Body.{Roomy}
+use Rattle.reading.specs.Contracts.Seek.{Accepts, TaskIn, TaskAt, task-terms}
 use Rattle.sheet.specs.Contracts.Valid.{ValidTask}
 use Rattle.sheet.specs.Theory.Accepted.{accepted-valid}
 use Rattle.reading.specs.Theory.Found.{task-asked, is-run, is-judgement, is-comparison}
 use Rattle.outcomes.specs.Buffer.{fields, refusal-number, cleared}
 use Rattle.outcomes.specs.Asked.{found, find, asked, comparison-in, comparison-task}
-use Rattle.outcomes.specs.Outcome.{CompareOutcome, compare-answer, compare-call}
+use Rattle.outcomes.specs.Outcome.{CompareOutcome, compare-answer}
 use Rattle.answers.specs.Contracts.Comparison.{PairIs, HasPair}
 
-abbrev outcome : ℕ → List ℕ → CompareOutcome
+abbrev pub outcome : ℕ → List ℕ → CompareOutcome
 outcome n scratch = record { returned = n; scratch = scratch }
 
 module _ (sheet scratch : List ℕ) (task : ℕ) where
-  abbrev answered : CompareOutcome
+  abbrev pub answered : CompareOutcome
   answered = compare-answer scratch (asked true sheet (comparison-task task))
 
   answer-of : (s : Sheet) → read sheet ≡ accepted s → (o : Option Task) → entry (s .tasks) task ≡ o → answered ≡ compare-answer scratch (found (comparison-in o))
@@ -101,15 +96,16 @@ module _ (sheet scratch : List ℕ) (task : ℕ) where
       pub pair-has : place .head ≡ Comparison → HasPair sheet (known-arities known) (place .from) (place .end)
       pair-has h = let f = pair-found h in record { first = f .first; second = f .second; is = f .pair }
 
-      pub comparison-there : (h : place .head ≡ Comparison) (r : ℕ) (after : List ℕ)
-          → ((s t : Term) → PairIs sheet (known-arities known) (place .from) (place .end) s t → r ≡ verdict-number (verdict s t))
-          → after ≡ cleared scratch → answered ≡ outcome (256 * r) after
-      unfolding compare-answer found comparison-in fields
-      comparison-there h r after v c =
+      pub comparison-there : (h : place .head ≡ Comparison) (w : Verdict) (after : List ℕ) {n r : ℕ}
+          → ((s t : Term) → PairIs sheet (known-arities known) (place .from) (place .end) s t → w ≡ verdict s t) → r ≡ verdict-number w → n ≡ fields r 0 0
+          → after ≡ cleared scratch → answered ≡ outcome n after
+      unfolding compare-answer found comparison-in
+      comparison-there h w after {n} v x e c =
           let f = pair-found h in
-          let (s, x, y) = f .is-task in
-          let e : 256 * r ≡ fields (verdict-number (verdict (f .first) (f .second))) 0 0 = omega (arith, v (f .first) (f .second) (f .pair)) in
-          answer-of s x (some (comparison (f .first) (f .second))) y ∙ ap (λ n. outcome n (cleared scratch)) (sym e) ∙ ap (outcome (256 * r)) (sym c)
+          let (s, y, z) = f .is-task in
+          let told : fields (verdict-number (verdict (f .first) (f .second))) 0 0 ≡ n =
+          ap (λ v. fields (verdict-number v) 0 0) (sym (v (f .first) (f .second) (f .pair))) ∙ ap (λ r. fields r 0 0) (sym x) ∙ sym e in
+          answer-of s y (some (comparison (f .first) (f .second))) z ∙ ap (λ n. outcome n (cleared scratch)) told ∙ ap (outcome n) (sym c)
 
     pub known-roomy : Roomy known
     known-roomy = let (s, r, g) = a in g .roomy

@@ -7,6 +7,7 @@ use lib.Seq.{drop-cons, set-append-seam, drop-drop}
 use native.Mathlib.Numerals.{add-one}
 use native.Mathlib.Omega.{arith}
 use Rattle.format.specs.Buffer.{written}
+use Rattle.format.specs.Limits.{scratch-bytes}
 use Rattle.outcomes.specs.Buffer.{filled, cleared}
 
 filled-is : (n b : ℕ) (buffer : List ℕ) → filled n b buffer ≡ replicate n b ++ drop n buffer
@@ -43,6 +44,6 @@ filled-behind n k b xs ys h e = filled-is n b xs ∙ ap (replicate n b ++_) (beh
     behind : (zs : List ℕ) → drop n zs ≡ drop (n - k) (drop k zs)
     behind zs = let parts : n ≡ k + (n - k) = omega arith in ap (λ m. drop m zs) parts ∙ sym (drop-drop (n - k) k zs)
 
-pub cleared-is : (scratch : List ℕ) → cleared scratch ≡ filled 57344 0 scratch
+pub cleared-is : (scratch : List ℕ) → cleared scratch ≡ filled scratch-bytes 0 scratch
 unfolding cleared
 cleared-is scratch = refl

@@ -1,48 +1,43 @@
 -- Laws for the call solve: what it earns, by the walk and by the equation that is found.
 use Prim.Native.Nat.{ℕ, zero, suc, _+_, _≤_, _<_}
 use mathlib.Core.Path.{_≡_, refl, sym, ap, subst, _∙_}
-use mathlib.Core.Bool.{Bool, true, false, _&&_}
+use mathlib.Core.Bool.{true}
 use mathlib.Core.Option.{Option, none, some}
 use mathlib.Core.List.{List}
 use lib.ListN.{length, take, drop}
 use lib.Seq.{take-at, length-take-le}
-use lib.Dec.{leb}
-use borrow.Author.Tests.{le-leb, lt-leb}
 use native.Mathlib.Omega.{arith}
-use Rattle.format.specs.Limits.{max-symbols, position-count, table-bytes, scratch-bytes}
+use Rattle.format.specs.Limits.{no-position, max-symbols, position-count, table-bytes, scratch-bytes}
 use Rattle.format.specs.Buffer.{written}
 use Rattle.format.specs.declared.refusal.Refusal.{Refusal}
-use Rattle.format.specs.declared.refusal.Refusal.the-variants.{ShortBuffer as short-buffer, AbsentArgument as absent-argument}
+use Rattle.format.specs.declared.refusal.Refusal.the-variants.{AbsentArgument as absent-argument}
 use Rattle.format.specs.Lists.{entry}
 use Rattle.format.specs.Theory.Lists.{entry-none, every-entry}
 use Rattle.terms.specs.Equation.{Equation, Direction, left-right, right-left, direction-of}
 use Rattle.terms.specs.Prefix.{equation-bytes}
 use Rattle.scanning.specs.declared.known.Known.{Known}
-use Rattle.reading.specs.declared.read.Reading.{Reading as Read}
-use Rattle.reading.specs.declared.read.Reading.the-variants.{Refused as Sheet-Refused}
 use Rattle.sheet.specs.Sheet.{Sheet}
 use Rattle.sheet.specs.Reading.{accepted, read}
 use Rattle.scanning.specs.Contracts.Scan.{known-arities}
 use Rattle.scanning.specs.Contracts.Body.{Roomy}
-use Rattle.reading.specs.Contracts.Reader.{SheetRead}
 use Rattle.reading.specs.Contracts.Seek.{Accepts, EquationIn, Decoded}
 use Rattle.sheet.specs.Contracts.Valid.{ValidEquation}
 use Rattle.sheet.specs.Theory.Accepted.{accepted-valid}
 use Rattle.reading.specs.Theory.Found.{equation-few, equation-asked}
 use Rattle.solving.specs.Line.{records}
-use Rattle.solving.specs.Walk.{Walked, solved, refused, solve}
+use Rattle.solving.specs.Walk.{Walked, solve}
 use Rattle.solving.specs.Theory.Solve.{solved-line-count, solved-turn-count}
 use Rattle.walking.specs.declared.solve.Ending.the-variants.{Solved, Refused}
 use Rattle.walking.specs.declared.solve.Walked.{Walked as Told}
-use Rattle.outcomes.specs.Buffer.{fields, refusal-number, filled, cleared, blanked}
+use Rattle.outcomes.specs.Buffer.{field-limit, fields, refusal-number, filled, cleared, blanked}
 use Rattle.outcomes.specs.Asked.{found, find, asked, directed-in, solve-directed, equation-line}
-use Rattle.outcomes.specs.Outcome.{TableOutcome, table-fits, table-unsolved, solve-walked, solve-answer, solve-call}
+use Rattle.outcomes.specs.Outcome.{TableOutcome, table-unsolved, solve-walked, solve-answer}
 use Rattle.solver.specs.Contracts.Equation.{EquationIs, HasEquation, walk-bytes}
 use Rattle.walking.specs.Contracts.Solve.{Ends, Tells}
 use Rattle.answers.proofs.Fill.{filled-behind}
 use Rattle.answers.proofs.Arities.{arities-taken}
 
-abbrev outcome : ℕ → (table scratch : List ℕ) → TableOutcome
+abbrev pub outcome : ℕ → (table scratch : List ℕ) → TableOutcome
 outcome n table scratch = record { returned = n; table = table; scratch = scratch }
 
 -- 1. What is left after a walk.
@@ -62,20 +57,20 @@ module _ (equation : ℕ) (scratch : List ℕ) {w : Walked} {table after : List 
       ∙ ap (λ a. outcome n a (cleared scratch)) (sym a)
       ∙ ap (outcome n after) (sym c)
 
-  pub walk-refused : {n : ℕ} {why : Refusal} {blank last : List ℕ} → told .ending ≡ Refused why → n ≡ refusal-number why (equation + 2) → blank ≡ filled table-bytes 0xff after → last ≡ cleared scratch
+  pub walk-refused : {n : ℕ} {why : Refusal} {blank last : List ℕ} → told .ending ≡ Refused why → n ≡ refusal-number why (equation + 2) → blank ≡ filled table-bytes no-position after → last ≡ cleared scratch
       → solve-walked equation table scratch w ≡ outcome n blank last
   unfolding solve-walked table-unsolved equation-line blanked
   walk-refused {n} {why} {blank} {last} x e b c =
       let (y, a) = subst (λ e. Ends w table after e (told .lines) (told .turns)) x (t .ends) in
       ap (solve-walked equation table scratch) y
-      ∙ ap (λ n. outcome n (filled table-bytes 0xff table) (cleared scratch)) (sym e)
-      ∙ ap (λ a. outcome n (filled table-bytes 0xff a) (cleared scratch)) (sym a)
+      ∙ ap (λ n. outcome n (filled table-bytes no-position table) (cleared scratch)) (sym e)
+      ∙ ap (λ a. outcome n (filled table-bytes no-position a) (cleared scratch)) (sym a)
       ∙ ap (λ b. outcome n b (cleared scratch)) (sym b)
       ∙ ap (outcome n blank) (sym c)
 
 -- The counts of a walk that solves fit their fields.
 pub counts-low : (d : Direction) {bytes arities table after : List ℕ} {e : Equation} {told : Told} → EquationIs bytes arities e → Tells (solve e d) table after told → told .ending ≡ Solved
-    → (told .lines < 65536) × (told .turns < 65536)
+    → (told .lines < field-limit) × (told .turns < field-limit)
 counts-low d {table = table} {after} {e} {told} is t x =
     let (ls, y, l, a) = subst (λ f. Ends (solve e d) table after f (told .lines) (told .turns)) x (t .ends) in
     (omega (arith, l, solved-line-count e (is .limits) d ls (told .turns) y), omega (arith, solved-turn-count e (is .limits) d ls (told .turns) y))
@@ -128,7 +123,7 @@ module _ (sheet : List ℕ) (equation : ℕ) (known : Known) (a : Accepts sheet 
 
 -- What solve earns there.
 module _ (sheet table scratch : List ℕ) (equation direction : ℕ) where
-  abbrev answered : TableOutcome
+  abbrev pub answered : TableOutcome
   answered = solve-answer equation table scratch (asked true sheet (solve-directed equation direction))
 
   answer-of : (s : Sheet) → read sheet ≡ accepted s → (o : Option Equation) (d : Option Direction) → entry (s .equations) equation ≡ o → direction-of direction ≡ d

@@ -1,29 +1,29 @@
 -- Laws for the call compare: the terms that its code stores are those of the task.
 use Prim.Native.Nat.{ℕ, _+_, _≤_}
-use mathlib.Core.Path.{_≡_, refl, sym, ap, subst, _∙_}
+use mathlib.Core.Path.{_≡_, sym, ap, subst, _∙_}
 use mathlib.Core.List.{List, _++_, map, append-assoc, append-nil}
 use lib.ListN.{length, getD, take, drop, replicate, length-append, length-replicate}
 use lib.Seq.{slice, length-take-le, take-append-add, take-at, drop-at}
 use native.Mathlib.Omega.{arith}
-use Rattle.format.specs.Limits.{max-symbols, max-task-nodes, position-count, variable-count, scratch-bytes, node-count, cell-count}
+use Rattle.format.specs.Limits.{max-task-nodes, position-count, variable-count, scratch-bytes, node-count, cell-count}
 use Rattle.format.specs.Buffer.{written}
-use Rattle.terms.specs.Term.{Term, Terms, nil, cons, size, sizes, Ground, Grounds}
+use Rattle.terms.specs.Term.{Term, nil, cons, size, sizes}
 use Rattle.terms.specs.Position.{subterms-of}
 use Rattle.terms.specs.Prefix.{prefix, prefixes, terms-of}
 use Rattle.terms.specs.Theory.Prefix.{AllFit, grounds-fit, length-prefix, terms-of-spelled}
-use Rattle.comparing.specs.Contracts.Nodes.{GroundAt, TermAt, Memory, StandInRow, none, more}
-use Rattle.comparing.specs.Contracts.Ready.{AllSymbols}
+use Rattle.comparing.specs.Contracts.Nodes.{TermAt, RowDenotes, more, AllSymbols}
+use Rattle.comparing.specs.Contracts.Cells.{SettledCells}
 use Rattle.terms.specs.Contracts.Sizes.{Whole, Measurable, node-sizes}
-use Rattle.comparing.specs.Theory.Nodes.{ground-stands}
+use Rattle.comparing.specs.Theory.Nodes.{ground-denotes}
 use Rattle.terms.specs.Theory.Sizes.{whole}
-use Rattle.comparing.specs.Theory.Stored.{StoredAt, ground-row-stands}
-use Rattle.comparing.specs.Theory.Ready.{fresh-memory, symbols-append, symbols-drop, symbols-take, zero-bytes, ground-symbols}
+use Rattle.comparing.specs.Theory.Stored.{PartAt, ground-row-denotes}
+use Rattle.comparing.specs.Theory.Cells.{none-ready, symbols-append, symbols-drop, symbols-take, zero-bytes, ground-symbols}
 use Rattle.scanning.specs.declared.known.Known.{Known}
 use Rattle.scanning.specs.Contracts.Scan.{known-arities}
 use Rattle.scanning.specs.Contracts.Body.{Roomy}
 use Rattle.outcomes.specs.Buffer.{filled, cleared}
 use Rattle.answers.proofs.Fill.{filled-behind, cleared-is}
-use Rattle.answers.specs.Contracts.Comparison.{PairIs, HasPair, TwoAt}
+use Rattle.answers.specs.Contracts.Comparison.{PairIs, TwoAt}
 use Rattle.answers.proofs.Arities.{arities-taken}
 
 -- These bytes stand in the nodes from the subject's first node on.
@@ -58,13 +58,10 @@ placed-slice nodes bs p n e =
     ∙ drop-at (p .before) (take n (bs ++ p .after)) position-count (p .at)
     ∙ take-at bs (p .after) n (sym e)
 
-placed-stored : (nodes bs : List ℕ) → Placed nodes bs → StoredAt nodes position-count bs
+placed-stored : (nodes bs : List ℕ) → Placed nodes bs → PartAt nodes position-count bs
 placed-stored nodes bs p = record { rest = p .after; is = ap (drop position-count) (p .is) ∙ drop-at (p .before) (bs ++ p .after) position-count (p .at) }
 
 module _ {sheet arities : List ℕ} {from end : ℕ} {s t : Term} (p : PairIs sheet arities from end s t) where
-  abbrev the-pair : Terms
-  the-pair = cons s (cons t nil)
-
   pair-bytes : prefix s ++ prefix t ≡ prefixes (cons s (cons t nil))
   unfolding prefix
   pair-bytes = ap (prefix s ++_) (sym (append-nil (prefix t)))
@@ -97,11 +94,11 @@ module _ {sheet arities : List ℕ} {from end : ℕ} {s t : Term} (p : PairIs sh
       ∙ ap (λ ts. map size (subterms-of ts)) (terms-of-spelled arities (p .few-symbols) (cons s (cons t nil)) pair-fits)
 
   two-at : (nodes lengths : List ℕ) (second end : ℕ) → second ≡ position-count + getD lengths position-count 0
-      → StandInRow nodes lengths (λ v u. ⊥) position-count end (cons s (cons t nil)) → TwoAt nodes lengths s t second
+      → RowDenotes nodes lengths (λ v u. ⊥) position-count end (cons s (cons t nil)) → TwoAt nodes lengths s t second
   two-at nodes lengths second end e (more a (more b r)) =
       record {
-        first-stands = λ values. ground-stands a;
-        second-stands = λ values. subst (λ i. TermAt nodes lengths values i t) (sym e) (ground-stands b);
+        first-stands = λ values. ground-denotes a;
+        second-stands = λ values. subst (λ i. TermAt nodes lengths values i t) (sym e) (ground-denotes b);
         second-low = omega arith;
       }
 
@@ -111,7 +108,7 @@ module _ {sheet arities : List ℕ} {from end : ℕ} {s t : Term} (p : PairIs sh
       → second ≡ position-count + getD lengths position-count 0 → TwoAt nodes lengths s t second
   unfolding size
   pair-stands nodes before lengths after n second a e h l r =
-      let bytes = subst (StoredAt nodes position-count) pair-bytes (placed-stored nodes (prefix s ++ prefix t) a) in
+      let bytes = subst (PartAt nodes position-count) pair-bytes (placed-stored nodes (prefix s ++ prefix t) a) in
       let there = placed-stored lengths (map size (subterms-of (cons s (cons t nil)))) (record {
         before = take position-count before;
         after = after;
@@ -119,17 +116,17 @@ module _ {sheet arities : List ℕ} {from end : ℕ} {s t : Term} (p : PairIs sh
         is = l ∙ ap (λ m. take position-count before ++ (m ++ after)) (measured nodes n a e);
       }) in
       two-at nodes lengths second (position-count + sizes (cons s (cons t nil))) r
-      (ground-row-stands arities (p .few-symbols) (cons s (cons t nil)) (p .first-ground, (p .second-ground, tt)) bytes there (omega (arith, p .few-nodes)))
+      (ground-row-denotes arities (p .few-symbols) (cons s (cons t nil)) (p .first-ground, (p .second-ground, tt)) bytes there (omega (arith, p .few-nodes)))
 
 -- The cells stand first in scratch.
 module _ (scratch : List ℕ) (room : scratch-bytes ≤ length scratch) where
   pub cells-there : length (take cell-count scratch) ≡ cell-count
   cells-there = length-take-le cell-count scratch (omega arith)
 
-  pub no-row-counts : (nodes lengths values : List ℕ) → length nodes ≡ node-count → length lengths ≡ node-count → length values ≡ variable-count → AllSymbols nodes
-      → Memory nodes lengths values (replicate node-count 0) (take cell-count scratch)
+  pub no-row-ready : (nodes lengths values : List ℕ) → length nodes ≡ node-count → length lengths ≡ node-count → length values ≡ variable-count → AllSymbols nodes
+      → SettledCells nodes lengths values (replicate node-count 0) (take cell-count scratch)
   unfolding AllSymbols
-  no-row-counts nodes lengths values a b c h = fresh-memory a b c (length-replicate {A = ℕ} node-count 0) cells-there (λ i l. h i) (zero-bytes node-count)
+  no-row-ready nodes lengths values a b c h = none-ready a b c (length-replicate {A = ℕ} node-count 0) cells-there (λ i l. h i) (zero-bytes node-count)
 
   pub scratch-cleared : (front last : List ℕ) → length front ≡ length (take cell-count scratch) → last ≡ filled scratch-bytes 0 (front ++ drop cell-count scratch) → last ≡ cleared scratch
   scratch-cleared front last l e =

@@ -1,16 +1,18 @@
 // Compare: the verdict of a task of two ground terms.
 use crate::buffer::fill;
+use crate::number::fields_number;
 use crate::number::refusal_number;
-use comparing::CELLS;
-use comparing::SUBJECT;
-use comparing::exceeds;
+use comparing::comparison::exceeds;
+use comparing::nodes::SUBJECT;
 use format::byte::wide;
 use format::limits::Limits;
 use format::refusal::Refusal;
-use scanning::known::Known;
+use ordering::verdict::Verdict;
+use ordering::verdict::number_of_verdict;
 use reading::seek::TaskHead;
 use reading::seek::decode;
 use reading::seek::find_task;
+use scanning::known::Known;
 use terms::measure::measure;
 ghost use mathlib.Core.Path.{_≡_};
 ghost use mathlib.Core.Bool.{true};
@@ -18,8 +20,8 @@ ghost use Prim.Native.Nat.{_≤_};
 ghost use lib.ListN.{length};
 ghost use Rattle.format.specs.Limits.{scratch-bytes, node-count};
 ghost use Rattle.terms.specs.Term.{Term};
-ghost use Rattle.ordering.specs.Verdict.{verdict, verdict-number};
-ghost use Rattle.comparing.specs.Contracts.Ready.{AllSymbols};
+ghost use Rattle.ordering.specs.Verdict.{verdict};
+ghost use Rattle.comparing.specs.Contracts.Nodes.{AllSymbols};
 ghost use Rattle.reading.specs.Contracts.Seek.{Accepts};
 ghost use Rattle.scanning.specs.Contracts.Scan.{known-arities};
 ghost use Rattle.scanning.specs.Contracts.Body.{Roomy};
@@ -47,22 +49,22 @@ fn store(
     SUBJECT + wide(sizes[SUBJECT])
 }
 
-// The verdict of two terms that are stored. The cells stand first in scratch. No row of them counts before, and all of scratch is cleared behind.
-fn compare_stored(nodes: &[u8], sizes: &[u8], scratch: &mut [u8], second: usize) -> u8
+// The verdict of two terms that are stored. The cells stand first in scratch. No row of them is ready before, and all of scratch is cleared behind.
+fn compare_stored(nodes: &[u8], sizes: &[u8], scratch: &mut [u8], second: usize) -> Verdict
     requires { ⌜ (length (now nodes) ≡ node-count) × (length (now sizes) ≡ node-count) × (scratch-bytes ≤ length (now scratch)) × AllSymbols (now nodes) ⌝ }
     requires { ⌜ ((s : Term) × (t : Term) × TwoAt (now nodes) (now sizes) s t second) ⌝ }
-    ensures { λ r. ⌜ ((s t : Term) → TwoAt (now (nodes .entry)) (now (sizes .entry)) s t second → r ≡ verdict-number (verdict s t)) ⌝ }
+    ensures { λ r. ⌜ ((s t : Term) → TwoAt (now (nodes .entry)) (now (sizes .entry)) s t second → r ≡ verdict s t) ⌝ }
     ensures { λ _. ⌜ now (scratch .exit) ≡ cleared (now (scratch .entry)) ⌝ }
 {
     // Ground terms have no variables whose values are asked for.
-    let values = [0u8; 8];
-    let mut ready = [0u8; 224];
+    let values = [0u8; Limits::VARIABLES];
+    let mut ready = [0u8; Limits::NODES];
     let verdict = exceeds(
         nodes,
         sizes,
         &values,
         &mut ready,
-        &mut scratch[..CELLS],
+        &mut scratch[..Limits::CELLS],
         SUBJECT,
         second,
     );
@@ -71,13 +73,13 @@ fn compare_stored(nodes: &[u8], sizes: &[u8], scratch: &mut [u8], second: usize)
 }
 
 // The verdict of the two terms that the digits from `from` to `end` write.
-fn compare_terms(sheet: &[u8], known: Known, from: usize, end: usize, scratch: &mut [u8]) -> u8
+fn compare_terms(sheet: &[u8], known: Known, from: usize, end: usize, scratch: &mut [u8]) -> Verdict
     requires { ⌜ HasPair (now sheet) (known-arities known) from end × Roomy known × (scratch-bytes ≤ length (now scratch)) ⌝ }
-    ensures { λ r. ⌜ ((s t : Term) → PairIs (now (sheet .entry)) (known-arities known) from end s t → r ≡ verdict-number (verdict s t)) ⌝ }
+    ensures { λ r. ⌜ ((s t : Term) → PairIs (now (sheet .entry)) (known-arities known) from end s t → r ≡ verdict s t) ⌝ }
     ensures { λ _. ⌜ now (scratch .exit) ≡ cleared (now (scratch .entry)) ⌝ }
 {
-    let mut nodes = [0u8; 224];
-    let mut sizes = [0u8; 224];
+    let mut nodes = [0u8; Limits::NODES];
+    let mut sizes = [0u8; Limits::NODES];
     let arities = known.arities;
     let second = store(
         sheet,
@@ -103,7 +105,7 @@ pub fn compare_task(sheet: &[u8], known: Known, task: u64, scratch: &mut [u8]) -
     match head {
         TaskHead::Comparison => {
             let verdict = compare_terms(sheet, known, found.from, found.end, scratch);
-            256 * (verdict as u64)
+            fields_number(wide(number_of_verdict(verdict)), 0, 0)
         }
         TaskHead::Run(_) => refusal_number(Refusal::AbsentArgument, 0),
         TaskHead::Judgement(_, _) => refusal_number(Refusal::AbsentArgument, 0),

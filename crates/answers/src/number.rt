@@ -3,20 +3,28 @@ use format::refusal::Refusal;
 use format::refusal::number_of;
 ghost use mathlib.Core.Path.{_≡_};
 ghost use Prim.Native.Nat.{_≤_, _<_};
-ghost use Rattle.outcomes.specs.Buffer.{fields, refusal-number};
+ghost use Rattle.format.specs.Limits.{max-text};
+ghost use Rattle.outcomes.specs.Buffer.{field-limit, fields, refusal-number};
+
+// What each field counts: the first stands above the refusal's byte, and each has 16 bits.
+const FIRST: u64 = 256;
+
+const SECOND: u64 = 65536 * FIRST;
+
+const THIRD: u64 = 65536 * SECOND;
 
 // A refusal and its line.
 pub fn refusal_number(why: Refusal, line: usize) -> u64
-    requires { ⌜ line ≤ 16384 ⌝ }
+    requires { ⌜ line ≤ max-text ⌝ }
     ensures { λ r. ⌜ r ≡ refusal-number why line ⌝ }
 {
-    number_of(why) + 256 * (line as u64)
+    number_of(why) + FIRST * (line as u64)
 }
 
 // Three fields of 16 bits above the lowest byte, which tells that nothing is refused.
 pub fn fields_number(first: usize, second: usize, third: usize) -> u64
-    requires { ⌜ (first < 65536) × (second < 65536) × (third < 65536) ⌝ }
+    requires { ⌜ (first < field-limit) × (second < field-limit) × (third < field-limit) ⌝ }
     ensures { λ r. ⌜ r ≡ fields first second third ⌝ }
 {
-    256 * (first as u64) + 16777216 * (second as u64) + 1099511627776 * (third as u64)
+    FIRST * (first as u64) + SECOND * (second as u64) + THIRD * (third as u64)
 }

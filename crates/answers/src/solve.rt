@@ -4,8 +4,8 @@ use crate::number::fields_number;
 use crate::number::refusal_number;
 use format::limits::Limits;
 use format::refusal::Refusal;
-use scanning::known::Known;
 use reading::seek::equation_at;
+use scanning::known::Known;
 use solver::solve::solve_equation;
 use walking::solve::Ending;
 ghost use mathlib.Core.Path.{_≡_};
@@ -40,7 +40,7 @@ fn solve_bytes(
     match ending {
         Ending::Solved => fields_number(walked.lines, walked.turns, 0),
         Ending::Refused(why) => {
-            fill(table, Limits::TABLE, 255);
+            fill(table, Limits::TABLE, Limits::NO_POSITION);
             refusal_number(why, equation + 2)
         }
     }
@@ -59,7 +59,7 @@ fn solve_found(
     requires { ⌜ (table-bytes ≤ length (now table)) × (scratch-bytes ≤ length (now scratch)) ⌝ }
     ensures { λ r. ⌜ solve-answer equation (now (table .entry)) (now (scratch .entry)) (asked true (now (sheet .entry)) (solve-directed equation direction)) ≡ record { returned = r; table = now (table .exit); scratch = now (scratch .exit) } ⌝ }
 {
-    let mut bytes = [0u8; 64];
+    let mut bytes = [0u8; Limits::POSITIONS];
     let n = equation_at(sheet, known, equation, &mut bytes);
     let arities = known.arities;
     solve_bytes(

@@ -71,14 +71,14 @@ BoundToPositions [] = Unit {0}
 BoundToPositions (none ∷ θ) = BoundToPositions θ
 BoundToPositions (some p ∷ θ) = (p < position-count) × BoundToPositions θ
 
-abbrev pub Inequalities : List Element → Type 0
-Inequalities [] = Unit {0}
-Inequalities (equal p q ∷ es) = ⊥
-Inequalities (greater p q ∷ es) = (p < position-count) × (q < position-count) × Inequalities es
+abbrev pub BetweenPositions : List Element → Type 0
+BetweenPositions [] = Unit {0}
+BetweenPositions (equal p q ∷ es) = ⊥
+BetweenPositions (greater p q ∷ es) = (p < position-count) × (q < position-count) × BetweenPositions es
 
 abbrev pub Recorded : List Line → Type 0
 Recorded [] = Unit {0}
-Recorded (line θ es ∷ ls) = (length θ ≡ variable-count) × BoundToPositions θ × (length es ≤ max-elements) × Inequalities es × Recorded ls
+Recorded (line θ es ∷ ls) = (length θ ≡ variable-count) × BoundToPositions θ × (length es ≤ max-elements) × BetweenPositions es × Recorded ls
 
 pub record TableDemand (sheet : List ℕ) (e d : ℕ) (table scratch : List ℕ) : Type 0 where
   pub named : DirectionNamed sheet e d

@@ -1,6 +1,6 @@
 // Check: what the sheet earns.
 use answers::number::refusal_number;
-use reading::read::Reading;
+use reading::read::SheetStatus;
 use reading::read::read_sheet;
 ghost use mathlib.Core.Path.{_≡_};
 ghost use Rattle.outcomes.specs.Outcome.{check-call};
@@ -12,9 +12,9 @@ pub extern "C" fn neblinaro_check(sheet: &[u8]) -> u64
     ensures unchanged { λ _. ⌜ now (sheet .exit) ≡ now (sheet .entry) ⌝ }
 {
     let read = read_sheet(sheet);
-    let reading = read.reading;
-    match reading {
-        Reading::Accepted => 0,
-        Reading::Refused(why, line) => refusal_number(why, line),
+    let status = read.status;
+    match status {
+        SheetStatus::Accepted => 0,
+        SheetStatus::Refused(why, line) => refusal_number(why, line),
     }
 }

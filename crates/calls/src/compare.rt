@@ -3,7 +3,7 @@ use answers::compare::compare_task;
 use answers::number::refusal_number;
 use format::limits::Limits;
 use format::refusal::Refusal;
-use reading::read::Reading;
+use reading::read::SheetStatus;
 use reading::read::read_sheet;
 ghost use mathlib.Core.Path.{_≡_};
 ghost use Rattle.outcomes.specs.Outcome.{compare-call};
@@ -18,9 +18,9 @@ pub extern "C" fn neblinaro_compare(sheet: &[u8], task: u64, scratch: &mut [u8])
         return refusal_number(Refusal::ShortBuffer, 0);
     }
     let read = read_sheet(sheet);
-    let reading = read.reading;
-    match reading {
-        Reading::Accepted => compare_task(sheet, read.known, task, scratch),
-        Reading::Refused(why, line) => refusal_number(why, line),
+    let status = read.status;
+    match status {
+        SheetStatus::Accepted => compare_task(sheet, read.known, task, scratch),
+        SheetStatus::Refused(why, line) => refusal_number(why, line),
     }
 }

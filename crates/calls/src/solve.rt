@@ -3,7 +3,7 @@ use answers::number::refusal_number;
 use answers::solve::solve_named;
 use format::limits::Limits;
 use format::refusal::Refusal;
-use reading::read::Reading;
+use reading::read::SheetStatus;
 use reading::read::read_sheet;
 ghost use mathlib.Core.Path.{_≡_};
 ghost use Rattle.outcomes.specs.Outcome.{solve-call};
@@ -27,9 +27,16 @@ pub extern "C" fn neblinaro_solve(
         return refusal_number(Refusal::ShortBuffer, 0);
     }
     let read = read_sheet(sheet);
-    let reading = read.reading;
-    match reading {
-        Reading::Accepted => solve_named(sheet, read.known, equation, direction, table, scratch),
-        Reading::Refused(why, line) => refusal_number(why, line),
+    let status = read.status;
+    match status {
+        SheetStatus::Accepted => solve_named(
+            sheet,
+            read.known,
+            equation,
+            direction,
+            table,
+            scratch,
+        ),
+        SheetStatus::Refused(why, line) => refusal_number(why, line),
     }
 }

@@ -3,6 +3,7 @@ pub mod Resolved
 pub mod Rows
 pub mod Loops
 pub mod Rules
-pub mod Cells
-pub mod Opened
 pub mod Pair
+pub mod Ready
+pub mod Settled
+pub mod Arguments

@@ -10,9 +10,8 @@ use borrow.Author.Tests.{lt-ltb, le-ltb, ltb-true, ltb-false}
 use Rattle.format.specs.Limits.{first-variable, variable-count}
 use Rattle.format.specs.Theory.Byte.{class-symbol, class-variable}
 use Rattle.terms.specs.Term.{Term}
-use Rattle.comparing.specs.Contracts.Nodes.{symbol-node, variable-node, TermAt}
-use Rattle.comparing.specs.Contracts.Comparing.{resolved}
-use Rattle.comparing.specs.Theory.Nodes.{ground-stands, ground-symbol, value-at}
+use Rattle.comparing.specs.Contracts.Nodes.{symbol-node, variable-node, TermAt, resolved}
+use Rattle.comparing.specs.Theory.Nodes.{ground-denotes, ground-symbol, value-at}
 
 pub resolved-symbol : (nodes values : List ℕ) (i : ℕ) → getD nodes i 0 < first-variable → resolved nodes values i ≡ i
 unfolding resolved
@@ -27,7 +26,7 @@ byte-low {nodes} {i = i} (symbol-node {f = f} h c r) = omega (arith, class-symbo
 byte-low {nodes} {i = i} (variable-node {v = v} h c o x) = omega (arith, class-variable (getD nodes i 0) v c)
 
 pub record SymbolNode (nodes lengths values : List ℕ) (i : ℕ) (t : Term) : Type 0 where
-  pub stands : TermAt nodes lengths values i t
+  pub denotes : TermAt nodes lengths values i t
   pub symbol : getD nodes i 0 < first-variable
 
 pub resolved-node : {nodes lengths values : List ℕ} {i : ℕ} {t : Term} → TermAt nodes lengths values i t → SymbolNode nodes lengths values (resolved nodes values i) t
@@ -36,7 +35,7 @@ resolved-node {nodes} {lengths} {values} {i} {t} a = go (ltb (getD nodes i 0) fi
   where
     go : (b : Bool) → ltb (getD nodes i 0) first-variable ≡ b
         → SymbolNode nodes lengths values (elim b as (λ x. ℕ) [ true ↦ i | false ↦ getD values (getD nodes i 0 - first-variable) 0 ]) t
-    go true e = record { stands = a; symbol = ltb-true (getD nodes i 0) first-variable e }
+    go true e = record { denotes = a; symbol = ltb-true (getD nodes i 0) first-variable e }
     go false e =
         let v = value-at a (ltb-false (getD nodes i 0) first-variable e) in
-        record { stands = ground-stands (v .value); symbol = omega (arith, ground-symbol (v .value)) }
+        record { denotes = ground-denotes (v .value); symbol = omega (arith, ground-symbol (v .value)) }

@@ -8,6 +8,7 @@ use Rattle.format.specs.Byte.{class-of}
 use Rattle.format.specs.declared.byte.Class.{Class}
 use Rattle.format.specs.declared.byte.Class.the-variants.{Symbol as symbol, Variable as variable, Foreign as foreign}
 use Rattle.terms.specs.Term.{Term, Terms, size, sizes}
+use Rattle.terms.specs.declared.arguments.Arguments.{Arguments}
 use Rattle.comparing.specs.Contracts.Nodes.{symbol-node, variable-node, none, more, TermAt, TermsAt}
 use Rattle.comparing.specs.Theory.Nodes.{some-node, row-ordered, ground-size}
 
@@ -25,8 +26,8 @@ weight nodes lengths values k (suc n) = node-weight lengths values (class-of (ge
 pub term-weight : (nodes lengths values : List ℕ) → ℕ → ℕ
 term-weight nodes lengths values i = weight nodes lengths values i (getD lengths i 0)
 
-pub row-weight : (nodes lengths values : List ℕ) → ℕ → ℕ → ℕ
-row-weight nodes lengths values k end = weight nodes lengths values k (end - k)
+pub row-weight : (nodes lengths values : List ℕ) → Arguments → ℕ
+row-weight nodes lengths values row = weight nodes lengths values (row .from) (row .end - row .from)
 
 module _ (nodes lengths values : List ℕ) where
   weight-add : (k m n : ℕ) → weight nodes lengths values k (m + n) ≡ weight nodes lengths values k m + weight nodes lengths values (k + m) n
@@ -55,7 +56,7 @@ module _ {nodes lengths values : List ℕ} where
         weight-first nodes lengths values i (getD lengths i 0) (some-node (symbol-node h c r)) ∙ rw c (omega (arith, row-weighs r, ap (weight nodes lengths values (i + 1)) e))
     term-weighs {i} (variable-node h c o x) = rw (o, c) (omega (arith, ground-size (x .ground)))
 
-    pub row-weighs : {k end : ℕ} {ts : Terms} → TermsAt nodes lengths values k end ts → row-weight nodes lengths values k end ≡ sizes ts
+    pub row-weighs : {k end : ℕ} {ts : Terms} → TermsAt nodes lengths values k end ts → row-weight nodes lengths values (record { from = k; end = end }) ≡ sizes ts
     row-weighs {k} {end} (none e) = let d : end - k ≡ 0 = omega arith in rw d
     row-weighs {k} {end} (more s r) =
         let l = row-ordered r in

@@ -1,4 +1,4 @@
 -- What the contracts of the code cite.
 pub mod Comparing
 pub mod Nodes
-pub mod Ready
+pub mod Cells

@@ -1,4 +1,4 @@
 -- The laws of the memory of a comparison.
 pub mod Nodes
 pub mod Stored
-pub mod Ready
+pub mod Cells

@@ -1,6 +1,5 @@
 -- Walks at the limits of 40 elements, 255 lines and 10,000 turns, over what solve returns, checked against the definitions by computation.
 use Prim.Native.Nat.{ℕ, _+_, _*_, _^_}
-use Prim.Native.String.{String}
 use mathlib.Core.Path.{_≡_, ap}
 use mathlib.Core.Bool.{true}
 use mathlib.Core.List.{List, [], _∷_}

@@ -4,10 +4,9 @@ use Prim.Native.String.{String, _++_ as _then_}
 use mathlib.Core.Path.{_≡_, refl}
 use mathlib.Core.List.{List, [], _∷_, _++_, map}
 use Rattle.solving.specs.Line.{line}
-use Rattle.solving.specs.Walk.{solved}
 use Rattle.outcomes.specs.Outcome.{check-call}
 use Rattle.cases.specs.Cases.{Case, lists}
-use Rattle.cases.specs.Checked.{ascii, term, computed, stated}
+use Rattle.cases.specs.Checked.{ascii, computed, stated}
 
 -- `n` copies of a text.
 unfoldable pub times : ℕ → String → String
@@ -26,8 +25,8 @@ unfoldable pub text-stated : Text → ℕ
 text-stated (text s n l) = n + 256 * l
 
 -- P1's symbols a, b and product; the equation xy = yx.
-abbrev abp : String
-abp = "0103000002\n"
+abbrev abp-frame : String
+abp-frame = "0103000002\n"
 
 abbrev xy : String
 xy = "02028081028180\n"
@@ -52,18 +51,18 @@ texts =
     -- "2, a line not of the stated digits or without LF."
     ∷ text "\n" 2 1
     ∷ text "0103000002" 2 1
-    ∷ text (abp then "028081") 2 2
+    ∷ text (abp-frame then "028081") 2 2
     ∷ text "0103000002\r\n" 2 1
-    ∷ text (abp then "02808A\n") 2 2
-    ∷ text (abp then "02808\n") 2 2
-    ∷ text (abp then "0\n") 2 2
-    ∷ text (abp then " 028081\n") 2 2
-    ∷ text (abp then "0280/0\n") 2 2
-    ∷ text (abp then "0280:0\n") 2 2
-    ∷ text (abp then "0280`0\n") 2 2
-    ∷ text (abp then "0280g0\n") 2 2
-    ∷ text (abp then "\n028081\n") 2 2
-    ∷ text (abp then "028081\n\n") 2 3
+    ∷ text (abp-frame then "02808A\n") 2 2
+    ∷ text (abp-frame then "02808\n") 2 2
+    ∷ text (abp-frame then "0\n") 2 2
+    ∷ text (abp-frame then " 028081\n") 2 2
+    ∷ text (abp-frame then "0280/0\n") 2 2
+    ∷ text (abp-frame then "0280:0\n") 2 2
+    ∷ text (abp-frame then "0280`0\n") 2 2
+    ∷ text (abp-frame then "0280g0\n") 2 2
+    ∷ text (abp-frame then "\n028081\n") 2 2
+    ∷ text (abp-frame then "028081\n\n") 2 3
     -- "an even count, 2 to 326": 326 digits, the values of a judgement having 160 nodes; 328 digits.
     ∷ text (ah then xx then "040000" then tower 159 then "00\n") 0 0
     ∷ text (ah then xx then "040000" then tower 160 then "00\n") 2 3
@@ -73,19 +72,19 @@ texts =
     ∷ text xy 3 1
     ∷ text "0500" 2 1
     ∷ text "0500\n" 3 1
-    ∷ text abp 3 1
-    ∷ text (abp then abp) 3 2
-    ∷ text (abp then xy then abp) 3 3
-    ∷ text (abp then xy then "06\n") 3 3
-    ∷ text (abp then "030000\n") 3 2
-    ∷ text (abp then "030000\n" then xy) 3 2
-    ∷ text (abp then "04\n") 3 2
-    ∷ text (abp then xy then "050000\n" then xy) 3 4
-    ∷ text (abp then times 16 xy) 0 0
-    ∷ text (abp then times 17 xy) 3 18
-    ∷ text (abp then xy then times 32 "050000\n") 0 0
-    ∷ text (abp then xy then times 33 "050000\n") 3 35
-    ∷ text (abp then xy then times 32 "030000\n" then "05ff\n") 3 35
+    ∷ text abp-frame 3 1
+    ∷ text (abp-frame then abp-frame) 3 2
+    ∷ text (abp-frame then xy then abp-frame) 3 3
+    ∷ text (abp-frame then xy then "06\n") 3 3
+    ∷ text (abp-frame then "030000\n") 3 2
+    ∷ text (abp-frame then "030000\n" then xy) 3 2
+    ∷ text (abp-frame then "04\n") 3 2
+    ∷ text (abp-frame then xy then "050000\n" then xy) 3 4
+    ∷ text (abp-frame then times 16 xy) 0 0
+    ∷ text (abp-frame then times 17 xy) 3 18
+    ∷ text (abp-frame then xy then times 32 "050000\n") 0 0
+    ∷ text (abp-frame then xy then times 33 "050000\n") 3 35
+    ∷ text (abp-frame then xy then times 32 "030000\n" then "05ff\n") 3 35
     -- "4, bad symbol frame."
     ∷ text "01\n" 4 1
     ∷ text "0100\n" 4 1
@@ -97,21 +96,21 @@ texts =
     ∷ text ("0110" then times 16 "00" then "\n" then xx) 0 0
     ∷ text ("0111" then times 17 "00" then "\n" then xx) 4 1
     -- "5, foreign byte, unknown symbol, frame ending early, bytes left over, too many nodes."
-    ∷ text (abp then "02\n") 5 2
-    ∷ text (abp then "0280\n") 5 2
-    ∷ text (abp then "02800200\n") 5 2
-    ∷ text (abp then "02808180\n") 5 2
-    ∷ text (abp then "028010\n") 5 2
-    ∷ text (abp then "02807f\n") 5 2
-    ∷ text (abp then "028788\n") 5 2
-    ∷ text (abp then "028780\n") 0 0
-    ∷ text (abp then "028003\n") 5 2
-    ∷ text (abp then xy then "03\n") 5 3
-    ∷ text (abp then xy then "0305\n") 5 3
-    ∷ text (abp then xy then "03ff00\n") 0 0
-    ∷ text (abp then xy then "03050000\n") 5 3
-    ∷ text (abp then xy then "0500\n") 5 3
-    ∷ text (abp then xy then "05000000\n") 5 3
+    ∷ text (abp-frame then "02\n") 5 2
+    ∷ text (abp-frame then "0280\n") 5 2
+    ∷ text (abp-frame then "02800200\n") 5 2
+    ∷ text (abp-frame then "02808180\n") 5 2
+    ∷ text (abp-frame then "028010\n") 5 2
+    ∷ text (abp-frame then "02807f\n") 5 2
+    ∷ text (abp-frame then "028788\n") 5 2
+    ∷ text (abp-frame then "028780\n") 0 0
+    ∷ text (abp-frame then "028003\n") 5 2
+    ∷ text (abp-frame then xy then "03\n") 5 3
+    ∷ text (abp-frame then xy then "0305\n") 5 3
+    ∷ text (abp-frame then xy then "03ff00\n") 0 0
+    ∷ text (abp-frame then xy then "03050000\n") 5 3
+    ∷ text (abp-frame then xy then "0500\n") 5 3
+    ∷ text (abp-frame then xy then "05000000\n") 5 3
     -- "A side of 32 nodes passes, 33 is 5."
     ∷ text (ah then "02" then tower 31 then "00" then tower 31 then "80\n") 0 0
     ∷ text (ah then "02" then tower 32 then "0080\n") 5 2
@@ -122,34 +121,34 @@ texts =
     ∷ text (ah then xx then "05" then tower 79 then "00" then tower 79 then "00\n") 0 0
     ∷ text (ah then xx then "05" then tower 79 then "00" then tower 80 then "00\n") 5 3
     -- "6, variable in a ground term"; "the first of 5 and 6 by byte (5 where one byte earns both)".
-    ∷ text (abp then xy then "030580\n") 6 3
-    ∷ text (abp then xy then "030502ff80\n") 5 3
-    ∷ text (abp then xy then "03050280ff\n") 6 3
-    ∷ text (abp then xy then "030280\n") 6 3
-    ∷ text (abp then xy then "03050280\n") 6 3
-    ∷ text (abp then xy then "03050080\n") 5 3
-    ∷ text (abp then xy then "050080\n") 6 3
-    ∷ text (abp then xy then "05000080\n") 5 3
-    ∷ text (abp then xy then "0400000080\n") 6 3
+    ∷ text (abp-frame then xy then "030580\n") 6 3
+    ∷ text (abp-frame then xy then "030502ff80\n") 5 3
+    ∷ text (abp-frame then xy then "03050280ff\n") 6 3
+    ∷ text (abp-frame then xy then "030280\n") 6 3
+    ∷ text (abp-frame then xy then "03050280\n") 6 3
+    ∷ text (abp-frame then xy then "03050080\n") 5 3
+    ∷ text (abp-frame then xy then "050080\n") 6 3
+    ∷ text (abp-frame then xy then "05000080\n") 5 3
+    ∷ text (abp-frame then xy then "0400000080\n") 6 3
     ∷ text (ah then xx then "0300" then tower 159 then "80\n") 6 3
     ∷ text (ah then xx then "0300" then tower 160 then "80\n") 5 3
     -- "7, judgement of an absent equation or direction"; "a 04 frame too short for equation and direction is 5 before 7".
-    ∷ text (abp then xy then "04\n") 5 3
-    ∷ text (abp then xy then "04ff\n") 5 3
-    ∷ text (abp then xy then "0401000001\n") 7 3
-    ∷ text (abp then xy then "0400020001\n") 7 3
-    ∷ text (abp then xy then "0401ff\n") 7 3
-    ∷ text (abp then xy then "040100ff80\n") 7 3
-    ∷ text (abp then xy then "040000ff80\n") 5 3
-    ∷ text (abp then xy then "040000\n") 5 3
+    ∷ text (abp-frame then xy then "04\n") 5 3
+    ∷ text (abp-frame then xy then "04ff\n") 5 3
+    ∷ text (abp-frame then xy then "0401000001\n") 7 3
+    ∷ text (abp-frame then xy then "0400020001\n") 7 3
+    ∷ text (abp-frame then xy then "0401ff\n") 7 3
+    ∷ text (abp-frame then xy then "040100ff80\n") 7 3
+    ∷ text (abp-frame then xy then "040000ff80\n") 5 3
+    ∷ text (abp-frame then xy then "040000\n") 5 3
     -- "ground values for variables 80 up to the highest of that equation, one each; none if it has no variable"
-    ∷ text (abp then "020001\n040000\n") 0 0
-    ∷ text (abp then "020001\n04000000\n") 5 3
-    ∷ text (abp then "028383\n04000100010001\n") 0 0
-    ∷ text (abp then "028383\n040001000100\n") 5 3
-    ∷ text (abp then "028383\n0400010001000100\n") 5 3
+    ∷ text (abp-frame then "020001\n040000\n") 0 0
+    ∷ text (abp-frame then "020001\n04000000\n") 5 3
+    ∷ text (abp-frame then "028383\n04000100010001\n") 0 0
+    ∷ text (abp-frame then "028383\n040001000100\n") 5 3
+    ∷ text (abp-frame then "028383\n0400010001000100\n") 5 3
     -- "then line by line": 2 on line 3 comes after 5 on line 2.
-    ∷ text (abp then "02\n0g\n") 5 2
+    ∷ text (abp-frame then "02\n0g\n") 5 2
     ∷ []
 
 pub texts-hold : map text-checked texts ≡ map text-stated texts

@@ -1,6 +1,6 @@
 -- Walks at the edges of document 01, checked against the definitions by computation.
 use Prim.Native.Nat.{ℕ}
-use Prim.Native.String.{String, _++_ as _then_}
+use Prim.Native.String.{String}
 use mathlib.Core.Path.{_≡_, refl}
 use mathlib.Core.Option.{some}
 use mathlib.Core.List.{List, [], _∷_, _++_, map}
@@ -9,7 +9,7 @@ use Rattle.format.specs.declared.refusal.Refusal.the-variants.{TooManyTurns as 
 use Rattle.terms.specs.Equation.{Equation, view}
 use Rattle.solving.specs.Line.{Bindings, no-bindings, bind, equal, greater, Line, line}
 use Rattle.solving.specs.Walk.{enough, treat, becomes, reach, walk-from, Walked, solved, refused}
-use Rattle.cases.specs.Checked.{lines, term}
+use Rattle.cases.specs.Checked.{term}
 
 -- The walk, a turn at a time. c and a binary F.
 unfoldable pub equation : (l r : String) → Equation

@@ -4,3 +4,4 @@ pub mod Byte
 pub mod Lists
 pub mod Buffer
 pub mod Theory
+pub mod Kind

@@ -1,3 +1,4 @@
--- Laws of byte classes and of tests on lists.
+-- Laws of byte classes, of kinds of frames, and of tests on lists.
 pub mod Byte
 pub mod Lists
+pub mod Kind

@@ -1,14 +1,11 @@
 -- The verdict of a comparison (document 01, 'Ground comparison' and 'Calls and lent memory').
 use Prim.Native.Nat.{ℕ}
+pub use Rattle.ordering.specs.declared.verdict.Verdict.{Verdict}
+pub use Rattle.ordering.specs.declared.verdict.Verdict.the-variants.{Smaller as smaller, Equal as equal, Greater as greater}
 use Rattle.terms.specs.Term.{Term, identical?}
 use Rattle.ordering.specs.Theory.Decide.{exceeds?}
 
 -- "Compare: 0 smaller, 1 equal, 2 greater."
-pub data Verdict : Type 0 where
-  smaller : Verdict
-  equal : Verdict
-  greater : Verdict
-
 unfoldable pub verdict-number : Verdict → ℕ
 verdict-number smaller = 0
 verdict-number equal = 1

@@ -1,1 +1,2 @@
 // The lexicographic path ordering. The definitions and its theory stand in specs/.
+pub mod verdict;

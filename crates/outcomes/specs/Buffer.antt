@@ -2,10 +2,14 @@
 use Prim.Native.Nat.{ℕ, _+_, _*_, _%_, _^_}
 use mathlib.Core.List.{List}
 use lib.ListN.{replicate}
-use Rattle.format.specs.Limits.{table-bytes, scratch-bytes}
+use Rattle.format.specs.Limits.{no-position, table-bytes, scratch-bytes}
 use Rattle.format.specs.Buffer.{written}
 use Rattle.format.specs.Refusal.{number}
 use Rattle.format.specs.declared.refusal.Refusal.{Refusal}
+
+-- "16-bit fields"
+abbrev pub field-limit : ℕ
+field-limit = 2 ^ 16
 
 -- "Each returns one 64-bit number: lowest byte the refusal, or 0; above it 16-bit fields, lowest first, unused ones 0."
 unfoldable pub fields : (first second third : ℕ) → ℕ
@@ -33,4 +37,4 @@ cleared scratch = filled scratch-bytes 0x00 scratch
 -- "the table's first 22,695 bytes ff"
 unfoldable pub blanked : List ℕ → List ℕ
 unfolding filled
-blanked table = filled table-bytes 0xff table
+blanked table = filled table-bytes no-position table

@@ -1,36 +1,32 @@
 -- Laws of digits that write bytes, and for the loop that decodes them into a lent buffer.
 use Prim.Native.Nat.{ℕ, suc, _+_, _≤_, _<_}
-use mathlib.Core.Path.{_≡_, refl, sym, ap, subst, _∙_}
-use mathlib.Core.Bool.{Bool, true, false}
+use mathlib.Core.Path.{_≡_, refl, sym, ap, _∙_}
 use mathlib.Core.List.{List, [], _∷_, _++_, append-assoc, append-nil}
 use lib.ListN.{length, drop, set, getD, length-append, length-drop}
 use lib.Seq.{drop-cons, set-at}
-use lib.Dec.{leb}
-use borrow.Author.Tests.{leb-true, leb-false}
 use native.Mathlib.Numerals.{add-one}
 use native.Mathlib.Omega.{arith}
 use Rattle.format.specs.Buffer.{written}
-use Rattle.scanning.specs.Contracts.Cursor.{pair-at, bytes-between}
-use Rattle.scanning.specs.Contracts.Body.{BodyReady}
+use Rattle.scanning.specs.Contracts.Cursor.{BodyReady, pair-at, bytes-between}
 use Rattle.reading.specs.Contracts.Seek.{Spans, Decoded}
-use Rattle.sheet.specs.Theory.Text.{Bytes}
-use Rattle.scanning.specs.Theory.Between.{between-end, between-cons}
-use Rattle.reading.proofs.Step.{two-more, body-behind}
+use Rattle.sheet.specs.Contracts.Bytes.{max-byte}
+use Rattle.scanning.specs.Theory.Between.{between-end, two-more, first-byte, byte-small, body-behind}
 
 -- 1. The first of the bytes written, and those behind it.
 module _ (text : List ℕ) (from end b : ℕ) (bs : List ℕ) (h : Spans text from end (b ∷ bs)) where
-  some-digits : from < end
-  some-digits = go (leb end from) refl
-    where
-      go : (t : Bool) → leb end from ≡ t → from < end
-      go true e = let x : [] ≡ b ∷ bs = sym (between-end text from end (leb-true end from e)) ∙ h .writes in let z : _≡_ {A = ℕ} 0 1 = cc in absurd (omega arith)
-      go false e = leb-false end from e
+  some-digits : from ≡ end → ⊥
+  some-digits d =
+      let x : [] ≡ b ∷ bs = sym (between-end text from end (omega arith)) ∙ h .writes in
+      let z : _≡_ {A = ℕ} 0 1 = cc in omega arith
 
   pub spans-inside : from + 2 ≤ length text
   spans-inside = omega (arith, two-more text from end (h .ready) some-digits, h .ready .inside)
 
   split : pair-at text from ∷ bytes-between text (from + 2) end ≡ b ∷ bs
-  split = sym (between-cons text from end (two-more text from end (h .ready) some-digits) (h .ready .inside)) ∙ h .writes
+  split = sym (first-byte text from end (h .ready) some-digits) ∙ h .writes
+
+  pub spans-byte : pair-at text from ≤ max-byte
+  spans-byte = byte-small text from end (h .ready) some-digits
 
   pub spans-first : pair-at text from ≡ b
   spans-first = let e = split in cc
@@ -68,15 +64,18 @@ module _ (text : List ℕ) (from end : ℕ) (before after : List ℕ) (at n : �
       let e : bs ≡ g .done = sym (x .writes) ∙ g .split ∙ ap (g .done ++_) (between-end text at end h) ∙ append-nil (g .done) in
       (g .counted ∙ ap length (sym e), g .stands ∙ ap (λ m. g .done ++ drop m before) (g .counted) ∙ ap (λ ds. ds ++ drop (length ds) before) (sym e))
 
-  module _ (more : at < end) where
+  module _ (inside : at < end) where
+    more : at ≡ end → ⊥
+    more e = omega arith
+
     next : bytes-between text at end ≡ pair-at text at ∷ bytes-between text (at + 2) end
-    next = between-cons text at end (two-more text at end (g .ready) more) (g .ready .inside)
+    next = first-byte text at end (g .ready) more
 
     pub decoding-inside : at + 2 ≤ length text
     decoding-inside = omega (arith, two-more text at end (g .ready) more, g .ready .inside)
 
-    pub decoding-byte : pair-at text at ≤ 0xff
-    decoding-byte = subst Bytes next (g .ready .are-bytes) .0
+    pub decoding-byte : pair-at text at ≤ max-byte
+    decoding-byte = byte-small text at end (g .ready) more
 
     below : n < length before
     below = omega (arith, ap length (g .split), length-append (g .done) (bytes-between text at end), ap length next, g .counted, g .room)

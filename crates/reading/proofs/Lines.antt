@@ -14,21 +14,21 @@ use Rattle.format.specs.Refusal.{Result, refuse, give}
 use Rattle.format.specs.declared.refusal.Refusal.{Refusal}
 use Rattle.format.specs.declared.refusal.Refusal.the-variants.{TextLength, Digits, FrameOrder}
 use Rattle.scanning.specs.declared.known.Known.{Known}
-use Rattle.scanning.specs.declared.scan.Outcome.{Outcome}
-use Rattle.scanning.specs.declared.scan.Outcome.the-variants.{Done, Refused}
-use Rattle.reading.specs.declared.read.Reading.the-variants.{Accepted, Refused as Refused-at}
-use Rattle.sheet.specs.Text.{Row, ended, rows, frame-of}
+use Rattle.scanning.specs.declared.scan.ReadStatus.{ReadStatus}
+use Rattle.scanning.specs.declared.scan.ReadStatus.the-variants.{Done, Refused}
+use Rattle.reading.specs.declared.read.SheetStatus.the-variants.{Accepted, Refused as Refused-at}
+use Rattle.sheet.specs.Text.{TextLine, ended, lines-of, frame-of}
 use Rattle.sheet.specs.Sheet.{Sheet}
 use Rattle.sheet.specs.Frame.{State, start, within, read-frame}
-use Rattle.sheet.specs.Reading.{Reading, refused-at, accepted, read-row, finish, read-rows, read}
-use Rattle.scanning.specs.Contracts.Cursor.{bytes-between, LineTo, NoFrame}
-use Rattle.scanning.specs.Contracts.Body.{BodyReady, none-known}
-use Rattle.reading.specs.Contracts.Reader.{Knows, StepRead, SheetRead}
+use Rattle.sheet.specs.Reading.{Reading, refused-at, accepted, read-line, finish, read-lines, read}
+use Rattle.scanning.specs.Contracts.Cursor.{BodyReady, bytes-between, LineTo, NoFrame}
+use Rattle.scanning.specs.Contracts.Body.{none-known}
+use Rattle.reading.specs.Contracts.Reader.{Knows, FrameRead, SheetRead}
 use Rattle.sheet.specs.Theory.Text.{frame-bytes-small}
 
 -- 1. The length of the text.
 sized : (text : List ℕ) → Bool → Reading Sheet
-sized text t = elim t [ true ↦ read-rows start 0 (rows text) | false ↦ refused-at TextLength 0 ]
+sized text t = elim t [ true ↦ read-lines start 0 (lines-of text) | false ↦ refused-at TextLength 0 ]
 
 pub empty-text : (text : List ℕ) → length text ≡ 0 → read text ≡ refused-at TextLength 0
 unfolding read sized
@@ -42,7 +42,7 @@ long-text text h = ap (λ t. sized text (leb 1 (length text) && t)) (lt-leb (len
     and-false true = refl
     and-false false = refl
 
-right-text : (text : List ℕ) → 1 ≤ length text → length text ≤ max-text → read text ≡ read-rows start 0 (rows text)
+right-text : (text : List ℕ) → 1 ≤ length text → length text ≤ max-text → read text ≡ read-lines start 0 (lines-of text)
 unfolding read sized
 right-text text n h = ap (sized text) (both (leb 1 (length text)) (leb (length text) max-text) (le-leb 1 (length text) (omega arith)) (le-leb (length text) max-text h))
   where
@@ -55,38 +55,38 @@ pub record Passing (text : List ℕ) (k : Known) (at line : ℕ) : Type 0 where
   pub knows : Knows k state
   pub inside : at ≤ length text
   pub counted : line ≤ at
-  pub same : read text ≡ read-rows state line (rows (drop at text))
+  pub same : read text ≡ read-lines state line (lines-of (drop at text))
 
 pub passing-start : (text : List ℕ) (k : Known) → 1 ≤ length text → length text ≤ max-text → none-known k → Passing text k 0 0
 passing-start text k n h g = record { state = start; knows = g; inside = omega arith; counted = omega arith; same = right-text text n h }
 
-after-row : (line : ℕ) (more : List Row) → Result State → Reading Sheet
-after-row line more r = elim r [ refuse x ↦ refused-at x (suc line) | give next ↦ read-rows next (suc line) more ]
+after-line : (line : ℕ) (more : List TextLine) → Result State → Reading Sheet
+after-line line more r = elim r [ refuse x ↦ refused-at x (suc line) | give next ↦ read-lines next (suc line) more ]
 
-rows-step : (state : State) (line : ℕ) (row : Row) (more : List Row) (r : Result State) → read-row state row ≡ r → read-rows state line (row ∷ more) ≡ after-row line more r
-unfolding read-rows after-row
-rows-step state line row more r e = ap (after-row line more) e
+lines-step : (state : State) (line : ℕ) (text-line : TextLine) (more : List TextLine) (r : Result State) → read-line state text-line ≡ r → read-lines state line (text-line ∷ more) ≡ after-line line more r
+unfolding read-lines after-line
+lines-step state line text-line more r e = ap (after-line line more) e
 
-row-broken : (state : State) (row : Row) → frame-of row ≡ none → read-row state row ≡ refuse Digits
-unfolding read-row
-row-broken state row e = rw (e, read-row)
+broken-line : (state : State) (text-line : TextLine) → frame-of text-line ≡ none → read-line state text-line ≡ refuse Digits
+unfolding read-line
+broken-line state text-line e = rw (e, read-line)
 
 by-frame : State → Option (List ℕ) → Result State
 by-frame state o = elim o [ none ↦ refuse Digits | some bs ↦ read-frame state bs ]
 
-row-framed : (state : State) (row : Row) (bs : List ℕ) → frame-of row ≡ some bs → read-row state row ≡ read-frame state bs
-unfolding read-row by-frame
-row-framed state row bs e = ap (by-frame state) e
+line-framed : (state : State) (text-line : TextLine) (bs : List ℕ) → frame-of text-line ≡ some bs → read-line state text-line ≡ read-frame state bs
+unfolding read-line by-frame
+line-framed state text-line bs e = ap (by-frame state) e
 
 module _ (text : List ℕ) (k : Known) (at line : ℕ) (p : Passing text k at line) where
   pub line-broken : NoFrame text at → read text ≡ refused-at Digits (line + 1)
-  unfolding after-row
+  unfolding after-line
   line-broken n =
-      p .same ∙ ap (read-rows (p .state) line) (n .is-first) ∙ rows-step (p .state) line (n .row) (n .more) (refuse Digits) (row-broken (p .state) (n .row) (n .no-frame)) ∙ ap (refused-at Digits) (sym (add-one line))
+      p .same ∙ ap (read-lines (p .state) line) (n .is-first) ∙ lines-step (p .state) line (n .line) (n .more) (refuse Digits) (broken-line (p .state) (n .line) (n .no-frame)) ∙ ap (refused-at Digits) (sym (add-one line))
 
   module _ (end : ℕ) (l : LineTo text at end) where
-    row : Row
-    row = ended (take (end - at) (drop at text))
+    text-line : TextLine
+    text-line = ended (take (end - at) (drop at text))
 
     pub line-body : BodyReady text at end
     line-body = record { pairs = suc (l .pairs); even = l .even; inside = omega (arith, l .inside); are-bytes = frame-bytes-small (ended (take (end - at) (drop at text))) (bytes-between text at end) (l .is-frame) }
@@ -94,20 +94,20 @@ module _ (text : List ℕ) (k : Known) (at line : ℕ) (p : Passing text k at li
     pub line-some : at < end
     line-some = omega (arith, l .even)
 
-    row-is : read-row (p .state) row ≡ read-frame (p .state) (bytes-between text at end)
-    unfolding row
-    row-is = row-framed (p .state) row (bytes-between text at end) (l .is-frame)
+    text-line-is : read-line (p .state) text-line ≡ read-frame (p .state) (bytes-between text at end)
+    unfolding text-line
+    text-line-is = line-framed (p .state) text-line (bytes-between text at end) (l .is-frame)
 
-    pub line-refused : (k′ : Known) (o : Outcome) {x : Refusal} → ((state : State) → Knows k state → StepRead state (bytes-between text at end) k′ o) → o ≡ Refused x → read text ≡ refused-at x (line + 1)
-    unfolding row after-row
+    pub line-refused : (k′ : Known) (o : ReadStatus) {x : Refusal} → ((state : State) → Knows k state → FrameRead (read-frame state (bytes-between text at end)) k′ o) → o ≡ Refused x → read text ≡ refused-at x (line + 1)
+    unfolding text-line after-line
     line-refused k′ o {x} h d =
-        let r : read-frame (p .state) (bytes-between text at end) ≡ refuse x = subst (StepRead (p .state) (bytes-between text at end) k′) d (h (p .state) (p .knows)) in
-        p .same ∙ ap (read-rows (p .state) line) (l .is-first) ∙ rows-step (p .state) line row (rows (drop (end + 1) text)) (refuse x) (row-is ∙ r) ∙ ap (refused-at x) (sym (add-one line))
+        let r : read-frame (p .state) (bytes-between text at end) ≡ refuse x = subst (FrameRead (read-frame (p .state) (bytes-between text at end)) k′) d (h (p .state) (p .knows)) in
+        p .same ∙ ap (read-lines (p .state) line) (l .is-first) ∙ lines-step (p .state) line text-line (lines-of (drop (end + 1) text)) (refuse x) (text-line-is ∙ r) ∙ ap (refused-at x) (sym (add-one line))
 
-    pub line-next : (k′ : Known) (o : Outcome) → ((state : State) → Knows k state → StepRead state (bytes-between text at end) k′ o) → o ≡ Done → Passing text k′ (end + 1) (line + 1)
-    unfolding row after-row
+    pub line-next : (k′ : Known) (o : ReadStatus) → ((state : State) → Knows k state → FrameRead (read-frame state (bytes-between text at end)) k′ o) → o ≡ Done → Passing text k′ (end + 1) (line + 1)
+    unfolding text-line after-line
     line-next k′ o h d =
-        let (next, r, g) = subst (StepRead (p .state) (bytes-between text at end) k′) d (h (p .state) (p .knows)) in
+        let (next, r, g) = subst (FrameRead (read-frame (p .state) (bytes-between text at end)) k′) d (h (p .state) (p .knows)) in
         record {
           state = next;
           knows = g;
@@ -115,15 +115,15 @@ module _ (text : List ℕ) (k : Known) (at line : ℕ) (p : Passing text k at li
           counted = omega (arith, p .counted, l .even);
           same =
               p .same
-              ∙ ap (read-rows (p .state) line) (l .is-first)
-              ∙ rows-step (p .state) line row (rows (drop (end + 1) text)) (give next) (row-is ∙ r)
-              ∙ ap (λ n. read-rows next n (rows (drop (end + 1) text))) (sym (add-one line));
+              ∙ ap (read-lines (p .state) line) (l .is-first)
+              ∙ lines-step (p .state) line text-line (lines-of (drop (end + 1) text)) (give next) (text-line-is ∙ r)
+              ∙ ap (λ n. read-lines next n (lines-of (drop (end + 1) text))) (sym (add-one line));
         }
 
   -- 3. The end of the text.
   at-end : length text ≤ at → read text ≡ finish (p .state) line
-  unfolding rows read-rows
-  at-end h = p .same ∙ ap (λ xs. read-rows (p .state) line (rows xs)) (drop-of-length-le text h)
+  unfolding lines-of read-lines
+  at-end h = p .same ∙ ap (λ xs. read-lines (p .state) line (lines-of xs)) (drop-of-length-le text h)
 
   pub no-equations : length text ≤ at → k .equations ≡ 0 → read text ≡ refused-at FrameOrder line
   unfolding finish
@@ -150,5 +150,5 @@ module _ (text : List ℕ) (k : Known) (at line : ℕ) (p : Passing text k at li
           pick false d = let z : _≡_ {A = ℕ} 0 1 = cc in absurd (omega arith)
 
 -- A refused reading.
-pub by-refused-at : (text : List ℕ) (k : Known) {r : Rattle.reading.specs.declared.read.Reading.Reading} {x : Refusal} (line : ℕ) → r ≡ Refused-at x line → read text ≡ refused-at x line → line ≤ max-text → SheetRead text k r
+pub by-refused-at : (text : List ℕ) (k : Known) {r : Rattle.reading.specs.declared.read.SheetStatus.SheetStatus} {x : Refusal} (line : ℕ) → r ≡ Refused-at x line → read text ≡ refused-at x line → line ≤ max-text → SheetRead text k r
 by-refused-at text k line e h l = subst (SheetRead text k) (sym e) (h, l)

@@ -1,3 +1,4 @@
 -- What the contracts of the code cite.
 pub mod Reader
 pub mod Seek
+pub mod Symbols

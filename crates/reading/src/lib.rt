@@ -1,3 +1,4 @@
-// Reading a whole sheet, line by line, and finding its frames.
+// Reading a whole sheet, frame by frame, and finding its frames again.
 pub mod read;
 pub mod seek;
+pub mod symbols;

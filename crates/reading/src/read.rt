@@ -1,31 +1,33 @@
 // Frames in order, and a whole sheet line by line.
+use crate::symbols::FrameReading;
+use crate::symbols::refused;
+use crate::symbols::symbols_body;
+use format::kind::FrameKind;
+use format::kind::kind_of;
 use format::limits::Limits;
 use format::refusal::Refusal;
 use scanning::frame::equation_body;
 use scanning::known::Known;
-use scanning::scan::Outcome;
-use scanning::symbols::Step;
-use scanning::symbols::refused;
-use scanning::symbols::symbols_body;
+use scanning::scan::ReadStatus;
 use scanning::task::task_body;
-use scanning::text::RowEnd;
+use scanning::text::LineEnd;
+use scanning::text::Span;
 use scanning::text::byte_at;
-use scanning::text::row_end;
+use scanning::text::line_end;
 ghost use mathlib.Core.Path.{_≡_};
-ghost use mathlib.Core.List.{_∷_};
 ghost use Prim.Native.Nat.{_+_, _≤_, _<_};
 ghost use lib.ListN.{length, set};
-ghost use Rattle.format.specs.Limits.{max-text};
+ghost use Rattle.format.specs.Limits.{max-text, variable-count, max-equations, max-tasks};
 ghost use Rattle.sheet.specs.Sheet.{Sheet};
-ghost use Rattle.sheet.specs.Frame.{State, within};
-ghost use Rattle.scanning.specs.Contracts.Cursor.{bytes-between};
+ghost use Rattle.sheet.specs.Frame.{State, start, within, read-kind, read-frame};
+ghost use Rattle.scanning.specs.Contracts.Cursor.{span-bytes, SpanReady};
 ghost use Rattle.scanning.specs.Contracts.Scan.{FrameReady};
-ghost use Rattle.scanning.specs.Contracts.Body.{KnowsSheet, BodyReady};
-ghost use Rattle.reading.specs.Contracts.Reader.{Knows, StepRead, SheetRead};
+ghost use Rattle.scanning.specs.Contracts.Body.{KnowsSheet};
+ghost use Rattle.reading.specs.Contracts.Reader.{Knows, FrameRead, SheetRead};
 
 // One more equation, with as many variables up to its highest.
 fn with_equation(known: Known, width: usize) -> Known
-    requires { ⌜ (known .equations < 16) × (width ≤ 8) ⌝ }
+    requires { ⌜ (known .equations < max-equations) × (width ≤ variable-count) ⌝ }
     ensures { λ r. ⌜ r ≡ record { symbols = known .symbols; arities = known .arities; equations = known .equations + 1; widths = set (known .widths) (known .equations) width; tasks = known .tasks } ⌝ }
 {
     let mut more = known;
@@ -36,7 +38,7 @@ fn with_equation(known: Known, width: usize) -> Known
 }
 
 fn with_task(known: Known) -> Known
-    requires { ⌜ known .tasks < 32 ⌝ }
+    requires { ⌜ known .tasks < max-tasks ⌝ }
     ensures { λ r. ⌜ r ≡ record { symbols = known .symbols; arities = known .arities; equations = known .equations; widths = known .widths; tasks = known .tasks + 1 } ⌝ }
 {
     let mut more = known;
@@ -45,9 +47,9 @@ fn with_task(known: Known) -> Known
 }
 
 // An equation's frame, behind its kind.
-fn equation_frame(known: Known, s: &[u8], from: usize, end: usize) -> Step
-    requires { ⌜ FrameReady (now s) from end known × ((sheet : Sheet) × KnowsSheet known sheet) ⌝ }
-    ensures { λ r. ⌜ ((sheet : Sheet) → KnowsSheet known sheet → StepRead (within sheet) (2 ∷ bytes-between (now (s .entry)) from end) (r .known) (r .outcome)) ⌝ }
+fn equation_frame(known: Known, s: &[u8], span: Span) -> FrameReading
+    requires { ⌜ FrameReady (now s) span known × ((sheet : Sheet) × KnowsSheet known sheet) ⌝ }
+    ensures { λ r. ⌜ ((sheet : Sheet) → KnowsSheet known sheet → FrameRead (read-kind (within sheet) FrameKind.Equation (span-bytes (now (s .entry)) span)) (r .known) (r .status)) ⌝ }
 {
     if 0 < known.tasks {
         return refused(known, Refusal::FrameOrder);
@@ -55,21 +57,21 @@ fn equation_frame(known: Known, s: &[u8], from: usize, end: usize) -> Step
     if Limits::EQUATIONS <= known.equations {
         return refused(known, Refusal::FrameOrder);
     }
-    let sides = equation_body(known, s, from, end);
-    let outcome = sides.outcome;
-    match outcome {
-        Outcome::Refused(x) => refused(known, x),
-        Outcome::Done => Step {
-            outcome: Outcome::Done,
+    let sides = equation_body(known, s, span);
+    let status = sides.status;
+    match status {
+        ReadStatus::Refused(x) => refused(known, x),
+        ReadStatus::Done => FrameReading {
+            status: ReadStatus::Done,
             known: with_equation(known, sides.width),
         },
     }
 }
 
 // A frame of any other kind, behind the symbols'.
-fn task_frame(known: Known, s: &[u8], from: usize, end: usize, kind: usize) -> Step
-    requires { ⌜ FrameReady (now s) from end known × ((sheet : Sheet) × KnowsSheet known sheet) × (kind ≡ 2 → ⊥) × (kind ≤ 255) ⌝ }
-    ensures { λ r. ⌜ ((sheet : Sheet) → KnowsSheet known sheet → StepRead (within sheet) (kind ∷ bytes-between (now (s .entry)) from end) (r .known) (r .outcome)) ⌝ }
+fn task_frame(known: Known, s: &[u8], span: Span, kind: FrameKind) -> FrameReading
+    requires { ⌜ FrameReady (now s) span known × ((sheet : Sheet) × KnowsSheet known sheet) × (kind ≡ FrameKind.Equation → ⊥) ⌝ }
+    ensures { λ r. ⌜ ((sheet : Sheet) → KnowsSheet known sheet → FrameRead (read-kind (within sheet) kind (span-bytes (now (s .entry)) span)) (r .known) (r .status)) ⌝ }
 {
     if known.equations == 0 {
         return refused(known, Refusal::FrameOrder);
@@ -77,37 +79,49 @@ fn task_frame(known: Known, s: &[u8], from: usize, end: usize, kind: usize) -> S
     if Limits::TASKS <= known.tasks {
         return refused(known, Refusal::FrameOrder);
     }
-    let outcome = task_body(known, s, from, end, kind);
-    match outcome {
-        Outcome::Refused(x) => refused(known, x),
-        Outcome::Done => Step {
-            outcome: Outcome::Done,
+    let status = task_body(known, s, span, kind);
+    match status {
+        ReadStatus::Refused(x) => refused(known, x),
+        ReadStatus::Done => FrameReading {
+            status: ReadStatus::Done,
             known: with_task(known),
         },
     }
 }
 
-// One frame, of the digits from `from` to `end`.
-pub fn read_frame(known: Known, s: &[u8], from: usize, end: usize) -> Step
-    requires { ⌜ BodyReady (now s) from end × (from < end) × ((state : State) × Knows known state) ⌝ }
-    ensures { λ r. ⌜ ((state : State) → Knows known state → StepRead state (bytes-between (now (s .entry)) from end) (r .known) (r .outcome)) ⌝ }
+// The first frame: the symbols'.
+fn first_frame(known: Known, s: &[u8], span: Span, kind: FrameKind) -> FrameReading
+    requires { ⌜ SpanReady (now s) span ⌝ }
+    ensures { λ r. ⌜ FrameRead (read-kind start kind (span-bytes (now (s .entry)) span)) (r .known) (r .status) ⌝ }
 {
-    let kind = byte_at(s, from);
-    let body = from + 2;
+    match kind {
+        FrameKind::Symbols => symbols_body(s, span),
+        _ => refused(known, Refusal::FrameOrder),
+    }
+}
+
+// One frame.
+pub fn read_frame(known: Known, s: &[u8], span: Span) -> FrameReading
+    requires { ⌜ SpanReady (now s) span × (span .from < span .end) × ((state : State) × Knows known state) ⌝ }
+    ensures { λ r. ⌜ ((state : State) → Knows known state → FrameRead (read-frame state (span-bytes (now (s .entry)) span)) (r .known) (r .status)) ⌝ }
+{
+    let from = span.from;
+    let kind = kind_of(byte_at(s, from) as u8);
+    let body = Span {
+        from: from + 2,
+        end: span.end,
+    };
     if known.symbols == 0 {
-        if kind == 1 {
-            return symbols_body(s, body, end);
-        }
-        return refused(known, Refusal::FrameOrder);
+        return first_frame(known, s, body, kind);
     }
-    if kind == 2 {
-        return equation_frame(known, s, body, end);
+    match kind {
+        FrameKind::Equation => equation_frame(known, s, body),
+        _ => task_frame(known, s, body, kind),
     }
-    task_frame(known, s, body, end, kind)
 }
 
 // A sheet: accepted, or refused with a line.
-pub enum Reading {
+pub enum SheetStatus {
     Accepted,
     Refused(Refusal, usize),
 }
@@ -115,20 +129,20 @@ pub enum Reading {
 // `known` stands first: its zeros and the line are then not stored as one, to be read back in parts.
 pub struct SheetReading {
     pub known: Known,
-    pub reading: Reading,
+    pub status: SheetStatus,
 }
 
 fn refused_at(why: Refusal, line: usize) -> SheetReading
-    ensures { λ r. ⌜ r .reading ≡ Reading.Refused why line ⌝ }
+    ensures { λ r. ⌜ r .status ≡ SheetStatus.Refused why line ⌝ }
 {
     SheetReading {
-        reading: Reading::Refused(why, line),
+        status: SheetStatus::Refused(why, line),
         known: Known::nothing(),
     }
 }
 
 pub fn read_sheet(s: &[u8]) -> SheetReading
-    ensures { λ r. ⌜ SheetRead (now (s .entry)) (r .known) (r .reading) ⌝ }
+    ensures { λ r. ⌜ SheetRead (now (s .entry)) (r .known) (r .status) ⌝ }
 {
     let n = s.len();
     if n == 0 {
@@ -143,24 +157,25 @@ pub fn read_sheet(s: &[u8]) -> SheetReading
 // The lines of a text of allowed length.
 fn read_lines(s: &[u8]) -> SheetReading
     requires { ⌜ (1 ≤ length (now s)) × (length (now s) ≤ max-text) ⌝ }
-    ensures { λ r. ⌜ SheetRead (now (s .entry)) (r .known) (r .reading) ⌝ }
+    ensures { λ r. ⌜ SheetRead (now (s .entry)) (r .known) (r .status) ⌝ }
 {
     let n = s.len();
     let mut known = Known::nothing();
     let mut at: usize = 0;
     let mut line: usize = 0;
     while at < n {
-        match row_end(s, at) {
-            RowEnd::Broken => {
+        match line_end(s, at) {
+            LineEnd::Broken => {
                 return refused_at(Refusal::Digits, line + 1);
             }
-            RowEnd::At(end) => {
-                let step = read_frame(known, s, at, end);
-                let outcome = step.outcome;
-                if let Outcome::Refused(x) = outcome {
+            LineEnd::At(end) => {
+                let digits = Span { from: at, end: end };
+                let frame = read_frame(known, s, digits);
+                let status = frame.status;
+                if let ReadStatus::Refused(x) = status {
                     return refused_at(x, line + 1);
                 }
-                known = step.known;
+                known = frame.known;
                 at = end + 1;
                 line = line + 1;
             }
@@ -170,7 +185,7 @@ fn read_lines(s: &[u8]) -> SheetReading
         return refused_at(Refusal::FrameOrder, line);
     }
     SheetReading {
-        reading: Reading::Accepted,
+        status: SheetStatus::Accepted,
         known: known,
     }
 }

@@ -1,36 +1,35 @@
 // Where the frames of an accepted sheet stand, and their bytes.
+use format::kind::FrameKind;
+use format::kind::kind_of;
 use scanning::known::Known;
-use scanning::text::RowEnd;
+use scanning::text::LF;
+use scanning::text::LineEnd;
+use scanning::text::Span;
 use scanning::text::byte_at;
-use scanning::text::row_end;
+use scanning::text::line_end;
 ghost use mathlib.Core.Path.{_≡_};
 ghost use mathlib.Core.Option.{some};
 ghost use mathlib.Core.List.{List};
 ghost use Prim.Native.Nat.{ℕ, _≤_, _<_};
 ghost use lib.ListN.{length, drop};
+ghost use Rattle.format.specs.Limits.{position-count};
 ghost use Rattle.format.specs.Lists.{entry};
 ghost use Rattle.terms.specs.Equation.{Equation};
 ghost use Rattle.terms.specs.Prefix.{equation-bytes};
-ghost use Rattle.sheet.specs.Text.{Row, rows};
+ghost use Rattle.sheet.specs.Text.{TextLine, lines-of};
 ghost use Rattle.sheet.specs.Sheet.{Task};
 ghost use Rattle.sheet.specs.Frames.{task-frame};
 ghost use Rattle.reading.specs.Contracts.Seek.{Accepts, FrameIn, EquationIn, TaskIn, Spans, Decoded, TaskAt};
 
-// The digits from `from` to `end`.
-pub struct Span {
-    pub from: usize,
-    pub end: usize,
-}
-
 // Where line `n` starts; lines are numbered from 0.
 fn line_start(s: &[u8], n: usize) -> usize
-    requires { ⌜ ((row : Row) × (entry (rows (now s)) n ≡ some row)) ⌝ }
-    ensures { λ r. ⌜ entry (rows (drop r (now (s .entry)))) 0 ≡ entry (rows (now (s .entry))) n ⌝ }
+    requires { ⌜ ((line : TextLine) × (entry (lines-of (now s)) n ≡ some line)) ⌝ }
+    ensures { λ r. ⌜ entry (lines-of (drop r (now (s .entry)))) 0 ≡ entry (lines-of (now (s .entry))) n ⌝ }
 {
     let mut at = 0;
     let mut left = n;
     while 0 < left {
-        if s[at] == 10 {
+        if s[at] == LF {
             left = left - 1;
         }
         at = at + 1;
@@ -44,12 +43,12 @@ pub fn frame_at(s: &[u8], n: usize) -> Span
     ensures { λ r. ⌜ ((frame : List ℕ) → FrameIn (now (s .entry)) n frame → Spans (now (s .entry)) (r .from) (r .end) frame) ⌝ }
 {
     let from = line_start(s, n);
-    match row_end(s, from) {
-        RowEnd::At(end) => Span {
+    match line_end(s, from) {
+        LineEnd::At(end) => Span {
             from: from,
             end: end,
         },
-        RowEnd::Broken => Span { from: 0, end: 0 },
+        LineEnd::Broken => Span { from: 0, end: 0 },
     }
 }
 
@@ -70,7 +69,7 @@ pub fn decode(s: &[u8], from: usize, end: usize, out: &mut [u8]) -> usize
 
 // The bytes of equation `e`, left side then right side, to the front of `out`; how many.
 pub fn equation_at(s: &[u8], known: Known, e: usize, out: &mut [u8]) -> usize
-    requires { ⌜ Accepts (now s) known × (e < known .equations) × (64 ≤ length (now out)) ⌝ }
+    requires { ⌜ Accepts (now s) known × (e < known .equations) × (position-count ≤ length (now out)) ⌝ }
     ensures { λ r. ⌜ ((q : Equation) → EquationIn (now (s .entry)) e q → Decoded (equation-bytes q) (now (out .entry)) (now (out .exit)) r) ⌝ }
 {
     let frame = frame_at(s, e + 1);
@@ -97,21 +96,24 @@ pub fn find_task(s: &[u8], known: Known, k: usize) -> TaskFound
     ensures { λ r. ⌜ ((t : Task) → TaskIn (now (s .entry)) k t → TaskAt (now (s .entry)) t r) ⌝ }
 {
     let frame = frame_at(s, known.equations + k + 1);
-    task_head(s, frame.from, frame.end)
+    task_head(s, frame)
 }
 
 // The frame of a task taken apart.
-fn task_head(s: &[u8], from: usize, end: usize) -> TaskFound
-    requires { ⌜ ((t : Task) × Spans (now s) from end (task-frame t)) ⌝ }
-    ensures { λ r. ⌜ ((t : Task) → Spans (now (s .entry)) from end (task-frame t) → TaskAt (now (s .entry)) t r) ⌝ }
+fn task_head(s: &[u8], span: Span) -> TaskFound
+    requires { ⌜ ((t : Task) × Spans (now s) (span .from) (span .end) (task-frame t)) ⌝ }
+    ensures { λ r. ⌜ ((t : Task) → Spans (now (s .entry)) (span .from) (span .end) (task-frame t) → TaskAt (now (s .entry)) t r) ⌝ }
 {
-    match byte_at(s, from) {
-        3 => TaskFound {
+    let from = span.from;
+    let end = span.end;
+    let kind = kind_of(byte_at(s, from) as u8);
+    match kind {
+        FrameKind::Run => TaskFound {
             head: TaskHead::Run(byte_at(s, from + 2)),
             from: from + 4,
             end: end,
         },
-        4 => TaskFound {
+        FrameKind::Judgement => TaskFound {
             head: TaskHead::Judgement(byte_at(s, from + 2), byte_at(s, from + 4)),
             from: from + 6,
             end: end,

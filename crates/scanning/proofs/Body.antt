@@ -1,7 +1,7 @@
 -- Laws for the bodies of frames: a scan with nothing behind it, an equation's two sides, and its highest variable.
-use Prim.Native.Nat.{ℕ, zero, suc, _+_, _*_, _≤_, max}
-use mathlib.Core.Path.{_≡_, refl, ap, _∙_}
-use mathlib.Core.Bool.{Bool, false}
+use Prim.Native.Nat.{ℕ, _≤_, max}
+use mathlib.Core.Path.{_≡_, refl, ap, subst, _∙_}
+use mathlib.Core.Bool.{false}
 use mathlib.Core.List.{List, [], _∷_, _++_}
 use lib.ListN.{length}
 use native.Mathlib.Omega.{arith}
@@ -14,49 +14,53 @@ use Rattle.terms.specs.Term.{Term, Terms, var, app, nil, cons}
 use Rattle.terms.specs.Equation.{Equation}
 use Rattle.terms.specs.Prefix.{prefix, prefixes, terms-of}
 use Rattle.terms.specs.Theory.Prefix.{Fits, AllFit}
-use Rattle.scanning.specs.declared.scan.Outcome.{Outcome}
-use Rattle.scanning.specs.declared.scan.Outcome.the-variants.{Done, Refused}
+use Rattle.scanning.specs.declared.scan.ReadStatus.{ReadStatus}
+use Rattle.scanning.specs.declared.scan.ReadStatus.the-variants.{Done, Refused}
 use Rattle.scanning.specs.declared.scan.Scanned.{Scanned}
+use Rattle.scanning.specs.declared.scan.Wanted.{Wanted}
+use Rattle.scanning.specs.declared.text.Span.{Span}
 use Rattle.scanning.specs.declared.known.Known.{Known}
-use Rattle.scanning.specs.declared.frame.Sides.{Sides}
+use Rattle.scanning.specs.declared.frame.EquationReading.{EquationReading}
 use Rattle.sheet.specs.Sheet.{width, widths, equation-width}
 use Rattle.sheet.specs.Frame.{scan, all-read, scan-sides, first-term, second-term, equation-body}
-use Rattle.scanning.specs.Contracts.Cursor.{bytes-between}
-use Rattle.scanning.specs.Contracts.Scan.{known-arities, widest, FrameReady, outcome-result, ScanRead, LastSide, EquationGiven}
+use Rattle.scanning.specs.Contracts.Cursor.{bytes-between, span-bytes}
+use Rattle.scanning.specs.Contracts.Scan.{known-arities, widest, FrameReady, status-result, ScanRead, LastSide, EquationGiven}
 use Rattle.scanning.specs.Theory.Listed.{length-listed}
-use Rattle.scanning.specs.Theory.Between.{between-end, between-cons}
+use Rattle.scanning.specs.Theory.Between.{between-end, first-byte}
 use Rattle.sheet.specs.Theory.Frame.{equation-given}
 
 -- 1. A scan, and what is left behind it.
-module _ (text : List ℕ) (from end : ℕ) (arities : List ℕ) (ground : Bool) (terms nodes w : ℕ) (r : Scanned) (g : ScanRead text from end arities ground terms nodes w r) where
-  pub scan-refusal : {x : Refusal} → r .outcome ≡ Refused x → scan arities ground (bytes-between text from end) terms nodes ≡ refuse x
-  scan-refusal e = g .given ∙ ap (outcome-result (bytes-between text (r .at) end)) e
+pub by-wanted : {text : List ℕ} {d : Span} {arities : List ℕ} {w v : Wanted} {r : Scanned} → w ≡ v → ScanRead text d arities w r → ScanRead text d arities v r
+by-wanted {text} {d} {arities} {w} {v} {r} e g = subst (λ u. ScanRead text d arities u r) e g
 
-  pub scan-done : r .outcome ≡ Done → scan arities ground (bytes-between text from end) terms nodes ≡ give (bytes-between text (r .at) end)
-  scan-done e = g .given ∙ ap (outcome-result (bytes-between text (r .at) end)) e
+module _ (text : List ℕ) (d : Span) (arities : List ℕ) (w : Wanted) (r : Scanned) (g : ScanRead text d arities w r) where
+  abbrev scan-result : Result (List ℕ)
+  scan-result = scan arities (w .ground) (span-bytes text d) (w .terms) (w .nodes)
 
-  pub refused-read : {x : Refusal} → r .outcome ≡ Refused x → (ts : Terms) → all-read ts (scan arities ground (bytes-between text from end) terms nodes) ≡ refuse x
+  pub scan-refusal : {x : Refusal} → r .status ≡ Refused x → scan-result ≡ refuse x
+  scan-refusal e = g .given ∙ ap (status-result (bytes-between text (r .at) (d .end))) e
+
+  pub scan-done : r .status ≡ Done → scan-result ≡ give (bytes-between text (r .at) (d .end))
+  scan-done e = g .given ∙ ap (status-result (bytes-between text (r .at) (d .end))) e
+
+  pub refused-read : {x : Refusal} → r .status ≡ Refused x → (ts : Terms) → all-read ts scan-result ≡ refuse x
   unfolding all-read
   refused-read e ts = ap (all-read ts) (scan-refusal e)
 
-  pub done-whole : r .outcome ≡ Done → r .at ≡ end → scan arities ground (bytes-between text from end) terms nodes ≡ give []
-  done-whole e d = scan-done e ∙ ap give (between-end text (r .at) end (omega arith))
+  pub done-whole : r .status ≡ Done → r .at ≡ d .end → scan-result ≡ give []
+  done-whole e h = scan-done e ∙ ap give (between-end text (r .at) (d .end) (omega arith))
 
-  pub whole-read : r .outcome ≡ Done → r .at ≡ end → (ts : Terms) → all-read ts (scan arities ground (bytes-between text from end) terms nodes) ≡ give ts
+  pub whole-read : r .status ≡ Done → r .at ≡ d .end → (ts : Terms) → all-read ts scan-result ≡ give ts
   unfolding all-read
-  whole-read e d ts = ap (all-read ts) (done-whole e d)
+  whole-read e h ts = ap (all-read ts) (done-whole e h)
 
-  pub left-over : end ≤ length text → r .outcome ≡ Done → (r .at ≡ end → ⊥) → (ts : Terms) → all-read ts (scan arities ground (bytes-between text from end) terms nodes) ≡ refuse FrameBytes
+  pub left-over : r .status ≡ Done → (r .at ≡ d .end → ⊥) → (ts : Terms) → all-read ts scan-result ≡ refuse FrameBytes
   unfolding all-read
-  left-over inside e n ts = ap (all-read ts) (scan-done e ∙ ap give (between-cons text (r .at) end (two (g .pairs) (g .even)) inside))
-    where
-      two : (k : ℕ) → end ≡ r .at + 2 * k → r .at + 2 ≤ end
-      two zero d = absurd (n (omega arith))
-      two (suc k) d = omega arith
+  left-over e n ts = ap (all-read ts) (scan-done e ∙ ap give (first-byte text (r .at) (d .end) (g .behind) n))
 
-  pub done-width : r .outcome ≡ Done → r .at ≡ end → max w (widest (bytes-between text from end)) ≡ r .width
+  pub done-width : r .status ≡ Done → r .at ≡ d .end → max (w .width) (widest (span-bytes text d)) ≡ r .width
   unfolding widest
-  done-width e d = g .widths ∙ ap (λ bs. max (r .width) (widest bs)) (between-end text (r .at) end (omega arith)) ∙ omega arith
+  done-width e h = g .widths ∙ ap (λ bs. max (r .width) (widest bs)) (between-end text (r .at) (d .end) (omega arith)) ∙ omega arith
 
 -- 2. The two sides of an equation.
 after-left : (arities : List ℕ) → Result (List ℕ) → Result (List ℕ)
@@ -111,25 +115,21 @@ module _ (arities : List ℕ) (known : length arities ≤ max-symbols) where
       let (q, x) = second-read arities (bytes-between text from end) (bytes-between text at end) d e in
       (q, x, omega (arith, equation-width-read (bytes-between text from end) q x))
 
--- 4. What the equation's code puts together.
--- What lies behind a scan is a frame's end again.
-pub frame-behind : (text : List ℕ) (from end : ℕ) (arities : List ℕ) (ground : Bool) (terms nodes w : ℕ) (r : Scanned) → ScanRead text from end arities ground terms nodes w r → {k : Known} → FrameReady text from end k
-    → FrameReady text (r .at) end k
-frame-behind text from end arities ground terms nodes w r g f = record {
-  pairs = g .pairs;
-  even = g .even;
-  inside = f .inside;
-  are-bytes = g .are-bytes;
-  few-symbols = f .few-symbols;
-}
+-- 4. What the equation's code puts together: the left side's scan, and what is known of the right side.
+abbrev pub left-side : Wanted
+left-side = record { terms = 1; nodes = max-side-nodes; ground = false; width = 0 }
 
-pub equation-outcome : (text : List ℕ) (from end : ℕ) (k : Known) → FrameReady text from end k → (l : Scanned) → ScanRead text from end (known-arities k) false 1 max-side-nodes 0 l → l .outcome ≡ Done
-    → (r : Sides) → LastSide (known-arities k) (bytes-between text (l .at) end) (l .width) (r .width) (r .outcome) → EquationGiven (known-arities k) (bytes-between text from end) (r .width) (r .outcome)
-equation-outcome text from end k f l g d r h = go (r .outcome) (r .width) h
+pub equation-status : (text : List ℕ) (d : Span) (k : Known) → FrameReady text d k → (l : Scanned) → ScanRead text d (known-arities k) left-side l → l .status ≡ Done
+    → (r : EquationReading) → LastSide (known-arities k) (bytes-between text (l .at) (d .end)) (l .width) (r .width) (r .status)
+    → EquationGiven (known-arities k) (span-bytes text d) (r .width) (r .status)
+equation-status text d k f l g e r h = go (r .status) (r .width) h
   where
     few : length (known-arities k) ≤ max-symbols
     few = omega (arith, length-listed (k .symbols) (k .arities), f .few-symbols)
 
-    go : (o : Outcome) (w : ℕ) → LastSide (known-arities k) (bytes-between text (l .at) end) (l .width) w o → EquationGiven (known-arities k) (bytes-between text from end) w o
-    go Done w h = sides-done (known-arities k) few text from (l .at) end (l .width) w (scan-done text from end (known-arities k) false 1 max-side-nodes 0 l g d) (h .0) (g .widths) (h .1)
-    go (Refused x) w h = second-refused (known-arities k) (bytes-between text from end) (bytes-between text (l .at) end) (scan-done text from end (known-arities k) false 1 max-side-nodes 0 l g d) h
+    left : scan (known-arities k) false (span-bytes text d) 1 max-side-nodes ≡ give (bytes-between text (l .at) (d .end))
+    left = scan-done text d (known-arities k) left-side l g e
+
+    go : (o : ReadStatus) (w : ℕ) → LastSide (known-arities k) (bytes-between text (l .at) (d .end)) (l .width) w o → EquationGiven (known-arities k) (span-bytes text d) w o
+    go Done w h = sides-done (known-arities k) few text (d .from) (l .at) (d .end) (l .width) w left (h .0) (g .widths) (h .1)
+    go (Refused x) w h = second-refused (known-arities k) (span-bytes text d) (bytes-between text (l .at) (d .end)) left h

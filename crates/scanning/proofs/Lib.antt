@@ -1,4 +1,3 @@
-pub mod Arities
 pub mod Body
 pub mod Cursor
 pub mod Scanning

@@ -7,23 +7,25 @@ use lib.ListN.{length, getD}
 use lib.Dec.{ltb}
 use borrow.Author.Tests.{lt-ltb, le-ltb}
 use native.Mathlib.Omega.{arith}
-use Rattle.format.specs.Limits.{max-symbols, variable-count, max-task-nodes}
+use Rattle.format.specs.Limits.{max-symbols, variable-count}
 use Rattle.format.specs.Refusal.{Result, refuse, give}
-use Rattle.format.specs.Theory.Lists.{Every}
 use Rattle.format.specs.declared.refusal.Refusal.{Refusal}
 use Rattle.format.specs.declared.refusal.Refusal.the-variants.{FrameBytes, NotGround}
 use Rattle.format.specs.declared.byte.Class.{Class}
 use Rattle.format.specs.Byte.{class-of}
 use Rattle.format.specs.declared.byte.Class.the-variants.{Symbol as symbol, Variable as variable, Foreign as foreign}
 use Rattle.format.specs.Theory.Byte.{symbol-class, class-variable}
-use Rattle.scanning.specs.declared.scan.After.{After}
-use Rattle.scanning.specs.declared.scan.Outcome.{Outcome}
-use Rattle.scanning.specs.declared.scan.Outcome.the-variants.{Done, Refused}
+use Rattle.sheet.specs.Contracts.Bytes.{max-byte}
+use Rattle.scanning.specs.declared.scan.NeedAfter.{NeedAfter}
+use Rattle.scanning.specs.declared.scan.ReadStatus.{ReadStatus}
+use Rattle.scanning.specs.declared.scan.ReadStatus.the-variants.{Done, Refused}
+use Rattle.scanning.specs.declared.scan.Wanted.{Wanted}
+use Rattle.scanning.specs.declared.text.Span.{Span}
 use Rattle.sheet.specs.Frame.{after-node, scan}
-use Rattle.scanning.specs.Contracts.Cursor.{pair-at, bytes-between}
-use Rattle.scanning.specs.Contracts.Scan.{after-result, listed, node-width, widest, ScanReady, outcome-result, ScanRead}
+use Rattle.scanning.specs.Contracts.Cursor.{pair-at, bytes-between, span-bytes, BodyReady}
+use Rattle.scanning.specs.Contracts.Scan.{max-need, after-result, listed, node-width, widest, ScanReady, status-result, ScanRead}
 use Rattle.scanning.specs.Theory.Listed.{length-listed, getD-listed}
-use Rattle.scanning.specs.Theory.Between.{between-end, between-cons}
+use Rattle.scanning.specs.Theory.Between.{between-end, two-more, first-byte, byte-small, body-behind}
 use Rattle.terms.specs.Term.{arity}
 
 -- 1. A node: of a known symbol, of an unknown one.
@@ -105,93 +107,90 @@ width-low b = go (class-of b) refl
     go foreign e = omega arith
 
 -- 4. The loop of a scan: what is left to read decides, and the numbers stay small.
-pub record Scanning (text : List ℕ) (from end : ℕ) (arities : List ℕ) (ground : Bool) (terms nodes width at need room w : ℕ) : Type 0 where
-  pub pairs : ℕ
-  pub even : end ≡ at + 2 * pairs
-  pub inside : end ≤ length text
-  pub are-bytes : Every (λ b. b ≤ 0xff) (bytes-between text at end)
-  pub few : need + 255 * room ≤ variable-count + 255 * max-task-nodes
-  pub same : scan arities ground (bytes-between text from end) terms nodes ≡ scan arities ground (bytes-between text at end) need room
-  pub widths : max width (widest (bytes-between text from end)) ≡ max w (widest (bytes-between text at end))
-  pub low : w ≤ variable-count
+pub record Scanning (text : List ℕ) (d : Span) (arities : List ℕ) (w : Wanted) (at need room highest : ℕ) : Type 0 where
+  pub body : BodyReady text at (d .end)
+  pub few : need + max-byte * room ≤ max-need
+  pub same : scan arities (w .ground) (span-bytes text d) (w .terms) (w .nodes) ≡ scan arities (w .ground) (bytes-between text at (d .end)) need room
+  pub widths : max (w .width) (widest (span-bytes text d)) ≡ max highest (widest (bytes-between text at (d .end)))
+  pub low : highest ≤ variable-count
 
-module _ (text : List ℕ) (from end : ℕ) (arities : List ℕ) (ground : Bool) (terms nodes width : ℕ) where
-  pub scanning-start : {symbols : ℕ} → ScanReady text from end symbols terms nodes width → Scanning text from end arities ground terms nodes width from terms nodes width
-  scanning-start r = record {
-    pairs = r .pairs;
-    even = r .even;
-    inside = r .inside;
-    are-bytes = r .are-bytes;
-    few = omega (arith, r .few-terms, r .few-nodes);
-    same = refl;
-    widths = refl;
-    low = r .low-width;
-  }
+module _ (text : List ℕ) (d : Span) (arities : List ℕ) (w : Wanted) where
+  pub scanning-start : {symbols : ℕ} → ScanReady text d symbols w → Scanning text d arities w (d .from) (w .terms) (w .nodes) (w .width)
+  scanning-start r = record { body = r .body; few = omega (arith, r .few-terms, r .few-nodes); same = refl; widths = refl; low = r .low-width }
 
-  module _ (at need room w : ℕ) (g : Scanning text from end arities ground terms nodes width at need room w) where
+  module _ (at need room highest : ℕ) (g : Scanning text d arities w at need room highest) where
+    rest : List ℕ
+    rest = bytes-between text at (d .end)
+
+    behind : List ℕ
+    behind = bytes-between text (at + 2) (d .end)
+
+    abbrev Stops : ReadStatus → Type 0
+    Stops o = ScanRead text d arities w (record { status = o; at = at; width = highest })
+
     -- It stops with what the rest gives.
-    pub scanning-stop : (o : Outcome) → scan arities ground (bytes-between text at end) need room ≡ outcome-result (bytes-between text at end) o
-        → ScanRead text from end arities ground terms nodes width (record { outcome = o; at = at; width = w })
-    scanning-stop o e = record { given = g .same ∙ e; pairs = g .pairs; even = g .even; are-bytes = g .are-bytes; widths = g .widths; low-width = g .low }
+    scanning-stop : (o : ReadStatus) → scan arities (w .ground) rest need room ≡ status-result rest o → Stops o
+    unfolding rest
+    scanning-stop o e = record { given = g .same ∙ e; behind = g .body; widths = g .widths; low-width = g .low }
 
-    pub stop-done : need ≤ 0 → ScanRead text from end arities ground terms nodes width (record { outcome = Done; at = at; width = w })
-    stop-done h = let e : need ≡ 0 = omega arith in scanning-stop Done (ap (λ n. scan arities ground (bytes-between text at end) n room) e ∙ scan-none arities ground (bytes-between text at end) room)
+    pub stop-done : need ≤ 0 → Stops Done
+    unfolding rest
+    stop-done h = let e : need ≡ 0 = omega arith in scanning-stop Done (ap (λ n. scan arities (w .ground) rest n room) e ∙ scan-none arities (w .ground) rest room)
 
-    pub stop-early : at ≡ end → 0 < need → ScanRead text from end arities ground terms nodes width (record { outcome = Refused FrameBytes; at = at; width = w })
-    stop-early e h = scanning-stop (Refused FrameBytes) (ap (λ bs. scan arities ground bs need room) (between-end text at end (omega arith)) ∙ scan-early arities ground need room h)
+    pub stop-early : at ≡ d .end → 0 < need → Stops (Refused FrameBytes)
+    unfolding rest
+    stop-early e h = scanning-stop (Refused FrameBytes) (ap (λ bs. scan arities (w .ground) bs need room) (between-end text at (d .end) (omega arith)) ∙ scan-early arities (w .ground) need room h)
 
-    pub next-inside : (at ≡ end → ⊥) → at + 2 ≤ end
-    next-inside n = pair (g .pairs) (g .even)
-      where
-        pair : (k : ℕ) → end ≡ at + 2 * k → at + 2 ≤ end
-        pair zero e = absurd (n (omega arith))
-        pair (suc k) e = omega arith
+    module _ (more : at ≡ d .end → ⊥) where
+      pub next-inside : at + 2 ≤ length text
+      next-inside = omega (arith, two-more text at (d .end) (g .body) more, g .body .inside)
 
-    is-cons : (at ≡ end → ⊥) → bytes-between text at end ≡ pair-at text at ∷ bytes-between text (at + 2) end
-    is-cons n = between-cons text at end (next-inside n) (g .inside)
+      pub next-small : pair-at text at ≤ max-byte
+      next-small = byte-small text at (d .end) (g .body) more
 
-    pub byte-small : (at ≡ end → ⊥) → pair-at text at ≤ 0xff
-    byte-small n = subst (Every (λ b. b ≤ 0xff)) (is-cons n) (g .are-bytes) .0
+      is-cons : rest ≡ pair-at text at ∷ behind
+      unfolding rest behind
+      is-cons = first-byte text at (d .end) (g .body) more
 
-    pub stop-full : (at ≡ end → ⊥) → 0 < need → room ≡ 0 → ScanRead text from end arities ground terms nodes width (record { outcome = Refused FrameBytes; at = at; width = w })
-    stop-full n h e = scanning-stop (Refused FrameBytes) (cc (is-cons n, e, scan-full arities ground (pair-at text at) (bytes-between text (at + 2) end) need h))
+      module _ (some-need : 0 < need) where
+        pub stop-full : room ≡ 0 → Stops (Refused FrameBytes)
+        stop-full e = scanning-stop (Refused FrameBytes) (cc (is-cons, e, scan-full arities (w .ground) (pair-at text at) behind need some-need))
 
-    pub stop-refused : (at ≡ end → ⊥) → 0 < need → (room ≡ 0 → ⊥) → (x : Refusal) → after-node arities ground (class-of (pair-at text at)) (need - 1) ≡ refuse x
-        → ScanRead text from end arities ground terms nodes width (record { outcome = Refused x; at = at; width = w })
-    stop-refused n h m x e = scanning-stop (Refused x) (cc (is-cons n, scan-refused arities ground (pair-at text at) (bytes-between text (at + 2) end) need room x h (omega arith) e))
+        module _ (some-room : room ≡ 0 → ⊥) where
+          pub stop-refused : (x : Refusal) → after-node arities (w .ground) (class-of (pair-at text at)) (need - 1) ≡ refuse x → Stops (Refused x)
+          stop-refused x e = scanning-stop (Refused x) (cc (is-cons, scan-refused arities (w .ground) (pair-at text at) behind need room x some-need (omega arith) e))
 
-    pub scanning-next : (at ≡ end → ⊥) → 0 < need → (room ≡ 0 → ⊥) → (n : ℕ) → after-node arities ground (class-of (pair-at text at)) (need - 1) ≡ give n → n ≤ 255 + (need - 1)
-        → Scanning text from end arities ground terms nodes width (at + 2) n (room - 1) (max w (node-width (class-of (pair-at text at))))
-    unfolding widest
-    scanning-next m h k n e l =
-        let c = is-cons m in
-        let b = pair-at text at in
-        record {
-          pairs = g .pairs - 1;
-          even = omega (arith, g .even, next-inside m);
-          inside = g .inside;
-          are-bytes = subst (Every (λ b. b ≤ 0xff)) c (g .are-bytes) .1;
-          few = omega (arith, g .few);
-          same = g .same ∙ ap (λ bs. scan arities ground bs need room) c ∙ scan-more arities ground b (bytes-between text (at + 2) end) need room n h (omega arith) e;
-          widths = g .widths ∙ ap (λ bs. max w (widest bs)) c ∙ omega arith;
-          low = omega (arith, g .low, width-low b);
-        }
+          pub scanning-next : (n : ℕ) → after-node arities (w .ground) (class-of (pair-at text at)) (need - 1) ≡ give n → n ≤ max-byte + (need - 1)
+              → Scanning text d arities w (at + 2) n (room - 1) (max highest (node-width (class-of (pair-at text at))))
+          unfolding widest rest behind
+          scanning-next n e l = record {
+            body = body-behind text at (d .end) (g .body) more;
+            few = omega (arith, g .few);
+            same =
+                g .same
+                ∙ ap (λ bs. scan arities (w .ground) bs need room) is-cons
+                ∙ scan-more arities (w .ground) (pair-at text at) (bytes-between text (at + 2) (d .end)) need room n some-need (omega arith) e;
+            widths = g .widths ∙ ap (λ bs. max highest (widest bs)) is-cons ∙ omega arith;
+            low = omega (arith, g .low, width-low (pair-at text at));
+          }
 
 -- A declared symbol, told without its class.
-pub scanning-declared : (text : List ℕ) (from end symbols : ℕ) (xs : List ℕ) (ground : Bool) (terms nodes width at need room w : ℕ) → Scanning text from end (listed symbols xs) ground terms nodes width at need room w
-    → (at ≡ end → ⊥) → 0 < need → (room ≡ 0 → ⊥) → symbols ≤ max-symbols → {b a : ℕ} → b ≡ pair-at text at → b < symbols → a ≡ getD xs b 0 → a ≤ 255
-    → Scanning text from end (listed symbols xs) ground terms nodes width (at + 2) (a + (need - 1)) (room - 1) w
-scanning-declared text from end symbols xs ground terms nodes width at need room w g n h m l {b} {a} d i e k =
+pub scanning-declared : (text : List ℕ) (d : Span) (symbols : ℕ) (xs : List ℕ) (w : Wanted) (at need room highest : ℕ) → Scanning text d (listed symbols xs) w at need room highest
+    → (at ≡ d .end → ⊥) → 0 < need → (room ≡ 0 → ⊥) → symbols ≤ max-symbols → {b a : ℕ} → b ≡ pair-at text at → b < symbols → a ≡ getD xs b 0 → a ≤ max-byte
+    → Scanning text d (listed symbols xs) w (at + 2) (a + (need - 1)) (room - 1) highest
+scanning-declared text d symbols xs w at need room highest g n h m l {b} {a} x i e k =
     let f = pair-at text at in
     let is-symbol : class-of f ≡ symbol f = symbol-class f (omega arith) in
-    let given : after-node (listed symbols xs) ground (class-of f) (need - 1) ≡ give (a + (need - 1)) =
-    ap (λ c. after-node (listed symbols xs) ground c (need - 1)) is-symbol ∙ after-known symbols xs ground f (need - 1) (omega arith) ∙ ap (λ x. give (x + (need - 1))) (ap (λ j. getD xs j 0) (sym d) ∙ sym e) in
-    let same-width : max w (node-width (class-of f)) ≡ w = ap (λ c. max w (node-width c)) is-symbol ∙ omega arith in
-    subst (Scanning text from end (listed symbols xs) ground terms nodes width (at + 2) (a + (need - 1)) (room - 1)) same-width
-    (scanning-next text from end (listed symbols xs) ground terms nodes width at need room w g n h m (a + (need - 1)) given (omega arith))
+    let given : after-node (listed symbols xs) (w .ground) (class-of f) (need - 1) ≡ give (a + (need - 1)) =
+    ap (λ c. after-node (listed symbols xs) (w .ground) c (need - 1)) is-symbol
+    ∙ after-known symbols xs (w .ground) f (need - 1) (omega arith)
+    ∙ ap (λ y. give (y + (need - 1))) (ap (λ j. getD xs j 0) (sym x) ∙ sym e) in
+    let same-width : max highest (node-width (class-of f)) ≡ highest = ap (λ c. max highest (node-width c)) is-symbol ∙ omega arith in
+    subst (Scanning text d (listed symbols xs) w (at + 2) (a + (need - 1)) (room - 1)) same-width
+    (scanning-next text d (listed symbols xs) w at need room highest g n h m (a + (need - 1)) given (omega arith))
 
 -- What the calls of one round say, put together.
-pub told-after : (arities : List ℕ) (ground : Bool) (need : ℕ) {b₀ b : ℕ} {c : Class} {a a′ : After} → b ≡ b₀ → c ≡ class-of b → after-result a ≡ after-node arities ground c need → a ≡ a′
+pub told-after : (arities : List ℕ) (ground : Bool) (need : ℕ) {b₀ b : ℕ} {c : Class} {a a′ : NeedAfter} → b ≡ b₀ → c ≡ class-of b → after-result a ≡ after-node arities ground c need → a ≡ a′
     → after-node arities ground (class-of b₀) need ≡ after-result a′
 told-after arities ground need x y z w = cc
 

@@ -1,31 +1,36 @@
 -- Laws for the code of tasks' bodies.
 use Prim.Native.Nat.{ℕ, zero, suc, _+_, _-_, _*_, _≤_, _<_}
 use mathlib.Core.Path.{_≡_, refl, sym, ap, subst, _∙_}
+use mathlib.Core.Logic.{_⊎_, ⊎-elim}
 use mathlib.Core.Option.{none, some}
 use mathlib.Core.List.{List, [], _∷_, map}
 use lib.ListN.{length, getD}
+use denote.Enum.Declared.{tagOf}
 use native.Mathlib.Omega.{arith}
+use Rattle.format.proofs.kind.FrameKind.{the-type}
 use Rattle.format.specs.Limits.{variable-count}
 use Rattle.format.specs.Lists.{entry}
+use Rattle.format.specs.declared.kind.FrameKind.{FrameKind}
+use Rattle.format.specs.declared.kind.FrameKind.the-variants.{Symbols as symbols-kind, Equation as equation-kind, Run as run-kind, Judgement as judgement-kind, Comparison as comparison-kind, Unknown as unknown-kind}
 use Rattle.format.specs.Refusal.{Result, refuse}
 use Rattle.format.specs.declared.refusal.Refusal.the-variants.{FrameOrder, FrameBytes, AbsentDirection}
-use Rattle.format.specs.Theory.Lists.{Every, every-entry, entry-found}
+use Rattle.format.specs.Theory.Lists.{every-entry, entry-found}
 use Rattle.terms.specs.Equation.{Equation, Direction, direction-of}
 use Rattle.scanning.specs.declared.known.Known.{Known}
-use Rattle.scanning.specs.declared.scan.Outcome.{Outcome}
+use Rattle.scanning.specs.declared.scan.ReadStatus.{ReadStatus}
 use Rattle.sheet.specs.Sheet.{run, judgement, comparison, Sheet, widths, equation-width}
-use Rattle.sheet.specs.Frame.{kind-of, ground-terms, first-term, second-term, run-body, values-body, judgement-body, comparison-body}
-use Rattle.scanning.specs.Contracts.Cursor.{pair-at, bytes-between}
-use Rattle.scanning.specs.Contracts.Scan.{known-arities, FrameReady, Matches}
+use Rattle.sheet.specs.Frame.{ground-terms, first-term, second-term, run-body, values-body, judgement-body, comparison-body}
+use Rattle.scanning.specs.Contracts.Cursor.{pair-at, bytes-between, BodyReady}
+use Rattle.scanning.specs.Contracts.Scan.{known-arities, Matches}
 use Rattle.scanning.specs.Contracts.Body.{KnowsSheet, task-result}
 use Rattle.sheet.specs.Contracts.Valid.{ValidEquation}
 use Rattle.sheet.specs.Theory.Width.{equation-width-low}
-use Rattle.scanning.specs.Theory.Outcome.{matches-map}
+use Rattle.scanning.specs.Theory.Status.{matches-map}
 use Rattle.scanning.specs.Theory.Listed.{getD-listed}
-use Rattle.scanning.specs.Theory.Between.{between-end, between-cons}
+use Rattle.scanning.specs.Theory.Between.{between-end, between-cons, first-byte, body-behind}
 
--- 1. Outcomes of equal results; the frame behind its first byte.
-matches-same : {A : Type 0} {r s : Result A} (o : Outcome) → r ≡ s → Matches r o → Matches s o
+-- 1. The status of equal results; the frame behind its first byte.
+matches-same : {A : Type 0} {r s : Result A} (o : ReadStatus) → r ≡ s → Matches r o → Matches s o
 matches-same o e h = subst (λ r. Matches r o) e h
 
 no-entry : {A : Type 0} (xs : List A) (i : ℕ) → length xs ≤ i → entry xs i ≡ none
@@ -52,28 +57,8 @@ width-entry [] i q e = let z : _≡_ {A = ℕ} 0 1 = cc in absurd (omega arith)
 width-entry (x ∷ es) zero q e = let d : x ≡ q = cc in ap equation-width d
 width-entry (x ∷ es) (suc i) q e = width-entry es i q e
 
-module _ (text : List ℕ) (from end : ℕ) (k : Known) (f : FrameReady text from end k) where
-  pub two-more : (from ≡ end → ⊥) → from + 2 ≤ end
-  two-more n = go (f .pairs) (f .even)
-    where
-      go : (m : ℕ) → end ≡ from + 2 * m → from + 2 ≤ end
-      go zero e = absurd (n (omega arith))
-      go (suc m) e = omega arith
-
-  pub first-byte : (from ≡ end → ⊥) → bytes-between text from end ≡ pair-at text from ∷ bytes-between text (from + 2) end
-  first-byte n = between-cons text from end (two-more n) (f .inside)
-
-  pub frame-next : (from ≡ end → ⊥) → FrameReady text (from + 2) end k
-  frame-next n = record {
-    pairs = f .pairs - 1;
-    even = omega (arith, f .even, two-more n);
-    inside = f .inside;
-    are-bytes = subst (Every (λ b. b ≤ 0xff)) (first-byte n) (f .are-bytes) .1;
-    few-symbols = f .few-symbols;
-  }
-
 module _ (k : Known) (s : Sheet) (knows : KnowsSheet k s) where
-  same-arities : {A : Type 0} (g : List ℕ → Result A) (o : Outcome) → Matches (g (known-arities k)) o → Matches (g (s .arities)) o
+  same-arities : {A : Type 0} (g : List ℕ → Result A) (o : ReadStatus) → Matches (g (known-arities k)) o → Matches (g (s .arities)) o
   same-arities g o h = matches-same o (ap g (knows .arities-are)) h
 
   -- 2. A run.
@@ -81,21 +66,21 @@ module _ (k : Known) (s : Sheet) (knows : KnowsSheet k s) where
   unfolding run-body
   run-early text from end e = ap (run-body s) (between-end text from end (omega arith))
 
-  pub run-read : (text : List ℕ) (from end : ℕ) → FrameReady text from end k → (from ≡ end → ⊥) → (o : Outcome) → Matches (ground-terms (known-arities k) 1 (bytes-between text (from + 2) end)) o
+  pub run-read : (text : List ℕ) (from end : ℕ) → BodyReady text from end → (from ≡ end → ⊥) → (o : ReadStatus) → Matches (ground-terms (known-arities k) 1 (bytes-between text (from + 2) end)) o
       → Matches (run-body s (bytes-between text from end)) o
   unfolding run-body
   run-read text from end f n o h =
-      matches-same o (ap (run-body s) (sym (first-byte text from end k f n)))
+      matches-same o (ap (run-body s) (sym (first-byte text from end f n)))
       (matches-map (λ ts. run (pair-at text from) (first-term ts)) (ground-terms (s .arities) 1 (bytes-between text (from + 2) end)) o
       (same-arities (λ as′. ground-terms as′ 1 (bytes-between text (from + 2) end)) o h))
 
   -- 3. A comparison.
-  pub comparison-read : (bs : List ℕ) (o : Outcome) → Matches (ground-terms (known-arities k) 2 bs) o → Matches (comparison-body s bs) o
+  pub comparison-read : (bs : List ℕ) (o : ReadStatus) → Matches (ground-terms (known-arities k) 2 bs) o → Matches (comparison-body s bs) o
   unfolding comparison-body
   comparison-read bs o h = matches-map (λ ts. comparison (first-term ts) (second-term ts)) (ground-terms (s .arities) 2 bs) o (same-arities (λ as′. ground-terms as′ 2 bs) o h)
 
   -- 4. A judgement.
-  pub judgement-short : (text : List ℕ) (from end : ℕ) → FrameReady text from end k → end - from < 4 → judgement-body s (bytes-between text from end) ≡ refuse FrameBytes
+  pub judgement-short : (text : List ℕ) (from end : ℕ) → BodyReady text from end → end - from < 4 → judgement-body s (bytes-between text from end) ≡ refuse FrameBytes
   unfolding judgement-body
   judgement-short text from end f h = go (f .pairs) (f .even)
     where
@@ -104,18 +89,18 @@ module _ (k : Known) (s : Sheet) (knows : KnowsSheet k s) where
       go (suc zero) e = ap (judgement-body s) (between-cons text from end (omega arith) (f .inside) ∙ ap (pair-at text from ∷_) (between-end text (from + 2) end (omega arith)))
       go (suc (suc m)) e = absurd (omega arith)
 
-  module _ (text : List ℕ) (from end : ℕ) (f : FrameReady text from end k) (h : 4 ≤ end - from) where
+  module _ (text : List ℕ) (from end : ℕ) (f : BodyReady text from end) (h : 4 ≤ end - from) where
     not-end : from ≡ end → ⊥
     not-end e = omega arith
 
     not-end₂ : from + 2 ≡ end → ⊥
     not-end₂ e = omega arith
 
-    pub frame-behind-two : FrameReady text (from + 4) end k
-    frame-behind-two = let e : from + 2 + 2 ≡ from + 4 = omega arith in subst (λ n. FrameReady text n end k) e (frame-next text (from + 2) end k (frame-next text from end k f not-end) not-end₂)
+    pub behind-two : BodyReady text (from + 4) end
+    behind-two = let e : from + 2 + 2 ≡ from + 4 = omega arith in subst (λ n. BodyReady text n end) e (body-behind text (from + 2) end (body-behind text from end f not-end) not-end₂)
 
     two-bytes : bytes-between text from end ≡ pair-at text from ∷ pair-at text (from + 2) ∷ bytes-between text (from + 4) end
-    two-bytes = let e : from + 2 + 2 ≡ from + 4 = omega arith in first-byte text from end k f not-end ∙ ap (pair-at text from ∷_) (first-byte text (from + 2) end k (frame-next text from end k f not-end) not-end₂ ∙ ap (λ n. pair-at text (from + 2) ∷ bytes-between text n end) e)
+    two-bytes = let e : from + 2 + 2 ≡ from + 4 = omega arith in first-byte text from end f not-end ∙ ap (pair-at text from ∷_) (first-byte text (from + 2) end (body-behind text from end f not-end) not-end₂ ∙ ap (λ n. pair-at text (from + 2) ∷ bytes-between text n end) e)
 
     body-is : judgement-body s (bytes-between text from end) ≡ values-body s (pair-at text from) (entry (s .equations) (pair-at text from)) (direction-of (pair-at text (from + 2))) (bytes-between text (from + 4) end)
     unfolding judgement-body
@@ -145,7 +130,7 @@ module _ (k : Known) (s : Sheet) (knows : KnowsSheet k s) where
       pub width-few : getD (k .widths) e 0 ≤ variable-count
       width-few = let (q, i) = named in omega (arith, width-known q i, equation-width-low q (every-entry (ValidEquation (s .arities)) (s .equations) e (knows .valid .equations) i .limits))
 
-      pub judgement-read : {d : ℕ} → d ≡ pair-at text (from + 2) → d ≤ 1 → {w : ℕ} → w ≡ getD (k .widths) e 0 → (o : Outcome) → Matches (ground-terms (known-arities k) w (bytes-between text (from + 4) end)) o
+      pub judgement-read : {d : ℕ} → d ≡ pair-at text (from + 2) → d ≤ 1 → {w : ℕ} → w ≡ getD (k .widths) e 0 → (o : ReadStatus) → Matches (ground-terms (known-arities k) w (bytes-between text (from + 4) end)) o
           → Matches (judgement-body s (bytes-between text from end)) o
       unfolding values-body
       judgement-read {d} x l {w} y o h =
@@ -160,24 +145,24 @@ module _ (k : Known) (s : Sheet) (knows : KnowsSheet k s) where
           (subst (λ n. Matches (ground-terms (s .arities) n (bytes-between text (from + 4) end)) o) v (same-arities (λ as′. ground-terms as′ w (bytes-between text (from + 4) end)) o h)))
 
 -- 5. A task by its kind.
-pub other-kind : (s : Sheet) (n : ℕ) (bs : List ℕ) → (n ≡ 3 → ⊥) → (n ≡ 4 → ⊥) → (n ≡ 5 → ⊥) → task-result s (kind-of n) bs ≡ refuse FrameOrder
-unfolding task-result kind-of
-other-kind s zero bs a b c = refl
-other-kind s (suc zero) bs a b c = refl
-other-kind s (suc (suc zero)) bs a b c = refl
-other-kind s (suc (suc (suc zero))) bs a b c = absurd (a refl)
-other-kind s (suc (suc (suc (suc zero)))) bs a b c = absurd (b refl)
-other-kind s (suc (suc (suc (suc (suc zero))))) bs a b c = absurd (c refl)
-other-kind s (suc (suc (suc (suc (suc (suc n)))))) bs a b c = refl
+-- The kinds that are no task's, by their numbers in the code.
+pub other-kind : (s : Sheet) (kind : FrameKind) (bs : List ℕ) → (tagOf the-type kind ≡ 0) ⊎ (tagOf the-type kind ≡ 1) ⊎ (tagOf the-type kind ≡ 5) → task-result s kind bs ≡ refuse FrameOrder
+unfolding task-result
+other-kind s symbols-kind bs h = refl
+other-kind s equation-kind bs h = refl
+other-kind s run-kind bs h = absurd (⊎-elim (λ e. omega arith) (λ e. ⊎-elim (λ e. omega arith) (λ e. omega arith) e) h)
+other-kind s judgement-kind bs h = absurd (⊎-elim (λ e. omega arith) (λ e. ⊎-elim (λ e. omega arith) (λ e. omega arith) e) h)
+other-kind s comparison-kind bs h = absurd (⊎-elim (λ e. omega arith) (λ e. ⊎-elim (λ e. omega arith) (λ e. omega arith) e) h)
+other-kind s unknown-kind bs h = refl
 
-pub run-kind-is : (s : Sheet) {n : ℕ} (bs : List ℕ) (o : Outcome) → n ≡ 3 → Matches (run-body s bs) o → Matches (task-result s (kind-of n) bs) o
-unfolding task-result kind-of
-run-kind-is s bs o e h = subst (λ n. Matches (task-result s (kind-of n) bs) o) (sym e) h
+pub run-kind-is : (s : Sheet) {kind : FrameKind} (bs : List ℕ) (o : ReadStatus) → kind ≡ run-kind → Matches (run-body s bs) o → Matches (task-result s kind bs) o
+unfolding task-result
+run-kind-is s bs o e h = subst (λ kind. Matches (task-result s kind bs) o) (sym e) h
 
-pub judgement-kind-is : (s : Sheet) {n : ℕ} (bs : List ℕ) (o : Outcome) → n ≡ 4 → Matches (judgement-body s bs) o → Matches (task-result s (kind-of n) bs) o
-unfolding task-result kind-of
-judgement-kind-is s bs o e h = subst (λ n. Matches (task-result s (kind-of n) bs) o) (sym e) h
+pub judgement-kind-is : (s : Sheet) {kind : FrameKind} (bs : List ℕ) (o : ReadStatus) → kind ≡ judgement-kind → Matches (judgement-body s bs) o → Matches (task-result s kind bs) o
+unfolding task-result
+judgement-kind-is s bs o e h = subst (λ kind. Matches (task-result s kind bs) o) (sym e) h
 
-pub comparison-kind-is : (s : Sheet) {n : ℕ} (bs : List ℕ) (o : Outcome) → n ≡ 5 → Matches (comparison-body s bs) o → Matches (task-result s (kind-of n) bs) o
-unfolding task-result kind-of
-comparison-kind-is s bs o e h = subst (λ n. Matches (task-result s (kind-of n) bs) o) (sym e) h
+pub comparison-kind-is : (s : Sheet) {kind : FrameKind} (bs : List ℕ) (o : ReadStatus) → kind ≡ comparison-kind → Matches (comparison-body s bs) o → Matches (task-result s kind bs) o
+unfolding task-result
+comparison-kind-is s bs o e h = subst (λ kind. Matches (task-result s kind bs) o) (sym e) h

@@ -1,4 +1,4 @@
 -- Laws.
 pub mod Between
 pub mod Listed
-pub mod Outcome
+pub mod Status

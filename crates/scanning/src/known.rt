@@ -1,13 +1,14 @@
 // What the reader remembers of the lines it has passed.
+use format::limits::Limits;
 ghost use Rattle.scanning.specs.Contracts.Body.{none-known};
 
 // The symbols' arities and their count; for each equation how many variables there are up to its highest; how many equations and tasks.
 // No symbols: no line is passed yet.
 pub struct Known {
     pub symbols: usize,
-    pub arities: [u8; 16],
+    pub arities: [u8; Limits::SYMBOLS],
     pub equations: usize,
-    pub widths: [u8; 16],
+    pub widths: [u8; Limits::EQUATIONS],
     pub tasks: usize,
 }
 
@@ -17,9 +18,9 @@ impl Known {
     {
         Known {
             symbols: 0,
-            arities: [0u8; 16],
+            arities: [0u8; Limits::SYMBOLS],
             equations: 0,
-            widths: [0u8; 16],
+            widths: [0u8; Limits::EQUATIONS],
             tasks: 0,
         }
     }

@@ -1,43 +1,53 @@
 // Terms in a row, byte by byte.
 use crate::known::Known;
+use crate::text::Span;
 use crate::text::byte_at;
 use format::byte::Class;
 use format::byte::classify;
 use format::byte::wide;
+use format::limits::Limits;
 use format::refusal::Refusal;
 ghost use mathlib.Core.Path.{_≡_};
 ghost use Prim.Native.Nat.{_+_, _≤_, max};
+ghost use Rattle.format.specs.Limits.{max-symbols};
+ghost use Rattle.sheet.specs.Contracts.Bytes.{max-byte};
 ghost use Rattle.sheet.specs.Frame.{after-node};
-ghost use Rattle.scanning.specs.Contracts.Scan.{after-result, NeedAtMost, listed, known-arities, node-width, ScanReady, ScanRead};
+ghost use Rattle.scanning.specs.Contracts.Scan.{after-result, max-need, NeedAtMost, listed, known-arities, node-width, ScanReady, ScanRead};
 
 // How many terms are still to come after a node, or a refusal.
-pub enum After {
+pub enum NeedAfter {
     Need(usize),
     Refused(Refusal),
 }
 
-fn terms_after(symbols: usize, arities: &[u8; 16], ground: bool, class: Class, need: usize) -> After
-    requires { ⌜ (symbols ≤ 16) × (need ≤ 65536) ⌝ }
+fn terms_after(
+    symbols: usize,
+    arities: &[u8; Limits::SYMBOLS],
+    ground: bool,
+    class: Class,
+    need: usize,
+) -> NeedAfter
+    requires { ⌜ (symbols ≤ max-symbols) × (need ≤ max-need) ⌝ }
     ensures { λ r. ⌜ after-result r ≡ after-node (listed symbols (now (arities .entry))) ground class need ⌝ }
-    ensures { λ r. ⌜ NeedAtMost (255 + need) r ⌝ }
+    ensures { λ r. ⌜ NeedAtMost (max-byte + need) r ⌝ }
 {
     match class {
         Class::Symbol(f) => {
             let i = wide(f);
             if i < symbols {
-                After::Need(wide(arities[i]) + need)
+                NeedAfter::Need(wide(arities[i]) + need)
             } else {
-                After::Refused(Refusal::FrameBytes)
+                NeedAfter::Refused(Refusal::FrameBytes)
             }
         }
         Class::Variable(_) => {
             if ground {
-                After::Refused(Refusal::NotGround)
+                NeedAfter::Refused(Refusal::NotGround)
             } else {
-                After::Need(need)
+                NeedAfter::Need(need)
             }
         }
-        Class::Foreign => After::Refused(Refusal::FrameBytes),
+        Class::Foreign => NeedAfter::Refused(Refusal::FrameBytes),
     }
 }
 
@@ -59,49 +69,49 @@ fn greater(a: usize, b: usize) -> usize
 }
 
 // How a part of a frame is read: done, or refused.
-pub enum Outcome {
+pub enum ReadStatus {
     Done,
     Refused(Refusal),
 }
 
 // Where the terms end, and how many variables there are up to the highest met.
 pub struct Scanned {
-    pub outcome: Outcome,
+    pub status: ReadStatus,
     pub at: usize,
     pub width: usize,
 }
 
-// `terms` terms of at most `nodes` nodes together, in the digits from `from` to `end`; `width` is that of the terms before them.
-pub fn scan(
-    known: Known,
-    s: &[u8],
-    from: usize,
-    end: usize,
-    ground: bool,
-    terms: usize,
-    nodes: usize,
-    width: usize,
-) -> Scanned
-    requires { ⌜ ScanReady (now s) from end (known .symbols) terms nodes width ⌝ }
-    ensures { λ r. ⌜ ScanRead (now (s .entry)) from end (known-arities known) ground terms nodes width r ⌝ }
+// What is to be read: so many terms, of at most so many nodes together, and whether they are ground. `width` is that of the terms before them.
+pub struct Wanted {
+    pub terms: usize,
+    pub nodes: usize,
+    pub ground: bool,
+    pub width: usize,
+}
+
+pub fn scan(known: Known, s: &[u8], span: Span, wanted: Wanted) -> Scanned
+    requires { ⌜ ScanReady (now s) span (known .symbols) wanted ⌝ }
+    ensures { λ r. ⌜ ScanRead (now (s .entry)) span (known-arities known) wanted r ⌝ }
 {
     let symbols = known.symbols;
     let arities = known.arities;
-    let mut at = from;
-    let mut need = terms;
-    let mut room = nodes;
-    let mut widest = width;
+    let end = span.end;
+    let ground = wanted.ground;
+    let mut at = span.from;
+    let mut need = wanted.terms;
+    let mut room = wanted.nodes;
+    let mut widest = wanted.width;
     while 0 < need {
         if at == end {
             return Scanned {
-                outcome: Outcome::Refused(Refusal::FrameBytes),
+                status: ReadStatus::Refused(Refusal::FrameBytes),
                 at: at,
                 width: widest,
             };
         }
         if room == 0 {
             return Scanned {
-                outcome: Outcome::Refused(Refusal::FrameBytes),
+                status: ReadStatus::Refused(Refusal::FrameBytes),
                 at: at,
                 width: widest,
             };
@@ -116,14 +126,14 @@ pub fn scan(
         }
         let class = classify(b as u8);
         match terms_after(symbols, &arities, ground, class, need - 1) {
-            After::Refused(r) => {
+            NeedAfter::Refused(r) => {
                 return Scanned {
-                    outcome: Outcome::Refused(r),
+                    status: ReadStatus::Refused(r),
                     at: at,
                     width: widest,
                 };
             }
-            After::Need(n) => {
+            NeedAfter::Need(n) => {
                 need = n;
                 room = room - 1;
                 at = at + 2;
@@ -132,7 +142,7 @@ pub fn scan(
         }
     }
     Scanned {
-        outcome: Outcome::Done,
+        status: ReadStatus::Done,
         at: at,
         width: widest,
     }

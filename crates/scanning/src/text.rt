@@ -5,17 +5,32 @@ ghost use mathlib.Core.Path.{_≡_};
 ghost use mathlib.Core.Bool.{true, _&&_};
 ghost use Prim.Native.Nat.{_+_, _≤_, _<_};
 ghost use lib.ListN.{length, take, drop};
-ghost use lib.Dec.{leb};
-ghost use Rattle.scanning.specs.Contracts.Cursor.{digit-number, pair-at, Digits, Passed, RowRead, CountRead};
+ghost use lib.Dec.{ltb};
+ghost use Rattle.sheet.specs.Text.{base};
+ghost use Rattle.scanning.specs.Contracts.Cursor.{digit-number, pair-at, block, Digits, DigitsTo, LineRead, CountRead};
 
-// The value of a digit, or 16 for any other character.
+// The base of the digits.
+const BASE: usize = 16;
+
+// So many characters are tested at once.
+const BLOCK: usize = 16;
+
+pub const LF: u8 = b'\n';
+
+// The digits from `from` to `end`.
+pub struct Span {
+    pub from: usize,
+    pub end: usize,
+}
+
+// The value of a digit, or the base for any other character.
 pub fn digit_value(c: u8) -> usize
     ensures { λ r. ⌜ r ≡ digit-number c ⌝ }
 {
     match c {
-        48..=57 => (c - 48) as usize,
-        97..=102 => (c - 87) as usize,
-        _ => 16,
+        b'0'..=b'9' => (c - b'0') as usize,
+        b'a'..=b'f' => 10 + (c - b'a') as usize,
+        _ => BASE,
     }
 }
 
@@ -26,17 +41,17 @@ pub fn byte_at(s: &[u8], at: usize) -> usize
 {
     let high = digit_value(s[at]);
     let low = digit_value(s[at + 1]);
-    16 * high + low
+    BASE * high + low
 }
 
 // Whether a character is a digit, by differences that wrap, which compile to no branch.
 fn is_digit(c: u8) -> bool
-    ensures { λ r. ⌜ r ≡ leb (digit-number c) 15 ⌝ }
+    ensures { λ r. ⌜ r ≡ ltb (digit-number c) base ⌝ }
 {
-    if wrapping_sub_u8(c, 48) < 10 {
+    if wrapping_sub_u8(c, b'0') < 10 {
         return true;
     }
-    wrapping_sub_u8(c, 97) < 6
+    wrapping_sub_u8(c, b'a') < 6
 }
 
 fn both(a: bool, b: bool) -> bool
@@ -45,32 +60,32 @@ fn both(a: bool, b: bool) -> bool
     if a { b } else { false }
 }
 
-// Whether the sixteen characters from `at` on are digits. No branch leaves the loop: they are tested at once, in one vector.
-fn sixteen_digits(s: &[u8], at: usize) -> bool
-    requires { ⌜ at + 16 ≤ length (now s) ⌝ }
-    ensures { λ r. ⌜ (r ≡ true → Digits (take 16 (drop at (now (s .entry))))) ⌝ }
+// Whether the characters of a block from `at` on are digits. No branch leaves the loop: they are tested at once, in one vector.
+fn block_digits(s: &[u8], at: usize) -> bool
+    requires { ⌜ at + block ≤ length (now s) ⌝ }
+    ensures { λ r. ⌜ (r ≡ true → Digits (take block (drop at (now (s .entry))))) ⌝ }
 {
     let mut all = true;
     let mut i = 0;
-    while i < 16 {
+    while i < BLOCK {
         all = both(all, is_digit(s[at + i]));
         i = i + 1;
     }
     all
 }
 
-// Past the sixteens of digits from `at` on, as far as a line may have them.
-fn sixteens_end(s: &[u8], at: usize) -> usize
+// Past the blocks of digits from `at` on, as far as a line may have them.
+fn blocks_end(s: &[u8], at: usize) -> usize
     requires { ⌜ at < length (now s) ⌝ }
-    ensures { λ r. ⌜ Passed (now (s .entry)) at r ⌝ }
+    ensures { λ r. ⌜ DigitsTo (now (s .entry)) at r ⌝ }
 {
     let mut i = at;
-    while i + 16 <= s.len() {
-        if Limits::LINE_DIGITS < i + 16 - at {
+    while i + BLOCK <= s.len() {
+        if Limits::LINE_DIGITS < i + BLOCK - at {
             return i;
         }
-        if sixteen_digits(s, i) {
-            i = i + 16;
+        if block_digits(s, i) {
+            i = i + BLOCK;
         } else {
             return i;
         }
@@ -79,44 +94,44 @@ fn sixteens_end(s: &[u8], at: usize) -> usize
 }
 
 // Where the digits of a line end, if it is a line of the stated digits and LF.
-pub enum RowEnd {
+pub enum LineEnd {
     At(usize),
     Broken,
 }
 
-pub fn row_end(s: &[u8], at: usize) -> RowEnd
+pub fn line_end(s: &[u8], at: usize) -> LineEnd
     requires { ⌜ at < length (now s) ⌝ }
-    ensures { λ r. ⌜ RowRead (now (s .entry)) at r ⌝ }
+    ensures { λ r. ⌜ LineRead (now (s .entry)) at r ⌝ }
 {
-    let mut i = sixteens_end(s, at);
+    let mut i = blocks_end(s, at);
     while i < s.len() {
         let c = s[i];
         // Most characters are digits, so that the line's end is looked for among the others.
-        if 15 < digit_value(c) {
-            if c == 10 {
+        if BASE <= digit_value(c) {
+            if c == LF {
                 return ended_at(at, i);
             }
-            return RowEnd::Broken;
+            return LineEnd::Broken;
         }
         if i - at == Limits::LINE_DIGITS {
-            return RowEnd::Broken;
+            return LineEnd::Broken;
         }
         i = i + 1;
     }
-    RowEnd::Broken
+    LineEnd::Broken
 }
 
 // An even count, not zero.
-fn ended_at(at: usize, end: usize) -> RowEnd
+fn ended_at(at: usize, end: usize) -> LineEnd
     requires { ⌜ at ≤ end ⌝ }
     ensures { λ r. ⌜ CountRead at end r ⌝ }
 {
     let count = end - at;
     if count == 0 {
-        return RowEnd::Broken;
+        return LineEnd::Broken;
     }
     if count % 2 == 1 {
-        return RowEnd::Broken;
+        return LineEnd::Broken;
     }
-    RowEnd::At(end)
+    LineEnd::At(end)
 }

@@ -6,6 +6,9 @@ use mathlib.Core.List.{List, [], _∷_, _++_}
 use lib.ListN.{length}
 use lib.Dec.{leb, ltb, eqb}
 use Rattle.format.specs.Limits.{max-symbols, max-arity, max-equations, max-tasks, max-side-nodes, max-task-nodes}
+use Rattle.format.specs.Kind.{kind-of}
+use Rattle.format.specs.declared.kind.FrameKind.{FrameKind}
+use Rattle.format.specs.declared.kind.FrameKind.the-variants.{Symbols as symbols-kind, Equation as equation-kind, Run as run-kind, Judgement as judgement-kind, Comparison as comparison-kind, Unknown as unknown-kind}
 use Rattle.format.specs.Refusal.{Result, refuse, give, Result·map}
 use Rattle.format.specs.declared.refusal.Refusal.the-variants.{FrameOrder as frame-order, SymbolFrame as symbol-frame, FrameBytes as frame-bytes, NotGround as not-ground, AbsentDirection as absent-direction}
 use Rattle.format.specs.Byte.{class-of}
@@ -22,24 +25,6 @@ pub data State : Type 0 where
   start : State
   within : Sheet → State
 
--- "its first byte is the kind"
-pub data Kind : Type 0 where
-  symbols-kind : Kind
-  equation-kind : Kind
-  run-kind : Kind
-  judgement-kind : Kind
-  comparison-kind : Kind
-  unknown-kind : Kind
-
-unfoldable pub kind-of : ℕ → Kind
-kind-of zero = unknown-kind
-kind-of (suc zero) = symbols-kind
-kind-of (suc (suc zero)) = equation-kind
-kind-of (suc (suc (suc zero))) = run-kind
-kind-of (suc (suc (suc (suc zero)))) = judgement-kind
-kind-of (suc (suc (suc (suc (suc zero))))) = comparison-kind
-kind-of (suc (suc (suc (suc (suc (suc n)))))) = unknown-kind
-
 -- "Frame 01 comes first, once; then 1 to 16 of 02; then 0 to 32 tasks (03, 04, 05 in any order)."
 unfoldable pub takes-equation : Sheet → Bool
 takes-equation s = eqb (length (s .tasks)) 0 && ltb (length (s .equations)) max-equations
@@ -47,7 +32,7 @@ takes-equation s = eqb (length (s .tasks)) 0 && ltb (length (s .equations)) max-
 unfoldable pub takes-task : Sheet → Bool
 takes-task s = leb 1 (length (s .equations)) && ltb (length (s .tasks)) max-tasks
 
-unfoldable pub in-order : State → Kind → Bool
+unfoldable pub in-order : State → FrameKind → Bool
 unfolding takes-equation takes-task
 in-order start symbols-kind = true
 in-order start equation-kind = false
@@ -150,7 +135,7 @@ unfoldable pub with-task : Sheet → Task → State
 with-task s t = within (record { arities = s .arities; equations = s .equations; tasks = s .tasks ++ (t ∷ []) })
 
 -- The body of a frame whose kind is in order: the first is a symbol frame, and no later one.
-unfoldable pub read-body : State → Kind → List ℕ → Result State
+unfoldable pub read-body : State → FrameKind → List ℕ → Result State
 unfolding symbols-body equation-body run-body judgement-body comparison-body with-equation with-task Result·map
 read-body start kind bs = symbols-body bs
 read-body (within s) symbols-kind bs = refuse frame-order
@@ -160,9 +145,14 @@ read-body (within s) judgement-kind bs = Result·map (with-task s) (judgement-bo
 read-body (within s) comparison-kind bs = Result·map (with-task s) (comparison-body s bs)
 read-body (within s) unknown-kind bs = refuse frame-order
 
--- One frame: "3, and 4, or 7 and then the first of 5 and 6".
+-- A frame of this kind: "3, and 4, or 7 and then the first of 5 and 6".
+unfoldable pub read-kind : State → FrameKind → List ℕ → Result State
+unfolding in-order read-body
+read-kind state kind body = elim (in-order state kind) [ true ↦ read-body state kind body | false ↦ refuse frame-order ]
+
+-- One frame: "its first byte is the kind".
 unfoldable pub read-frame : State → List ℕ → Result State
-unfolding kind-of in-order read-body
+unfolding kind-of read-kind
 -- Not met: a line has two digits at least.
 read-frame state [] = refuse frame-order
-read-frame state (kind ∷ body) = elim (in-order state (kind-of kind)) [ true ↦ read-body state (kind-of kind) body | false ↦ refuse frame-order ]
+read-frame state (b ∷ body) = read-kind state (kind-of b) body

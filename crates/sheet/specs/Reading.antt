@@ -9,7 +9,7 @@ use Rattle.format.specs.Limits.{max-text}
 use Rattle.format.specs.Refusal.{Result, refuse, give}
 use Rattle.format.specs.declared.refusal.Refusal.{Refusal}
 use Rattle.format.specs.declared.refusal.Refusal.the-variants.{TextLength as text-length, Digits as digits, FrameOrder as frame-order}
-use Rattle.sheet.specs.Text.{Row, rows, frame-of}
+use Rattle.sheet.specs.Text.{TextLine, lines-of, frame-of}
 use Rattle.sheet.specs.Sheet.{Sheet}
 use Rattle.sheet.specs.Frame.{State, start, within, read-frame}
 
@@ -19,9 +19,9 @@ pub data Reading (A : Type 0) : Type 0 where
   accepted : A → Reading A
 
 -- One line: "then line by line 2, 3, and 4, or 7 and then the first of 5 and 6".
-unfoldable pub read-row : State → Row → Result State
+unfoldable pub read-line : State → TextLine → Result State
 unfolding frame-of read-frame
-read-row state row = elim (frame-of row) [ none ↦ refuse digits | some bs ↦ read-frame state bs ]
+read-line state line = elim (frame-of line) [ none ↦ refuse digits | some bs ↦ read-frame state bs ]
 
 -- "a missing 02 names the last line"
 unfoldable pub finish : State → ℕ → Reading Sheet
@@ -30,12 +30,12 @@ finish start n = refused-at frame-order n
 finish (within s) n = elim (leb 1 (length (s .equations))) [ true ↦ accepted s | false ↦ refused-at frame-order n ]
 
 -- The lines that are left after the first `n`; the first of them is line `n` + 1.
-unfoldable pub read-rows : State → (n : ℕ) → List Row → Reading Sheet
-unfolding read-row finish
-read-rows state n [] = finish state n
-read-rows state n (row ∷ more) = elim (read-row state row) [ refuse r ↦ refused-at r (suc n) | give next ↦ read-rows next (suc n) more ]
+unfoldable pub read-lines : State → (n : ℕ) → List TextLine → Reading Sheet
+unfolding read-line finish
+read-lines state n [] = finish state n
+read-lines state n (line ∷ more) = elim (read-line state line) [ refuse r ↦ refused-at r (suc n) | give next ↦ read-lines next (suc n) more ]
 
 -- "A sheet is text of 1 to 16,384 bytes." "1, empty or too long (line 0)."
 unfoldable pub read : List ℕ → Reading Sheet
-unfolding rows read-rows
-read text = elim (leb 1 (length text) && leb (length text) max-text) [ true ↦ read-rows start 0 (rows text) | false ↦ refused-at text-length 0 ]
+unfolding lines-of read-lines
+read text = elim (leb 1 (length text) && leb (length text) max-text) [ true ↦ read-lines start 0 (lines-of text) | false ↦ refused-at text-length 0 ]

@@ -12,19 +12,23 @@ abbrev pub LF : ℕ
 LF = 0x0a
 
 -- A line of the text: its bytes before LF, or what is left at the end of a text without LF.
-pub data Row : Type 0 where
-  ended : List ℕ → Row
-  unended : List ℕ → Row
+pub data TextLine : Type 0 where
+  ended : List ℕ → TextLine
+  unended : List ℕ → TextLine
 
-unfoldable pub put-byte : ℕ → List Row → List Row
+unfoldable pub put-byte : ℕ → List TextLine → List TextLine
 put-byte b [] = unended (b ∷ []) ∷ []
-put-byte b (ended bs ∷ rows) = ended (b ∷ bs) ∷ rows
-put-byte b (unended bs ∷ rows) = unended (b ∷ bs) ∷ rows
+put-byte b (ended bs ∷ more) = ended (b ∷ bs) ∷ more
+put-byte b (unended bs ∷ more) = unended (b ∷ bs) ∷ more
 
-unfoldable pub rows : List ℕ → List Row
+unfoldable pub lines-of : List ℕ → List TextLine
 unfolding put-byte
-rows [] = []
-rows (b ∷ text) = elim (eqb b LF) [ true ↦ ended [] ∷ rows text | false ↦ put-byte b (rows text) ]
+lines-of [] = []
+lines-of (b ∷ text) = elim (eqb b LF) [ true ↦ ended [] ∷ lines-of text | false ↦ put-byte b (lines-of text) ]
+
+-- "Figures of frames are hexadecimal".
+abbrev pub base : ℕ
+base = 16
 
 -- "digits 0-9 and a-f"
 unfoldable pub digit : ℕ → Option ℕ
@@ -37,7 +41,7 @@ digit c =
 unfoldable pub byte-of : Option ℕ → Option ℕ → Option ℕ
 byte-of none low = none
 byte-of (some high) none = none
-byte-of (some high) (some low) = some (16 * high + low)
+byte-of (some high) (some low) = some (base * high + low)
 
 unfoldable pub put-first : Option ℕ → Option (List ℕ) → Option (List ℕ)
 put-first none bs = none
@@ -52,7 +56,7 @@ bytes-of (c ∷ []) = none
 bytes-of (c ∷ d ∷ cs) = put-first (byte-of (digit c) (digit d)) (bytes-of cs)
 
 -- "Each line is an even count, 2 to 326, of digits 0-9 and a-f, then LF". A line is one frame: its bytes.
-unfoldable pub frame-of : Row → Option (List ℕ)
+unfoldable pub frame-of : TextLine → Option (List ℕ)
 unfolding bytes-of
 frame-of (ended cs) = elim (leb 2 (length cs) && leb (length cs) max-line-digits) [ true ↦ bytes-of cs | false ↦ none ]
 frame-of (unended cs) = none

@@ -14,9 +14,9 @@ use Rattle.terms.specs.Theory.Position.{size-pos}
 use Rattle.terms.specs.Theory.Positions.{left-at}
 use Rattle.terms.specs.Contracts.Sizes.{Whole, Measurable, node-sizes}
 use Rattle.solving.specs.Walk.{enough, walk, solve}
-use Rattle.unifying.specs.Contracts.Laid.{view-of, Laid}
+use Rattle.unifying.specs.Contracts.PrefixForm.{view-of, InPrefixForm}
 use Rattle.unifying.specs.Contracts.Equation.{equation-sizes}
-use Rattle.unifying.specs.Theory.Equation.{length-nodes, length-sizes, size-at, equation-walk, equation-laid}
+use Rattle.unifying.specs.Theory.Equation.{length-nodes, length-sizes, size-at, equation-walk, equation-form}
 use Rattle.walking.specs.declared.solve.Walked.{Walked as Told}
 use Rattle.walking.specs.Contracts.Solve.{Tells}
 use Rattle.solver.specs.Contracts.Equation.{EquationIs, walk-bytes}
@@ -70,8 +70,8 @@ module _ {bytes arities : List ℕ} {e : Equation} (is : EquationIs bytes aritie
           let few : 0 < length (equation-sizes e) = omega (arith, length-sizes e, size-pos (e .left)) in
           r ∙ ap (λ l. getD l 0 0) sizes-first ∙ List·getD-append (equation-sizes e) (drop (length bytes) before) 0 0 few ∙ size-at e 0 (omega (arith, length-sizes e)) ∙ ap size (left-at e)
 
-      pub sides-laid : Laid bytes (take (length bytes) after)
-      sides-laid = rw (sizes-taken, is .spelled) (equation-laid e arities (is .few-symbols) (is .left-fits) (is .right-fits) (is .limits))
+      pub sides-laid : InPrefixForm bytes (take (length bytes) after)
+      sides-laid = rw (sizes-taken, is .spelled) (equation-form e arities (is .few-symbols) (is .left-fits) (is .right-fits) (is .limits))
 
       pub left-within : 0 < length bytes
       left-within = omega (arith, bytes-count, size-pos (e .left))

@@ -3,3 +3,4 @@ pub mod Walk
 pub mod Holds
 pub mod Judge
 pub mod Theory
+pub mod Contracts

@@ -3,7 +3,7 @@ use Prim.Native.Nat.{ℕ, _-_, _*_}
 use mathlib.Core.Option.{Option, none, some}
 use mathlib.Core.List.{List, [], _∷_, _++_, map}
 use lib.ListN.{length, getD, set, replicate}
-use Rattle.format.specs.Limits.{variable-count, max-elements}
+use Rattle.format.specs.Limits.{variable-count, max-elements, no-position}
 
 -- "bindings (variable to position)": a slot for each variable.
 abbrev pub Bindings : Type 0
@@ -33,7 +33,7 @@ pub data Line : Type 0 where
 
 -- "records of 89 bytes: 8 binding positions (ff for none), element count, 40 pairs of positions (ff after the last)"
 unfoldable pub binding-byte : Option ℕ → ℕ
-binding-byte none = 0xff
+binding-byte none = no-position
 binding-byte (some p) = p
 
 unfoldable pub element-bytes : List Element → List ℕ
@@ -43,7 +43,7 @@ element-bytes (greater p q ∷ es) = p ∷ q ∷ element-bytes es
 
 unfoldable pub record-of : Line → List ℕ
 unfolding binding-byte element-bytes
-record-of (line θ es) = map binding-byte θ ++ length es ∷ element-bytes es ++ replicate (2 * (max-elements - length es)) 0xff
+record-of (line θ es) = map binding-byte θ ++ length es ∷ element-bytes es ++ replicate (2 * (max-elements - length es)) no-position
 
 -- "The table is written as records"
 unfoldable pub records : List Line → List ℕ

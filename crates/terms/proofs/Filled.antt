@@ -6,7 +6,6 @@ use native.Mathlib.Omega.{arith}
 use native.Mathlib.Numerals.{add-one}
 use lib.ListN.{length, getD, take, drop, set, length-append, length-drop, take-append-drop}
 use lib.Seq.{slice, slice-empty, length-slice, length-take-le, take-nil, drop-drop, take-suc, take-at, drop-at, set-at}
-use Rattle.terms.specs.Term.{sizes}
 use Rattle.format.specs.Limits.{node-count}
 use Rattle.terms.specs.Contracts.Sizes.{Whole, Measurable, node-sizes}
 use Rattle.terms.specs.Theory.Sizes.{whole-rest, whole-length, length-node-sizes}

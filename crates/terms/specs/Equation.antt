@@ -1,5 +1,5 @@
 -- Equations, their directions and their positions (document 01, 'The sheet' and 'The walk that solves s > t').
-use Prim.Native.Nat.{ℕ, zero, suc, _+_}
+use Prim.Native.Nat.{ℕ, zero, suc}
 use mathlib.Core.Option.{Option, none, some}
 use mathlib.Core.List.{_++_}
 use lib.ListN.{getD}

@@ -1,5 +1,6 @@
 // The number of nodes of the term that starts at each byte of terms in prefix form.
 use format::byte::wide;
+use format::limits::Limits;
 ghost use mathlib.Core.Path.{_≡_};
 ghost use mathlib.Core.List.{_∷_, _++_};
 ghost use Prim.Native.Nat.{_≤_, _<_};
@@ -7,8 +8,6 @@ ghost use lib.ListN.{length, take, drop};
 ghost use lib.Seq.{slice};
 ghost use Rattle.format.specs.Limits.{node-count};
 ghost use Rattle.terms.specs.Contracts.Sizes.{Whole, Measurable, node-sizes};
-
-const FIRST_VARIABLE: u8 = 128;
 
 // The number of nodes of the first of whole terms, where `sizes` has those of the terms that start at each node behind the first.
 fn first_size(nodes: &[u8], arities: &[u8], sizes: &[u8]) -> u8
@@ -18,7 +17,7 @@ fn first_size(nodes: &[u8], arities: &[u8], sizes: &[u8]) -> u8
     ensures { λ r. ⌜ node-sizes (now (arities .entry)) (now (nodes .entry)) ≡ r ∷ now (sizes .entry) ⌝ }
 {
     let byte = nodes[0];
-    if FIRST_VARIABLE <= byte {
+    if Limits::FIRST_VARIABLE <= byte {
         return 1;
     }
     let count = arities[wide(byte)];

@@ -4,10 +4,9 @@ use mathlib.Core.Path.{_≡_, subst}
 use mathlib.Core.List.{List}
 use lib.ListN.{length}
 use Rattle.format.specs.Limits.{variable-count}
-use Rattle.solving.specs.Walk.{Fuel, enough}
+use Rattle.solving.specs.Walk.{enough}
 use Rattle.unifying.specs.declared.unify.Answer.{Answer}
-use Rattle.unifying.specs.Contracts.Laid.{view-of}
-use Rattle.unifying.specs.Contracts.Bound.{bindings-of, Readable}
+use Rattle.unifying.specs.Contracts.Bindings.{bindings-of, Readable}
 use Rattle.unifying.specs.Contracts.Unify.{UnifiesTo}
 use Rattle.unifying.specs.Contracts.Unifier.{Unifies}
 use Rattle.unifying.specs.Theory.Unify.{told-enough}

@@ -1,19 +1,19 @@
 -- Following the bindings as bytes.
-use Prim.Native.Nat.{ℕ, zero, suc, _+_, _-_, _≤_, _<_}
+use Prim.Native.Nat.{ℕ, zero, suc, _-_, _≤_, _<_}
 use mathlib.Core.Path.{_≡_, refl, sym, ap, _∙_}
-use mathlib.Core.Option.{Option, none, some}
+use mathlib.Core.Option.{none, some}
 use mathlib.Core.List.{List}
 use lib.ListN.{length, getD}
 use native.Mathlib.Omega.{arith}
-use Rattle.format.specs.Limits.{first-variable, variable-count}
-use Rattle.terms.specs.Position.{Node, var-node}
+use Rattle.format.specs.Limits.{first-variable, variable-count, no-position}
+use Rattle.terms.specs.Position.{Node}
 use Rattle.solving.specs.Line.{Bindings, lookup}
 use Rattle.solving.specs.Walk.{enough, bound-to, follow, reach}
 use Rattle.solving.specs.Theory.Seen.{symbol-unbound, variable-bound}
-use Rattle.unifying.specs.Contracts.Laid.{view-of}
-use Rattle.unifying.specs.Contracts.Bound.{bindings-of, Readable}
-use Rattle.unifying.specs.Theory.Laid.{byte-there, symbol-there, variable-there}
-use Rattle.unifying.specs.Theory.Bound.{bound-there, free-there, length-bindings}
+use Rattle.unifying.specs.Contracts.PrefixForm.{view-of}
+use Rattle.unifying.specs.Contracts.Bindings.{bindings-of, Readable}
+use Rattle.unifying.specs.Theory.PrefixForm.{byte-there, symbol-there, variable-there}
+use Rattle.unifying.specs.Theory.Bindings.{bound-there, free-there, length-bindings}
 
 -- The walk has come to `at`, with `hops` left.
 pub record Following (nodes sizes bindings : List ℕ) (p at hops : ℕ) : Type 0 where
@@ -46,11 +46,11 @@ module _ {nodes sizes bindings : List ℕ} where
     reached-symbol f h = sym (follow-stays (view-of nodes sizes) (bindings-of bindings) hops at (symbol-unbound (bindings-of bindings) (symbol-there nodes sizes at (f .within) h))) ∙ f .leads
 
     pub reached-free : (v : ℕ) → Following nodes sizes bindings p at hops → first-variable ≤ getD nodes at 0 → v ≡ getD nodes at 0 - first-variable → v < length bindings
-        → getD bindings v 0 ≡ 0xff → at ≡ reach enough (view-of nodes sizes) (bindings-of bindings) p
+        → getD bindings v 0 ≡ no-position → at ≡ reach enough (view-of nodes sizes) (bindings-of bindings) p
     reached-free v f h e s l = sym (follow-stays (view-of nodes sizes) (bindings-of bindings) hops at (variable-bound (bindings-of bindings) (variable-there nodes sizes at v (f .within) h e) ∙ free-there bindings v s l)) ∙ f .leads
 
   pub following-on : {p at hops : ℕ} (v q rest : ℕ) → Readable nodes sizes bindings → Following nodes sizes bindings p at hops → suc rest ≡ hops → first-variable ≤ getD nodes at 0
-      → v ≡ getD nodes at 0 - first-variable → v < length bindings → q ≡ getD bindings v 0 → q < 0xff → Following nodes sizes bindings p q rest
+      → v ≡ getD nodes at 0 - first-variable → v < length bindings → q ≡ getD bindings v 0 → q < no-position → Following nodes sizes bindings p q rest
   following-on {at = at} v q rest r f k h e s x l =
       let d : lookup (bindings-of bindings) v ≡ some q = rw x (bound-there bindings v s (omega arith)) in
       record {

@@ -1,12 +1,12 @@
 -- The laws of a row's count.
-use Prim.Native.Nat.{ℕ, zero, suc, _+_, _≤_, _<_}
-use mathlib.Core.Path.{_≡_, refl, sym, ap, _∙_}
-use mathlib.Core.List.{List, [], _∷_}
+use Prim.Native.Nat.{ℕ, _+_, _≤_, _<_}
+use mathlib.Core.Path.{_≡_, ap}
+use mathlib.Core.List.{List}
 use lib.ListN.{length, getD}
 use native.Mathlib.Omega.{arith}
-use Rattle.unifying.specs.Contracts.Laid.{Row}
+use Rattle.unifying.specs.Contracts.PrefixForm.{Row}
 use Rattle.unifying.specs.Contracts.Count.{HasRow, CountsRow}
-use Rattle.unifying.specs.Theory.Laid.{row-ordered, row-empty, row-next, row-first-some}
+use Rattle.unifying.specs.Theory.PrefixForm.{row-ordered, row-empty, row-next, row-first-some}
 
 module _ (sizes : List ℕ) (k₀ end : ℕ) where
   -- The terms up to `t` are counted.

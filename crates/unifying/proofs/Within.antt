@@ -1,21 +1,15 @@
 -- The positions of a term: its own, and those of its arguments.
 use Prim.Native.Nat.{ℕ, zero, suc, _+_, _-_, _≤_, _<_}
-use mathlib.Core.Path.{_≡_, refl}
-use mathlib.Core.List.{List, [], _∷_}
+use mathlib.Core.Path.{_≡_}
+use mathlib.Core.List.{List, _∷_}
 use lib.ListN.{length, getD}
 use native.Mathlib.Omega.{arith}
 use native.Mathlib.Decide.{ℕ-discrete, decLt}
 use Rattle.format.specs.Limits.{first-variable, variable-count}
 use Rattle.terms.specs.Position.{app-node}
 use Rattle.terms.specs.Theory.View.{In, head, tail}
-use Rattle.unifying.specs.Contracts.Laid.{view-of, Row, none, more, Laid}
-use Rattle.unifying.specs.Theory.Laid.{row-ordered, row-start, row-end, row-some, symbol-seen, seen-symbol}
-
--- Within a list the default does not matter.
-pub getD-any : (xs : List ℕ) (i d e : ℕ) → i < length xs → getD xs i d ≡ getD xs i e
-getD-any [] i d e l = absurd (omega arith)
-getD-any (x ∷ xs) zero d e l = refl
-getD-any (x ∷ xs) (suc i) d e l = getD-any xs i d e (omega arith)
+use Rattle.unifying.specs.Contracts.PrefixForm.{view-of, Row, none, more, InPrefixForm}
+use Rattle.unifying.specs.Theory.PrefixForm.{getD-any, row-ordered, row-start, row-end, row-some, symbol-seen, seen-symbol}
 
 -- The term at `i` is a part of the term at `p`.
 pub data Part (nodes sizes : List ℕ) (i : ℕ) : ℕ → Type 0 where
@@ -36,7 +30,7 @@ row-part {sizes} {end} (more {k = k} {ps = ps} s r) i l h = go (row-part r i) (d
     go ih (yes b) = (k, head, l, b)
     go ih (no b) = let (c, j, a, d) = ih (omega arith) h in (c, tail j, a, d)
 
-module _ {nodes sizes : List ℕ} (laid : Laid nodes sizes) where
+module _ {nodes sizes : List ℕ} (laid : InPrefixForm nodes sizes) where
   pub size-pos : (p : ℕ) → p < length nodes → 0 < getD sizes p 0
   size-pos p l = go (decLt (getD nodes p first-variable) first-variable)
     where

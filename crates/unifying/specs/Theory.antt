@@ -1,6 +1,6 @@
 -- Laws.
-pub mod Bound
 pub mod Equation
 pub mod Front
-pub mod Laid
 pub mod Unify
+pub mod Bindings
+pub mod PrefixForm

@@ -1,6 +1,4 @@
 // The occurs test, seen through the bindings of a line. Each bound variable is looked through once, so that no bindings make it long.
-use crate::reach::FIRST_VARIABLE;
-use crate::reach::UNBOUND;
 use format::byte::wide;
 use format::limits::Limits;
 ghost use mathlib.Core.Path.{_≡_};
@@ -8,13 +6,13 @@ ghost use mathlib.Core.Bool.{true, false};
 ghost use mathlib.Core.Option.{none};
 ghost use Prim.Native.Nat.{ℕ, _+_, _≤_, _<_};
 ghost use lib.ListN.{length, getD};
-ghost use Rattle.format.specs.Limits.{variable-count};
+ghost use Rattle.format.specs.Limits.{variable-count, position-count};
 ghost use Rattle.solving.specs.Line.{lookup};
-ghost use Rattle.solving.specs.Walk.{Fuel, enough, occurs};
-ghost use Rattle.solving.specs.Theory.Reach.{Proper};
-ghost use Rattle.unifying.specs.Contracts.Laid.{view-of, Laid};
-ghost use Rattle.unifying.specs.Contracts.Bound.{bindings-of};
-ghost use Rattle.unifying.specs.Contracts.Met.{Stands, Passed};
+ghost use Rattle.solving.specs.Walk.{enough, occurs};
+ghost use Rattle.solving.specs.Contracts.Bindings.{Proper};
+ghost use Rattle.unifying.specs.Contracts.PrefixForm.{view-of, InPrefixForm};
+ghost use Rattle.unifying.specs.Contracts.Bindings.{bindings-of};
+ghost use Rattle.unifying.specs.Contracts.Marks.{OccursAmong, OnlySymbols, Scanned};
 
 // The marks of a variable. Only bound variables are marked.
 const NOT_MET: u8 = 0;
@@ -25,15 +23,15 @@ const LOOKED_THROUGH: u8 = 2;
 
 // Whether the free variable `v` occurs in the term at `p`.
 pub fn occurs_at(nodes: &[u8], sizes: &[u8], bindings: &[u8], v: usize, p: usize) -> bool
-    requires { ⌜ Laid (now nodes) (now sizes) × (p < length (now nodes)) ⌝ }
+    requires { ⌜ InPrefixForm (now nodes) (now sizes) × (p < length (now nodes)) ⌝ }
     requires { ⌜ Proper (view-of (now nodes) (now sizes)) variable-count (length (now nodes)) (bindings-of (now bindings)) ⌝ }
-    requires { ⌜ (v < 8) × (lookup (bindings-of (now bindings)) v ≡ none) ⌝ }
+    requires { ⌜ (v < variable-count) × (lookup (bindings-of (now bindings)) v ≡ none) ⌝ }
     ensures { λ r. ⌜ r ≡ occurs enough (view-of (now (nodes .entry)) (now (sizes .entry))) (enough .occurs-depth) (bindings-of (now (bindings .entry))) v p ⌝ }
 {
     let mut met = [NOT_MET; Limits::VARIABLES];
     let mut next = p;
     loop {
-        if stands(nodes, sizes, bindings, v, next, &mut met) {
+        if search_term(nodes, sizes, bindings, v, next, &mut met) {
             return true;
         }
         let w = first_met(&met);
@@ -46,7 +44,7 @@ pub fn occurs_at(nodes: &[u8], sizes: &[u8], bindings: &[u8], v: usize, p: usize
 }
 
 // Whether `v` stands in the term at `p`, not seen through the bindings. If not, the bound variables that stand there are met.
-fn stands(
+fn search_term(
     nodes: &[u8],
     sizes: &[u8],
     bindings: &[u8],
@@ -54,22 +52,27 @@ fn stands(
     p: usize,
     met: &mut [u8; Limits::VARIABLES],
 ) -> bool
-    requires { ⌜ Laid (now nodes) (now sizes) × (p < length (now nodes)) ⌝ }
+    requires { ⌜ InPrefixForm (now nodes) (now sizes) × (p < length (now nodes)) ⌝ }
     requires { ⌜ (length (now bindings) ≡ variable-count) × (length (now met) ≡ variable-count) ⌝ }
-    ensures { λ r. ⌜ (r ≡ true → Stands (now (nodes .entry)) p (p + getD (now (sizes .entry)) p 0) v) ⌝ }
-    ensures { λ r. ⌜ (r ≡ false → Passed (now (nodes .entry)) (now (bindings .entry)) v p (p + getD (now (sizes .entry)) p 0) (now (met .entry)) (now (met .exit))) ⌝ }
+    ensures { λ r. ⌜ (r ≡ true → OccursAmong (now (nodes .entry)) p (p + getD (now (sizes .entry)) p 0) v) ⌝ }
+    ensures { λ r. ⌜ (r ≡ false → Scanned (now (nodes .entry)) (now (bindings .entry)) v p (p + getD (now (sizes .entry)) p 0) (now (met .entry)) (now (met .exit))) ⌝ }
 {
     let end = p + wide(sizes[p]);
-    let mut i = p;
-    while i < end {
+    // From the end: the last node of a term is a variable or a constant, and so variables are found there first.
+    let mut i = end;
+    while p < i {
+        i = skip_symbols(nodes, p, i);
+        if i == p {
+            return false;
+        }
+        i = i - 1;
         let byte = nodes[i];
-        i = i + 1;
-        if FIRST_VARIABLE <= byte {
-            let w = wide(byte - FIRST_VARIABLE);
+        if Limits::FIRST_VARIABLE <= byte {
+            let w = wide(byte - Limits::FIRST_VARIABLE);
             if w == v {
                 return true;
             }
-            if bindings[w] < UNBOUND {
+            if bindings[w] < Limits::NO_POSITION {
                 if met[w] == NOT_MET {
                     met[w] = MET;
                 }
@@ -77,6 +80,30 @@ fn stands(
         }
     }
     false
+}
+
+// Goes back from `end` over symbols, four at a time, as far as none of the four is a variable.
+fn skip_symbols(nodes: &[u8], from: usize, end: usize) -> usize
+    requires { ⌜ (from ≤ end) × (end ≤ length (now nodes)) × (length (now nodes) ≤ position-count) ⌝ }
+    ensures { λ r. ⌜ (from ≤ r) × (r ≤ end) × OnlySymbols (now (nodes .entry)) r end ⌝ }
+{
+    let mut i = end;
+    while from + 4 <= i {
+        if Limits::FIRST_VARIABLE <= nodes[i - 1] {
+            return i;
+        }
+        if Limits::FIRST_VARIABLE <= nodes[i - 2] {
+            return i - 1;
+        }
+        if Limits::FIRST_VARIABLE <= nodes[i - 3] {
+            return i - 2;
+        }
+        if Limits::FIRST_VARIABLE <= nodes[i - 4] {
+            return i - 3;
+        }
+        i = i - 4;
+    }
+    i
 }
 
 // The first variable that is met and still to be looked through, or how many variables there are.

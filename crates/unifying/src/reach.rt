@@ -1,16 +1,12 @@
 // Terms seen through the bindings of a line, a byte for each variable.
 use format::byte::wide;
+use format::limits::Limits;
 ghost use mathlib.Core.Path.{_≡_};
 ghost use Prim.Native.Nat.{_<_};
 ghost use lib.ListN.{length};
 ghost use Rattle.solving.specs.Walk.{enough, reach};
-ghost use Rattle.unifying.specs.Contracts.Laid.{view-of};
-ghost use Rattle.unifying.specs.Contracts.Bound.{bindings-of, Readable};
-
-pub const FIRST_VARIABLE: u8 = 128;
-
-// What stands for no binding.
-pub const UNBOUND: u8 = 255;
+ghost use Rattle.unifying.specs.Contracts.PrefixForm.{view-of};
+ghost use Rattle.unifying.specs.Contracts.Bindings.{bindings-of, Readable};
 
 // The position reached from `p` through the bindings. A variable is bound to a term or to a higher variable.
 pub fn reached(nodes: &[u8], sizes: &[u8], bindings: &[u8], p: usize) -> usize
@@ -19,14 +15,14 @@ pub fn reached(nodes: &[u8], sizes: &[u8], bindings: &[u8], p: usize) -> usize
     ensures { λ r. ⌜ r < length (now (nodes .entry)) ⌝ }
 {
     let mut at = p;
-    let mut hops: usize = 8;
+    let mut hops = Limits::VARIABLES;
     while 0 < hops {
         let byte = nodes[at];
-        if byte < FIRST_VARIABLE {
+        if byte < Limits::FIRST_VARIABLE {
             return at;
         }
-        let next = bindings[wide(byte - FIRST_VARIABLE)];
-        if next == UNBOUND {
+        let next = bindings[wide(byte - Limits::FIRST_VARIABLE)];
+        if next == Limits::NO_POSITION {
             return at;
         }
         at = wide(next);

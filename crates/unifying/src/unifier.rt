@@ -2,20 +2,19 @@
 use crate::unify::Answer;
 use crate::unify::unify_terms;
 use format::limits::Limits;
-ghost use mathlib.Core.Path.{_≡_};
 ghost use Prim.Native.Nat.{_<_};
 ghost use lib.ListN.{length};
-ghost use Rattle.unifying.specs.Contracts.Bound.{Readable};
+ghost use Rattle.unifying.specs.Contracts.Bindings.{Readable};
 ghost use Rattle.unifying.specs.Contracts.Unifier.{Unifies};
 
 // Whether there is a unifier, and the bindings that give it.
 pub struct Unifier {
     pub answer: Answer,
-    pub bindings: [u8; 8],
+    pub bindings: [u8; Limits::VARIABLES],
 }
 
 // One more than there are positions.
-const DEPTH: usize = 65;
+const DEPTH: usize = Limits::POSITIONS + 1;
 
 // Unifies the terms at two positions. The bindings stay as they are.
 pub fn unify_positions(nodes: &[u8], sizes: &[u8], bindings: &[u8], p: usize, q: usize) -> Unifier

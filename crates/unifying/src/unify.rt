@@ -1,18 +1,22 @@
 // Unification, left argument first; bindings are changed in place.
 use crate::occurs::occurs_at;
-use crate::reach::FIRST_VARIABLE;
 use crate::reach::reached;
 use format::byte::wide;
+use format::limits::Limits;
+use terms::arguments::Arguments;
+use terms::arguments::arguments_of;
+use terms::arguments::other_arguments;
 ghost use mathlib.Core.Path.{_≡_};
 ghost use mathlib.Core.Option.{none};
-ghost use Prim.Native.Nat.{_<_};
-ghost use lib.ListN.{length};
+ghost use Prim.Native.Nat.{_≤_, _<_};
+ghost use lib.ListN.{length, getD};
 ghost use native.Mathlib.Decide.{ℕ-discrete, decLt};
+ghost use Rattle.format.specs.Limits.{first-variable, variable-count, no-position};
 ghost use Rattle.solving.specs.Line.{lookup};
-ghost use Rattle.solving.specs.Walk.{Fuel, enough, occurs, bind-unless, unify-variables};
-ghost use Rattle.unifying.specs.Contracts.Laid.{view-of};
-ghost use Rattle.unifying.specs.Contracts.Bound.{bindings-of, Readable};
-ghost use Rattle.unifying.specs.Contracts.Unify.{answered, HasRows, UnifiesTo, UnifiesRows};
+ghost use Rattle.solving.specs.Walk.{enough, occurs, bind-unless, unify-variables};
+ghost use Rattle.unifying.specs.Contracts.PrefixForm.{view-of};
+ghost use Rattle.unifying.specs.Contracts.Bindings.{bindings-of, Readable};
+ghost use Rattle.unifying.specs.Contracts.Unify.{answered, FreeAt, HasRows, BindsTo, UnifiesSymbols, UnifiesTo, UnifiesRows};
 
 // Whether there is a unifier; the bindings beside it are then those that give it.
 pub enum Answer {
@@ -22,7 +26,7 @@ pub enum Answer {
 
 // "Two unbound variables: bind the smaller number to the other's position." `v` stands at `p`, `w` at `q`.
 fn bind_variables(bindings: &mut [u8], v: usize, w: usize, p: usize, q: usize) -> Answer
-    requires { ⌜ (v < length (now bindings)) × (w < length (now bindings)) × (p < 255) × (q < 255) ⌝ }
+    requires { ⌜ (v < length (now bindings)) × (w < length (now bindings)) × (p < no-position) × (q < no-position) ⌝ }
     ensures { λ r. ⌜ unify-variables (bindings-of (now (bindings .entry))) v w p q (ℕ-discrete v w) (decLt v w) ≡ answered r (bindings-of (now (bindings .exit))) ⌝ }
 {
     if v == w {
@@ -39,7 +43,7 @@ fn bind_variables(bindings: &mut [u8], v: usize, w: usize, p: usize, q: usize) -
 // "Variable and term: bind to the term's position unless it occurs there."
 fn bind_term(nodes: &[u8], sizes: &[u8], bindings: &mut [u8], v: usize, p: usize) -> Answer
     requires { ⌜ Readable (now nodes) (now sizes) (now bindings) × (p < length (now nodes)) ⌝ }
-    requires { ⌜ (v < 8) × (lookup (bindings-of (now bindings)) v ≡ none) ⌝ }
+    requires { ⌜ (v < variable-count) × (lookup (bindings-of (now bindings)) v ≡ none) ⌝ }
     ensures { λ r. ⌜ bind-unless (occurs enough (view-of (now (nodes .entry)) (now (sizes .entry))) (enough .occurs-depth) (bindings-of (now (bindings .entry))) v p) (bindings-of (now (bindings .entry))) v p ≡ answered r (bindings-of (now (bindings .exit))) ⌝ }
 {
     if occurs_at(nodes, sizes, bindings, v, p) {
@@ -47,6 +51,30 @@ fn bind_term(nodes: &[u8], sizes: &[u8], bindings: &mut [u8], v: usize, p: usize
     }
     bindings[v] = p as u8;
     Answer::Unified
+}
+
+// Binds a variable at one of two positions that are reached.
+fn bind_reached(nodes: &[u8], sizes: &[u8], bindings: &mut [u8], s: usize, t: usize) -> Answer
+    requires { ⌜ Readable (now nodes) (now sizes) (now bindings) ⌝ }
+    requires { ⌜ FreeAt (now nodes) (now sizes) (now bindings) s × FreeAt (now nodes) (now sizes) (now bindings) t ⌝ }
+    requires { ⌜ (getD (now nodes) s 0 < first-variable → first-variable ≤ getD (now nodes) t 0) ⌝ }
+    ensures { λ r. ⌜ BindsTo (now (nodes .entry)) (now (sizes .entry)) (bindings-of (now (bindings .entry))) s t r (bindings-of (now (bindings .exit))) ⌝ }
+{
+    let f = nodes[s];
+    let g = nodes[t];
+    if f < Limits::FIRST_VARIABLE {
+        return bind_term(nodes, sizes, bindings, wide(g - Limits::FIRST_VARIABLE), s);
+    }
+    if g < Limits::FIRST_VARIABLE {
+        return bind_term(nodes, sizes, bindings, wide(f - Limits::FIRST_VARIABLE), t);
+    }
+    bind_variables(
+        bindings,
+        wide(f - Limits::FIRST_VARIABLE),
+        wide(g - Limits::FIRST_VARIABLE),
+        s,
+        t,
+    )
 }
 
 // Unifies the terms at two positions. No descent is deeper than there are positions, so that `depth` does not run out.
@@ -58,7 +86,7 @@ pub fn unify_terms(
     q: usize,
     depth: usize,
 ) -> Answer
-    requires { ⌜ Readable (now nodes) (now sizes) (now bindings) × (depth < 100) ⌝ }
+    requires { ⌜ Readable (now nodes) (now sizes) (now bindings) ⌝ }
     requires { ⌜ (p < length (now nodes)) × (q < length (now nodes)) ⌝ }
     ensures { λ r. ⌜ UnifiesTo (now (nodes .entry)) (now (sizes .entry)) depth (bindings-of (now (bindings .entry))) p q r (bindings-of (now (bindings .exit))) ⌝ }
 {
@@ -71,66 +99,62 @@ pub fn unify_terms(
     if s == t {
         return Answer::Unified;
     }
-    let f = nodes[s];
-    let g = nodes[t];
-    if f < FIRST_VARIABLE {
-        if g < FIRST_VARIABLE {
-            if f == g {
-                let m = s + wide(sizes[s]);
-                let n = t + wide(sizes[t]);
-                return unify_rows(nodes, sizes, bindings, s + 1, m, t + 1, n, depth - 1);
-            }
-            return Answer::Failed;
+    if nodes[s] < Limits::FIRST_VARIABLE {
+        if nodes[t] < Limits::FIRST_VARIABLE {
+            return unify_symbols(nodes, sizes, bindings, s, t, depth - 1);
         }
-        return bind_term(nodes, sizes, bindings, wide(g - FIRST_VARIABLE), s);
     }
-    if g < FIRST_VARIABLE {
-        return bind_term(nodes, sizes, bindings, wide(f - FIRST_VARIABLE), t);
-    }
-    bind_variables(
-        bindings,
-        wide(f - FIRST_VARIABLE),
-        wide(g - FIRST_VARIABLE),
-        s,
-        t,
-    )
+    bind_reached(nodes, sizes, bindings, s, t)
 }
 
-// Unifies the terms from `k` to `m` with those from `l` to `n`, one by one.
+// Unifies two terms that are no variables, their arguments at most `depth` deep.
+fn unify_symbols(
+    nodes: &[u8],
+    sizes: &[u8],
+    bindings: &mut [u8],
+    s: usize,
+    t: usize,
+    depth: usize,
+) -> Answer
+    requires { ⌜ Readable (now nodes) (now sizes) (now bindings) ⌝ }
+    requires { ⌜ (s < length (now nodes)) × (getD (now nodes) s 0 < first-variable) ⌝ }
+    requires { ⌜ (t < length (now nodes)) × (getD (now nodes) t 0 < first-variable) ⌝ }
+    ensures { λ r. ⌜ UnifiesSymbols (now (nodes .entry)) (now (sizes .entry)) depth (bindings-of (now (bindings .entry))) s t r (bindings-of (now (bindings .exit))) ⌝ }
+{
+    if nodes[s] != nodes[t] {
+        return Answer::Failed;
+    }
+    let left = arguments_of(sizes, s);
+    let right = arguments_of(sizes, t);
+    unify_rows(nodes, sizes, bindings, left, right, depth)
+}
+
+// Unifies the terms of two rows, one by one.
 fn unify_rows(
     nodes: &[u8],
     sizes: &[u8],
     bindings: &mut [u8],
-    k: usize,
-    m: usize,
-    l: usize,
-    n: usize,
+    left: Arguments,
+    right: Arguments,
     depth: usize,
 ) -> Answer
-    requires { ⌜ Readable (now nodes) (now sizes) (now bindings) × (depth < 100) ⌝ }
-    requires { ⌜ HasRows (now nodes) (now sizes) k m l n ⌝ }
-    ensures { λ r. ⌜ UnifiesRows (now (nodes .entry)) (now (sizes .entry)) depth (bindings-of (now (bindings .entry))) k m l n r (bindings-of (now (bindings .exit))) ⌝ }
+    requires { ⌜ Readable (now nodes) (now sizes) (now bindings) ⌝ }
+    requires { ⌜ HasRows (now nodes) (now sizes) left right ⌝ }
+    ensures { λ r. ⌜ UnifiesRows (now (nodes .entry)) (now (sizes .entry)) depth (bindings-of (now (bindings .entry))) left right r (bindings-of (now (bindings .exit))) ⌝ }
 {
-    if k < m {
-        if l < n {
-            let answer = unify_terms(nodes, sizes, bindings, k, l, depth);
+    if left.from < left.end {
+        if right.from < right.end {
+            let answer = unify_terms(nodes, sizes, bindings, left.from, right.from, depth);
             let Answer::Unified = answer else {
                 return Answer::Failed;
             };
-            return unify_rows(
-                nodes,
-                sizes,
-                bindings,
-                k + wide(sizes[k]),
-                m,
-                l + wide(sizes[l]),
-                n,
-                depth,
-            );
+            let others = other_arguments(sizes, left);
+            let opposite = other_arguments(sizes, right);
+            return unify_rows(nodes, sizes, bindings, others, opposite, depth);
         }
         return Answer::Failed;
     }
-    if l < n {
+    if right.from < right.end {
         return Answer::Failed;
     }
     Answer::Unified

@@ -1,20 +1,19 @@
 // The walk of one direction over an equation's bytes.
-use crate::line::Line;
-use crate::record::LINE;
-use crate::record::store;
 use crate::walk::Advanced;
 use crate::walk::Progress;
 use crate::walk::Walk;
 use crate::walk::going;
 use format::limits::Limits;
 use format::refusal::Refusal;
+use lines::edit::store;
+use lines::layout::LINE;
+use lines::line::Line;
 ghost use mathlib.Core.Path.{_≡_};
 ghost use Prim.Native.Nat.{_*_, _≤_, _<_};
 ghost use lib.ListN.{length, take};
 ghost use Rattle.format.specs.Buffer.{written};
 ghost use Rattle.format.specs.Limits.{table-bytes};
-ghost use Rattle.unifying.specs.Contracts.Laid.{Laid};
-ghost use Rattle.walking.specs.Contracts.Place.{line-bytes};
+ghost use Rattle.unifying.specs.Contracts.PrefixForm.{InPrefixForm};
 ghost use Rattle.walking.specs.Contracts.Walking.{memory-bytes, Walking, Comes};
 ghost use Rattle.walking.specs.Contracts.Solve.{WalkedAs};
 
@@ -38,22 +37,16 @@ pub struct Walked {
 }
 
 // "at first the one line with s > t and no binding"
-fn begin_walk(
-    nodes: &[u8],
-    sizes: &[u8],
-    source: usize,
-    target: usize,
-    line: &mut [u8],
-    memory: &mut [u8],
-) -> Walk
-    requires { ⌜ Laid (now nodes) (now sizes) × (source < length (now nodes)) × (target < length (now nodes)) ⌝ }
-    requires { ⌜ (length (now line) ≡ line-bytes) × (length (now memory) ≡ memory-bytes) ⌝ }
+fn begin_walk(nodes: &[u8], sizes: &[u8], source: usize, target: usize, memory: &mut [u8]) -> Walk
+    requires { ⌜ InPrefixForm (now nodes) (now sizes) × (source < length (now nodes)) × (target < length (now nodes)) ⌝ }
+    requires { ⌜ length (now memory) ≡ memory-bytes ⌝ }
     ensures { λ r. ⌜ Walking (now (nodes .entry)) (now (sizes .entry)) (now (memory .exit)) r ⌝ }
     ensures { λ r. ⌜ (r .source ≡ source) × (r .target ≡ target) ⌝ }
 {
     let opening = Line::opening(source as u8, target as u8);
-    opening.write(line);
-    store(line, memory, FIRST * LINE);
+    let mut line = [Limits::NO_POSITION; LINE];
+    opening.write(&mut line);
+    store(&line, memory, FIRST * LINE);
     Walk {
         source: source,
         target: target,
@@ -64,14 +57,13 @@ fn begin_walk(
 }
 
 // Turn after turn, until no line is unfinished or the walk is refused.
-fn go_on(walk: Walk, nodes: &[u8], sizes: &[u8], line: &mut [u8], memory: &mut [u8]) -> Advanced
+fn go_on(walk: Walk, nodes: &[u8], sizes: &[u8], memory: &mut [u8]) -> Advanced
     requires { ⌜ Walking (now nodes) (now sizes) (now memory) walk ⌝ }
-    requires { ⌜ length (now line) ≡ line-bytes ⌝ }
     ensures { λ r. ⌜ Comes (now (nodes .entry)) (now (sizes .entry)) (now (memory .exit)) walk r ⌝ }
 {
     let mut cursor = walk;
     while cursor.top < Limits::LINES {
-        let next = cursor.turn(nodes, sizes, line, memory);
+        let next = cursor.turn(nodes, sizes, memory);
         let progress = next.progress;
         let Progress::Going = progress else {
             return next;
@@ -102,13 +94,12 @@ pub fn solve_positions(
     table: &mut [u8],
     memory: &mut [u8],
 ) -> Walked
-    requires { ⌜ Laid (now nodes) (now sizes) × (source < length (now nodes)) × (target < length (now nodes)) ⌝ }
+    requires { ⌜ InPrefixForm (now nodes) (now sizes) × (source < length (now nodes)) × (target < length (now nodes)) ⌝ }
     requires { ⌜ (table-bytes ≤ length (now table)) × (length (now memory) ≡ memory-bytes) ⌝ }
     ensures { λ r. ⌜ WalkedAs (now (nodes .entry)) (now (sizes .entry)) source target (now (table .entry)) (now (table .exit)) r ⌝ }
 {
-    let mut line = [0u8; LINE];
-    let first = begin_walk(nodes, sizes, source, target, &mut line, memory);
-    let last = go_on(first, nodes, sizes, &mut line, memory);
+    let first = begin_walk(nodes, sizes, source, target, memory);
+    let last = go_on(first, nodes, sizes, memory);
     let walk = last.walk;
     let progress = last.progress;
     match progress {

@@ -1,12 +1,12 @@
 // The lines of the choices of an inequality.
-use crate::element::FIRST_ELEMENT;
-use crate::record::REDUCED;
-use crate::record::fill_exceeding;
-use crate::record::make_room;
-use crate::record::push_arguments;
-use crate::record::push_lexicographic;
-use crate::record::store;
 use format::limits::Limits;
+use lines::choices::fill_exceeding;
+use lines::choices::push_arguments;
+use lines::choices::push_lexicographic;
+use lines::edit::make_room;
+use lines::edit::store;
+use lines::layout::FIRST_ELEMENT;
+use lines::layout::REDUCED;
 ghost use mathlib.Core.Path.{_≡_};
 ghost use Rattle.walking.specs.Contracts.Splitting.{lesser, LastCount, TooLong, ChoicesFit, PushesChoices};
 

@@ -1,17 +1,17 @@
 // What an element asks for, seen through the bindings of its line.
-use crate::element::Element;
-use crate::element::Relation;
 use format::byte::wide;
+use format::limits::Limits;
+use lines::element::Element;
+use lines::element::Relation;
 use unifying::occurs::occurs_at;
-use unifying::reach::FIRST_VARIABLE;
 use unifying::reach::reached;
 ghost use mathlib.Core.Path.{_≡_};
 ghost use Prim.Native.Nat.{_<_};
 ghost use lib.ListN.{length};
 ghost use Rattle.solving.specs.Line.{greater};
-ghost use Rattle.solving.specs.Theory.Table.{Within};
-ghost use Rattle.unifying.specs.Contracts.Bound.{Readable};
-ghost use Rattle.walking.specs.Contracts.Stored.{meaning};
+ghost use Rattle.solving.specs.Contracts.Within.{Within};
+ghost use Rattle.unifying.specs.Contracts.Bindings.{Readable};
+ghost use Rattle.lines.specs.Contracts.Stored.{meaning};
 ghost use Rattle.walking.specs.Contracts.Treatment.{Treated};
 
 // Nothing, the line deleted, the element deleted, two positions unified, or choices: an inequality's positions and those reached from them.
@@ -38,15 +38,15 @@ fn inequality_treatment(
     let s = reached(nodes, sizes, bindings, p);
     let t = reached(nodes, sizes, bindings, q);
     let f = nodes[s];
-    if FIRST_VARIABLE <= f {
-        if occurs_at(nodes, sizes, bindings, wide(f - FIRST_VARIABLE), q) {
+    if Limits::FIRST_VARIABLE <= f {
+        if occurs_at(nodes, sizes, bindings, wide(f - Limits::FIRST_VARIABLE), q) {
             return Treatment::DropLine;
         }
         return Treatment::Reduced;
     }
     let g = nodes[t];
-    if FIRST_VARIABLE <= g {
-        if occurs_at(nodes, sizes, bindings, wide(g - FIRST_VARIABLE), p) {
+    if Limits::FIRST_VARIABLE <= g {
+        if occurs_at(nodes, sizes, bindings, wide(g - Limits::FIRST_VARIABLE), p) {
             return Treatment::DropElement;
         }
         return Treatment::Reduced;
@@ -61,7 +61,7 @@ pub fn treatment_of(nodes: &[u8], sizes: &[u8], bindings: &[u8], element: Elemen
 {
     let relation = element.relation;
     match relation {
-        Relation::Equal(p, q) => Treatment::Unify(wide(p), wide(q)),
         Relation::Greater(p, q) => inequality_treatment(nodes, sizes, bindings, wide(p), wide(q)),
+        Relation::Equal(p, q) => Treatment::Unify(wide(p), wide(q)),
     }
 }

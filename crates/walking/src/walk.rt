@@ -1,33 +1,43 @@
 // The walk's cursor and count, and its turns.
-use crate::finish::write_record;
-use crate::leftmost::find_leftmost;
-use crate::rebind::rebind;
-use crate::record::COUNT;
-use crate::record::LINE;
-use crate::record::load;
-use crate::record::make_room;
-use crate::record::store;
+//
+// The memory has a place for each line that a table may have. Finished lines' records stand from its front, unfinished lines as a stack from its back,
+// so that no line is ever moved for another:
+//
+//     0                 done * RECORD             top * LINE                       LINES * LINE
+//     +-------+-- ... --+-------------------------+----------+-- ... --+----------+
+//     | record|  record |          unused         |   first  |         |   last   |
+//     +-------+-- ... --+-------------------------+----------+-- ... --+----------+
+//      finished, in the table's order                unfinished, in the table's order
+//
+// A place holds a line as `lines::layout` lays it out: bindings, count, pairs of positions, filler, and last the count of elements known to be fully reduced.
+// A record is the line without that last byte, so that the records of finished lines never reach an unfinished one.
 use crate::split::last_count;
 use crate::split::push_choices;
 use crate::split::too_long;
 use crate::treat::Treatment;
+use crate::treat::treatment_of;
 use format::byte::wide;
 use format::limits::Limits;
 use format::refusal::Refusal;
+use lines::edit::load;
+use lines::element::element_at;
+use lines::layout::FIRST_ELEMENT;
+use lines::layout::LINE;
+use lines::line::Line;
+use lines::rebind::differ;
+use lines::rebind::rebind;
+use lines::record::write_record;
 use unifying::count::row_count;
 use unifying::unifier::unify_positions;
 use unifying::unify::Answer;
 ghost use mathlib.Core.Path.{_≡_};
 ghost use Prim.Native.Nat.{_+_, _<_};
-ghost use lib.ListN.{length};
-ghost use Rattle.format.specs.Limits.{max-lines};
-ghost use Rattle.walking.specs.declared.treat.Treatment.the-variants.{DropElement, DropLine, Reduced, Split, Unify};
+ghost use Rattle.format.specs.Limits.{max-lines, max-turns};
+ghost use Rattle.walking.specs.declared.treat.Treatment.the-variants.{DropElement, Reduced, Split, Unify};
 ghost use Rattle.walking.specs.declared.walk.Progress.the-variants.{Going};
-ghost use Rattle.walking.specs.Contracts.Place.{line-bytes};
-ghost use Rattle.walking.specs.Contracts.Walking.{Walking, Finishing, Treating, GoesOn, Advances};
+ghost use Rattle.walking.specs.Contracts.Walking.{Walking, Finishing, TreatingLine, TreatingCount, GoesOn, Advances};
 
 // Where the walk stands: the two sides' positions, how many lines are finished, the place of the first unfinished line, and how many turns are taken.
-// Finished lines' records stand from the front of the memory, unfinished lines as a stack from the back, so that no line is ever moved for another.
 pub struct Walk {
     pub source: usize,
     pub target: usize,
@@ -48,12 +58,12 @@ pub struct Advanced {
 }
 
 impl Walk {
-    // The line is finished, which costs no turn: its record stands behind those of the others.
-    fn finish(self, nodes: &[u8], sizes: &[u8], line: &[u8], memory: &mut [u8]) -> Walk
-        requires { ⌜ Finishing (now nodes) (now sizes) (now line) (now memory) self ⌝ }
+    // The first unfinished line is finished, which costs no turn: its record stands behind those of the others.
+    fn finish(self, nodes: &[u8], sizes: &[u8], memory: &mut [u8]) -> Walk
+        requires { ⌜ Finishing (now nodes) (now sizes) (now memory) self ⌝ }
         ensures { λ r. ⌜ GoesOn (now (nodes .entry)) (now (sizes .entry)) (now (memory .exit)) self r ⌝ }
     {
-        write_record(line, memory, self.done * Limits::RECORD);
+        write_record(memory, self.top * LINE, self.done * Limits::RECORD);
         Walk {
             source: self.source,
             target: self.target,
@@ -65,7 +75,7 @@ impl Walk {
 
     // A turn after which the first unfinished line is at `top`.
     fn turned(self, top: usize) -> Walk
-        requires { ⌜ self .turns < 10000 ⌝ }
+        requires { ⌜ self .turns < max-turns ⌝ }
         ensures { λ r. ⌜ r ≡ record { source = self .source; target = self .target; done = self .done; top = top; turns = self .turns + 1 } ⌝ }
     {
         Walk {
@@ -80,52 +90,55 @@ impl Walk {
     // "delete the element"
     fn drop_element(
         self,
+        line: Line,
         nodes: &[u8],
         sizes: &[u8],
-        line: &mut [u8],
         memory: &mut [u8],
         at: usize,
     ) -> Walk
-        requires { ⌜ Treating (now nodes) (now sizes) (now line) (now memory) self at DropElement ⌝ }
+        requires { ⌜ TreatingLine (now nodes) (now sizes) (now memory) self line at DropElement × (self .turns < max-turns) ⌝ }
         ensures { λ r. ⌜ GoesOn (now (nodes .entry)) (now (sizes .entry)) (now (memory .exit)) self r ⌝ }
     {
-        make_room(line, at, 0);
-        store(line, memory, self.top * LINE);
+        line.put_without(memory, self.top * LINE, at);
         self.turned(self.top)
     }
 
-    // "Failure deletes the line, success the element."
+    // "Failure deletes the line, success the element." Bindings that did not change leave known what is fully reduced.
     fn unify(
         self,
+        line: Line,
         nodes: &[u8],
         sizes: &[u8],
-        line: &mut [u8],
         memory: &mut [u8],
         at: usize,
         p: usize,
         q: usize,
     ) -> Walk
-        requires { ⌜ Treating (now nodes) (now sizes) (now line) (now memory) self at (Unify p q) ⌝ }
+        requires { ⌜ TreatingLine (now nodes) (now sizes) (now memory) self line at (Unify p q) × (self .turns < max-turns) ⌝ }
         ensures { λ r. ⌜ GoesOn (now (nodes .entry)) (now (sizes .entry)) (now (memory .exit)) self r ⌝ }
     {
-        let unifier = unify_positions(nodes, sizes, &line[..8], p, q);
+        let place = self.top * LINE;
+        let bindings = line.bindings;
+        let unifier = unify_positions(nodes, sizes, &bindings, p, q);
         let answer = unifier.answer;
         let Answer::Unified = answer else {
             return self.turned(self.top + 1);
         };
-        let bindings = unifier.bindings;
-        make_room(line, at, 0);
-        rebind(line, &bindings);
-        store(line, memory, self.top * LINE);
+        line.put_without(memory, place, at);
+        let others = unifier.bindings;
+        if differ(&bindings, &others) {
+            rebind(memory, place, &others);
+            return self.turned(self.top);
+        }
         self.turned(self.top)
     }
 
     // "the line is replaced, in its place, by one line per choice"
     fn split(
         self,
+        count: usize,
         nodes: &[u8],
         sizes: &[u8],
-        line: &mut [u8],
         memory: &mut [u8],
         at: usize,
         p: usize,
@@ -133,7 +146,7 @@ impl Walk {
         s: usize,
         t: usize,
     ) -> Advanced
-        requires { ⌜ Treating (now nodes) (now sizes) (now line) (now memory) self at (Split p q s t) ⌝ }
+        requires { ⌜ TreatingCount (now nodes) (now sizes) (now memory) self count at (Split p q s t) ⌝ }
         ensures { λ r. ⌜ Advances (now (nodes .entry)) (now (sizes .entry)) (now (memory .exit)) self r ⌝ }
     {
         let f = nodes[s];
@@ -143,7 +156,7 @@ impl Walk {
         let left = row_count(sizes, s + 1, m);
         let right = row_count(sizes, t + 1, n);
         let last = last_count(f, g, left, right);
-        if too_long(last, wide(line[COUNT]) - 1 + right) {
+        if too_long(last, count - 1 + right) {
             return Advanced {
                 progress: Progress::Refused(Refusal::TooManyElements),
                 walk: self,
@@ -157,9 +170,11 @@ impl Walk {
             };
         }
         let first = self.top + 1 - choices;
+        let mut line = [Limits::NO_POSITION; LINE];
+        load(memory, self.top * LINE, &mut line);
         push_choices(
             sizes,
-            line,
+            &mut line,
             memory,
             at,
             p as u8,
@@ -181,50 +196,70 @@ impl Walk {
         }
     }
 
-    // Does what the element asks for.
+    // Does what element number `element` asks for, which is one turn.
     fn treat(
         self,
+        line: Line,
         nodes: &[u8],
         sizes: &[u8],
-        line: &mut [u8],
         memory: &mut [u8],
-        at: usize,
+        element: u8,
         treatment: Treatment,
     ) -> Advanced
-        requires { ⌜ Treating (now nodes) (now sizes) (now line) (now memory) self at treatment × (treatment ≡ Reduced → ⊥) ⌝ }
+        requires { ⌜ TreatingLine (now nodes) (now sizes) (now memory) self line element treatment × (treatment ≡ Reduced → ⊥) ⌝ }
         ensures { λ r. ⌜ Advances (now (nodes .entry)) (now (sizes .entry)) (now (memory .exit)) self r ⌝ }
     {
-        match treatment {
-            Treatment::Reduced => Advanced {
-                progress: Progress::Going,
+        if self.turns == Limits::TURNS {
+            return Advanced {
+                progress: Progress::Refused(Refusal::TooManyTurns),
                 walk: self,
-            },
+            };
+        }
+        let at = wide(element);
+        match treatment {
+            Treatment::Reduced => going(self),
             Treatment::DropLine => going(self.turned(self.top + 1)),
-            Treatment::DropElement => going(self.drop_element(nodes, sizes, line, memory, at)),
-            Treatment::Unify(p, q) => going(self.unify(nodes, sizes, line, memory, at, p, q)),
-            Treatment::Split(p, q, s, t) => self.split(nodes, sizes, line, memory, at, p, q, s, t),
+            Treatment::DropElement => going(self.drop_element(line, nodes, sizes, memory, at)),
+            Treatment::Unify(p, q) => going(self.unify(line, nodes, sizes, memory, at, p, q)),
+            Treatment::Split(p, q, s, t) => self.split(
+                line.count,
+                nodes,
+                sizes,
+                memory,
+                at,
+                p,
+                q,
+                s,
+                t,
+            ),
         }
     }
 
     // "Take the first unfinished line and in it the leftmost element that is not fully reduced. Treating it is one turn." A line that has none is finished.
-    pub fn turn(self, nodes: &[u8], sizes: &[u8], line: &mut [u8], memory: &mut [u8]) -> Advanced
-        requires { ⌜ Walking (now nodes) (now sizes) (now memory) self ⌝ }
-        requires { ⌜ (self .top < max-lines) × (length (now line) ≡ line-bytes) ⌝ }
+    // The line is filled and searched here, where it is a local: handed to a function it would be copied before each search.
+    pub fn turn(self, nodes: &[u8], sizes: &[u8], memory: &mut [u8]) -> Advanced
+        requires { ⌜ Walking (now nodes) (now sizes) (now memory) self × (self .top < max-lines) ⌝ }
         ensures { λ r. ⌜ Advances (now (nodes .entry)) (now (sizes .entry)) (now (memory .exit)) self r ⌝ }
     {
-        load(memory, self.top * LINE, line);
-        let found = find_leftmost(nodes, sizes, line);
-        let treatment = found.treatment;
-        let Treatment::Reduced = treatment else {
-            if self.turns == Limits::TURNS {
-                return Advanced {
-                    progress: Progress::Refused(Refusal::TooManyTurns),
-                    walk: self,
-                };
-            }
-            return self.treat(nodes, sizes, line, memory, found.at, treatment);
-        };
-        going(self.finish(nodes, sizes, line, memory))
+        let place = self.top * LINE;
+        let mut line = Line::head(memory, place);
+        let bindings = line.bindings;
+        let count = line.count;
+        let mut i = line.reduced;
+        while i < count {
+            line.elements[i] = element_at(memory, place + FIRST_ELEMENT + 2 * i);
+            i = i + 1;
+        }
+        i = line.reduced;
+        while i < count {
+            let element = line.elements[i];
+            let treatment = treatment_of(nodes, sizes, &bindings, element);
+            let Treatment::Reduced = treatment else {
+                return self.treat(line, nodes, sizes, memory, i as u8, treatment);
+            };
+            i = i + 1;
+        }
+        going(self.finish(nodes, sizes, memory))
     }
 }
 

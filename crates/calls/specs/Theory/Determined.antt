@@ -1,14 +1,14 @@
 -- The bytes of records determine the lines.
-use Prim.Native.Nat.{ℕ, suc, _+_, _*_, _-_, _≤_, _<_}
+use Prim.Native.Nat.{ℕ, _*_, _-_, _≤_}
 use mathlib.Core.Path.{_≡_, refl, sym, ap, _∙_}
 use mathlib.Core.Option.{none, some}
 use mathlib.Core.List.{List, [], _∷_, _++_, map, append-assoc}
 use lib.ListN.{length, replicate, length-append, length-map, length-replicate}
 use native.Mathlib.Omega.{arith}
-use Rattle.format.specs.Limits.{variable-count, position-count, max-elements, record-bytes}
+use Rattle.format.specs.Limits.{variable-count, max-elements, no-position, record-bytes}
 use Rattle.solving.specs.Line.{Bindings, Element, equal, greater, Line, line, binding-byte, element-bytes, record-of, records}
 use Rattle.solving.specs.Theory.Records.{length-element-bytes}
-use Rattle.calls.specs.Demands.{BoundToPositions, Inequalities, Recorded}
+use Rattle.calls.specs.Demands.{BoundToPositions, BetweenPositions, Recorded}
 
 -- Two lists that are equal, taken apart at the same place.
 first-same : (a b c d : List ℕ) → length a ≡ length b → a ++ c ≡ b ++ d → a ≡ b
@@ -33,15 +33,15 @@ bindings-same [] [] h k e = refl
 bindings-same [] (o ∷ η) h k e = let z : _≡_ {A = ℕ} 0 1 = cc in absurd (omega arith)
 bindings-same (o ∷ θ) [] h k e = let z : _≡_ {A = ℕ} 0 1 = cc in absurd (omega arith)
 bindings-same (none ∷ θ) (none ∷ η) h k e = let t : map binding-byte θ ≡ map binding-byte η = cc in ap (none ∷_) (bindings-same θ η h k t)
-bindings-same (none ∷ θ) (some q ∷ η) h k e = let x : 0xff ≡ q = cc in absurd (omega (arith, k .0))
-bindings-same (some p ∷ θ) (none ∷ η) h k e = let x : p ≡ 0xff = cc in absurd (omega (arith, h .0))
+bindings-same (none ∷ θ) (some q ∷ η) h k e = let x : no-position ≡ q = cc in absurd (omega (arith, k .0))
+bindings-same (some p ∷ θ) (none ∷ η) h k e = let x : p ≡ no-position = cc in absurd (omega (arith, h .0))
 bindings-same (some p ∷ θ) (some q ∷ η) h k e =
     let x : p ≡ q = cc in
     let t : map binding-byte θ ≡ map binding-byte η = cc in
     let r = bindings-same θ η (h .1) (k .1) t in
     cc
 
-elements-same : (es fs : List Element) → Inequalities es → Inequalities fs → element-bytes es ≡ element-bytes fs → es ≡ fs
+elements-same : (es fs : List Element) → BetweenPositions es → BetweenPositions fs → element-bytes es ≡ element-bytes fs → es ≡ fs
 unfolding element-bytes
 elements-same [] [] h k e = refl
 elements-same [] (equal p q ∷ fs) h k e = absurd k
@@ -57,7 +57,7 @@ elements-same (greater p q ∷ es) (greater r s ∷ fs) h k e =
     cc
 
 abbrev padding : List Element → List ℕ
-padding es = replicate (2 * (max-elements - length es)) 0xff
+padding es = replicate (2 * (max-elements - length es)) no-position
 
 record-parts : (θ : Bindings) (es : List Element) → record-of (line θ es) ≡ map binding-byte θ ++ (length es ∷ (element-bytes es ++ padding es))
 unfolding record-of

@@ -1,26 +1,20 @@
 -- Demand 3 for runs, over what run gives.
-use Prim.Native.Nat.{ℕ, _≤_}
-use mathlib.Core.Path.{_≡_, refl, sym, ap, subst, _∙_}
-use mathlib.Core.Logic.{_⊎_, inl, inr}
+use Prim.Native.Nat.{ℕ}
+use mathlib.Core.Path.{_≡_, refl, sym, ap, subst}
+use mathlib.Core.Logic.{inl, inr}
 use mathlib.Core.Bool.{Bool, true, false}
 use mathlib.Core.Option.{Option, none, some}
 use mathlib.Core.List.{List}
-use lib.ListN.{length}
 use native.Mathlib.Omega.{arith}
-use Rattle.format.specs.Refusal.{number}
-use Rattle.format.specs.declared.refusal.Refusal.{Refusal}
 use Rattle.format.specs.declared.refusal.Refusal.the-variants.{ShortBuffer as short-buffer, AbsentArgument as absent-argument}
 use Rattle.format.specs.Lists.{entry}
-use Rattle.terms.specs.Term.{Term, size}
-use Rattle.terms.specs.Equation.{Equation}
 use Rattle.sheet.specs.Sheet.{Task, run as run-task, judgement, comparison, Sheet}
 use Rattle.sheet.specs.Reading.{Reading, refused-at, accepted, read}
-use Rattle.reducing.specs.Run.{Run, ending-number, last-term}
-use Rattle.reducing.specs.Test.{line-run, reference-run, EverySolves}
+use Rattle.reducing.specs.Test.{reference-run, EverySolves}
 use Rattle.reducing.specs.Theory.Reference.{run-is-reference-run, run-descending}
-use Rattle.outcomes.specs.Buffer.{fields, refusal-number, refusal-byte}
+use Rattle.outcomes.specs.Buffer.{refusal-byte}
 use Rattle.outcomes.specs.Asked.{found, find, asked, Reduction, reduction-in, reduction-task, WalkRefusal, first-refusal}
-use Rattle.outcomes.specs.Outcome.{RunOutcome, run-fits, run-done, run-walked, run-answer, run-call}
+use Rattle.outcomes.specs.Outcome.{run-fits, run-done, run-walked, run-answer, run-call}
 use Rattle.outcomes.specs.Theory.Number.{fields-byte, refused-byte, refused-not-zero}
 use Rattle.calls.specs.Demands.{RunNamed, RunDemand, RunsDemanded, ServedOrHost, RunRefusedByHost}
 use Rattle.calls.specs.Theory.Walks.{accepted-limits, none-refused, every-solves}

@@ -1,37 +1,32 @@
 -- Demands 2 and 3 for tables, over what solve gives.
 use Prim.Native.Nat.{ℕ, zero, suc, _≤_, _<_}
-use mathlib.Core.Path.{_≡_, refl, sym, ap, _∙_}
-use mathlib.Core.Logic.{_⊎_, inl, inr, _↔_}
+use mathlib.Core.Path.{_≡_, refl, ap}
+use mathlib.Core.Logic.{inl, inr}
 use mathlib.Core.Bool.{Bool, true, false}
 use mathlib.Core.Option.{Option, none, some}
 use mathlib.Core.List.{List, [], _∷_}
-use lib.ListN.{length, drop}
+use lib.ListN.{length}
 use native.Mathlib.Omega.{arith}
-use Rattle.format.specs.Limits.{position-count, table-bytes, scratch-bytes}
-use Rattle.format.specs.Refusal.{number}
-use Rattle.format.specs.declared.refusal.Refusal.{Refusal}
+use Rattle.format.specs.Limits.{position-count}
 use Rattle.format.specs.declared.refusal.Refusal.the-variants.{ShortBuffer as short-buffer, AbsentArgument as absent-argument}
 use Rattle.format.specs.Buffer.{written}
 use Rattle.format.specs.Lists.{entry}
 use Rattle.format.specs.Theory.Lists.{every-entry}
-use Rattle.terms.specs.Term.{Term, Values, inst}
-use Rattle.terms.specs.Equation.{Equation, Direction, direction-of, source, target, value}
+use Rattle.terms.specs.Equation.{Equation, Direction, direction-of}
 use Rattle.terms.specs.Theory.Limits.{WithinLimits, positions-few}
-use Rattle.ordering.specs.Order.{_≻_}
 use Rattle.sheet.specs.Sheet.{Sheet}
 use Rattle.sheet.specs.Reading.{Reading, refused-at, accepted, read}
 use Rattle.sheet.specs.Contracts.Valid.{ValidEquation}
 use Rattle.sheet.specs.Theory.Accepted.{accepted-valid}
 use Rattle.solving.specs.Line.{Bindings, lookup, Element, equal, greater, Line, line, records}
 use Rattle.solving.specs.Walk.{Walked, solved, refused, solve}
-use Rattle.solving.specs.Holds.{SomeLineHolds}
-use Rattle.solving.specs.Theory.Table.{AllWithin}
-use Rattle.solving.specs.Theory.Written.{Inequalities as All-inequalities, WrittenLines}
+use Rattle.solving.specs.Contracts.Within.{AllWithin}
+use Rattle.solving.specs.Theory.Written.{Inequalities, WrittenLines}
 use Rattle.solving.specs.Theory.Solve.{solve-exact, solved-lines}
-use Rattle.outcomes.specs.Buffer.{fields, refusal-number, refusal-byte, cleared}
+use Rattle.outcomes.specs.Buffer.{fields, refusal-byte, cleared}
 use Rattle.outcomes.specs.Asked.{found, find, asked, Directed, directed-in, solve-directed}
-use Rattle.outcomes.specs.Outcome.{TableOutcome, table-fits, table-unsolved, solve-walked, solve-answer, solve-call}
-use Rattle.calls.specs.Demands.{DirectionNamed, BoundToPositions, Inequalities, Recorded, TableDemand, TablesDemanded, ServedOrHost, SolveRefusedByHost}
+use Rattle.outcomes.specs.Outcome.{table-fits, table-unsolved, solve-walked, solve-answer, solve-call}
+use Rattle.calls.specs.Demands.{DirectionNamed, BoundToPositions, BetweenPositions, Recorded, TableDemand, TablesDemanded, ServedOrHost, SolveRefusedByHost}
 use Rattle.calls.specs.Theory.Determined.{records-determine}
 use Rattle.outcomes.specs.Theory.Number.{fields-byte, refused-byte, refused-not-zero}
 
@@ -71,7 +66,7 @@ bound-below l [] h = tt
 bound-below l (none ∷ θ) h = bound-below l θ (λ v p e. h (suc v) p e)
 bound-below l (some q ∷ θ) h = (omega (arith, h zero q refl), bound-below l θ (λ v p e. h (suc v) p e))
 
-elements-below : {n : ℕ} → n ≤ position-count → (es : List Element) → AllWithin n es → All-inequalities es → Inequalities es
+elements-below : {n : ℕ} → n ≤ position-count → (es : List Element) → AllWithin n es → Inequalities es → BetweenPositions es
 elements-below l [] h k = tt
 elements-below l (equal p q ∷ es) h k = absurd (k .0)
 elements-below l (greater p q ∷ es) h k = let (a, b) = h .0 in (omega arith, omega arith, elements-below l es (h .1) (k .1))

@@ -1,5 +1,5 @@
 -- Demand 2 for verdicts, over what compare gives.
-use Prim.Native.Nat.{ℕ, _+_, _*_, _^_}
+use Prim.Native.Nat.{ℕ}
 use mathlib.Core.Path.{_≡_, refl, sym, ap, _∙_}
 use mathlib.Core.Logic.{_↔_}
 use mathlib.Core.Bool.{Bool, true, false}
@@ -12,9 +12,9 @@ use Rattle.format.specs.Limits.{scratch-bytes}
 use Rattle.format.specs.declared.refusal.Refusal.the-variants.{ShortBuffer as short-buffer}
 use Rattle.format.specs.Lists.{entry}
 use Rattle.format.specs.Theory.Lists.{every-entry}
-use Rattle.terms.specs.Term.{Term}
-use Rattle.ordering.specs.Order.{_≻_}
-use Rattle.ordering.specs.Verdict.{Verdict, smaller, equal, greater, verdict, verdict-number}
+use Rattle.ordering.specs.declared.verdict.Verdict.{Verdict}
+use Rattle.ordering.specs.declared.verdict.Verdict.the-variants.{Smaller as smaller, Equal as equal, Greater as greater}
+use Rattle.ordering.specs.Verdict.{verdict, verdict-number}
 use Rattle.ordering.specs.Theory.Total.{Says, verdict-exact}
 use Rattle.sheet.specs.Sheet.{Task, run, judgement, comparison, Sheet}
 use Rattle.sheet.specs.Reading.{Reading, refused-at, accepted, read}

@@ -4,13 +4,11 @@ use mathlib.Core.Path.{_≡_, refl, ap, _∙_}
 use mathlib.Core.Option.{Option, none, some}
 use mathlib.Core.List.{List, [], _∷_}
 use native.Mathlib.Omega.{arith}
-use Rattle.format.specs.declared.refusal.Refusal.{Refusal}
 use Rattle.format.specs.Theory.Lists.{Every, every-map}
 use Rattle.terms.specs.Equation.{Equation, Direction, left-right, right-left}
 use Rattle.terms.specs.Theory.Limits.{WithinLimits}
 use Rattle.sheet.specs.Sheet.{Sheet}
 use Rattle.sheet.specs.Reading.{accepted, read}
-use Rattle.sheet.specs.Contracts.Valid.{ValidEquation}
 use Rattle.sheet.specs.Theory.Accepted.{accepted-valid}
 use Rattle.solving.specs.Walk.{Walked, solved, refused, solve, Solves}
 use Rattle.reducing.specs.Test.{EverySolves}

@@ -1,45 +1,60 @@
 -- What the functions of the comparison ask and answer, each in terms of the terms that its nodes stand for.
-use Prim.Native.Nat.{ℕ, _-_}
+use Prim.Native.Nat.{ℕ, _≤_, _<_}
 use mathlib.Core.Path.{_≡_}
 use mathlib.Core.Logic.{_↔_}
 use mathlib.Core.Bool.{Bool, true, false}
 use mathlib.Core.List.{List}
-use lib.ListN.{getD}
-use lib.Dec.{ltb}
-use Rattle.format.specs.Limits.{first-variable}
-use Rattle.terms.specs.Term.{Term, Terms}
-use Rattle.ordering.specs.Order.{SomeReaches, ExceedsAll}
-use Rattle.ordering.specs.Verdict.{smaller, greater, verdict, verdict-number}
+use Rattle.format.specs.Limits.{position-count}
+use Rattle.terms.specs.Term.{Term, Terms, size, sizes}
+use Rattle.terms.specs.declared.arguments.Arguments.{Arguments}
+use Rattle.ordering.specs.Order.{_≻_, SomeReaches, ExceedsAll}
+use Rattle.ordering.specs.declared.verdict.Verdict.{Verdict}
+use Rattle.ordering.specs.declared.verdict.Verdict.the-variants.{Smaller as smaller, Equal as equal, Greater as greater}
+use Rattle.ordering.specs.Verdict.{verdict}
+use Rattle.comparing.specs.declared.comparison.Difference.{Difference}
 use Rattle.comparing.specs.Contracts.Nodes.{TermAt, TermsAt}
 
--- The node that stands for the same term as node `i` and is no variable.
-unfoldable pub resolved : (nodes values : List ℕ) → ℕ → ℕ
-resolved nodes values i = elim (ltb (getD nodes i 0) first-variable) [ true ↦ i | false ↦ getD values (getD nodes i 0 - first-variable) 0 ]
+-- The verdict of two terms that are not equal, by whether the first is greater.
+unfoldable pub greater-if : Bool → Verdict
+greater-if true = greater
+greater-if false = smaller
 
--- The verdict's number of two terms that are not equal, by whether the first is greater.
-unfoldable pub greater-if : Bool → ℕ
-unfolding verdict-number
-greater-if true = verdict-number greater
-greater-if false = verdict-number smaller
+-- What is left to ask of s and t, whose symbols are the same, by the verdict of their first arguments that differ: `ss` and `ts` are the arguments behind those.
+abbrev pub LeftToAsk : Verdict → (s t : Term) (ss ts : Terms) → Type 0
+LeftToAsk smaller s t ss ts = (¬ (s ≡ t)) × ((s ≻ t) ↔ SomeReaches ss t)
+LeftToAsk equal s t ss ts = s ≡ t
+LeftToAsk greater s t ss ts = (¬ (s ≡ t)) × ((s ≻ t) ↔ ExceedsAll s ts)
 
 module _ (nodes lengths values : List ℕ) where
-  -- Some term stands at node `i`; some terms stand in the row from `k` to `end`.
+  -- Some term stands at node `i`; some terms stand in the row.
   pub record HasTerm (i : ℕ) : Type 0 where
     pub term : Term
-    pub stands : TermAt nodes lengths values i term
+    pub denotes : TermAt nodes lengths values i term
 
-  pub record HasTerms (k end : ℕ) : Type 0 where
+  pub record HasTerms (row : Arguments) : Type 0 where
     pub terms : Terms
-    pub stand : TermsAt nodes lengths values k end terms
+    pub denote : TermsAt nodes lengths values (row .from) (row .end) terms
 
-  -- "Compare: 0 smaller, 1 equal, 2 greater."
-  pub record Compares (i j r : ℕ) : Type 0 where
-    pub number : (s t : Term) → TermAt nodes lengths values i s → TermAt nodes lengths values j t → r ≡ verdict-number (verdict s t)
+  -- Some of a term's arguments stand in the row.
+  pub record HasArguments (i : ℕ) (row : Arguments) : Type 0 where
+    pub here : HasTerm i
+    pub those : HasTerms row
+    pub fewer : sizes (those .terms) < size (here .term)
+
+  pub record Compares (i j : ℕ) (r : Verdict) : Type 0 where
+    pub is : (s t : Term) → TermAt nodes lengths values i s → TermAt nodes lengths values j t → r ≡ verdict s t
 
   -- L1: "some si > t or si = t"
-  pub record FindsReaching (k end j : ℕ) (r : Bool) : Type 0 where
-    pub tells : (ss : Terms) (t : Term) → TermsAt nodes lengths values k end ss → TermAt nodes lengths values j t → (r ≡ true) ↔ SomeReaches ss t
+  pub record FindsReaching (row : Arguments) (j : ℕ) (r : Bool) : Type 0 where
+    pub tells : (ss : Terms) (t : Term) → TermsAt nodes lengths values (row .from) (row .end) ss → TermAt nodes lengths values j t → (r ≡ true) ↔ SomeReaches ss t
 
   -- L2: "s > tj for every j"
-  pub record ComparesWithAll (i k end : ℕ) (r : Bool) : Type 0 where
-    pub tells : (s : Term) (ts : Terms) → TermAt nodes lengths values i s → TermsAt nodes lengths values k end ts → (r ≡ true) ↔ ExceedsAll s ts
+  pub record ComparesWithAll (i : ℕ) (row : Arguments) (r : Bool) : Type 0 where
+    pub tells : (s : Term) (ts : Terms) → TermAt nodes lengths values i s → TermsAt nodes lengths values (row .from) (row .end) ts → (r ≡ true) ↔ ExceedsAll s ts
+
+  -- L3: "f = g and for some k, si = ti for i < k"
+  pub record FindsDifference (i j : ℕ) (d : Difference) : Type 0 where
+    pub first : HasArguments i (d .first)
+    pub second : HasArguments j (d .second)
+    pub second-low : position-count ≤ d .second .from
+    pub left : LeftToAsk (d .verdict) (first .here .term) (second .here .term) (first .those .terms) (second .those .terms)

@@ -5,62 +5,61 @@ use mathlib.Core.List.{List}
 use native.Mathlib.Omega.{arith}
 use lib.ListN.{getD}
 use Rattle.format.specs.Limits.{max-symbols, first-variable, variable-count, node-count}
-use Rattle.format.specs.declared.byte.Class.the-variants.{Symbol as symbol, Variable as variable}
 use Rattle.format.specs.Theory.Byte.{class-symbol, class-variable}
 use Rattle.terms.specs.Term.{Term, Terms, app, nil, cons, size, sizes}
-use Rattle.comparing.specs.Contracts.Nodes.{Stands, symbol-node, variable-node, StandInRow, none, more, GroundAt, ValueOf, TermAt, TermsAt}
+use Rattle.comparing.specs.Contracts.Nodes.{Denotes, symbol-node, variable-node, RowDenotes, none, more, GroundAt, ValueOf, TermAt, TermsAt}
 
 module _ {nodes lengths : List ℕ} {Value : ℕ → Term → Type 0} where
   -- A term stands within the nodes, and has a node; a row ends where its last term ends.
-  pub within : {i : ℕ} {t : Term} → Stands nodes lengths Value i t → i < node-count
+  pub within : {i : ℕ} {t : Term} → Denotes nodes lengths Value i t → i < node-count
   within (symbol-node h c r) = h
   within (variable-node h c o x) = h
 
   mutual
-    pub some-node : {i : ℕ} {t : Term} → Stands nodes lengths Value i t → 1 ≤ getD lengths i 0
+    pub some-node : {i : ℕ} {t : Term} → Denotes nodes lengths Value i t → 1 ≤ getD lengths i 0
     some-node (symbol-node h c r) = omega (arith, row-ordered r)
     some-node (variable-node h c o x) = omega arith
 
-    pub row-ordered : {k end : ℕ} {ts : Terms} → StandInRow nodes lengths Value k end ts → k ≤ end
+    pub row-ordered : {k end : ℕ} {ts : Terms} → RowDenotes nodes lengths Value k end ts → k ≤ end
     row-ordered (none e) = omega arith
     row-ordered (more s r) = omega (arith, row-ordered r)
 
   mutual
-    pub ends-within : {i : ℕ} {t : Term} → Stands nodes lengths Value i t → i + getD lengths i 0 ≤ node-count
+    pub ends-within : {i : ℕ} {t : Term} → Denotes nodes lengths Value i t → i + getD lengths i 0 ≤ node-count
     ends-within (symbol-node h c r) = row-ends-within r (omega arith)
     ends-within (variable-node h c o x) = omega arith
 
-    pub row-ends-within : {k end : ℕ} {ts : Terms} → StandInRow nodes lengths Value k end ts → k ≤ node-count → end ≤ node-count
+    pub row-ends-within : {k end : ℕ} {ts : Terms} → RowDenotes nodes lengths Value k end ts → k ≤ node-count → end ≤ node-count
     row-ends-within (none e) h = omega arith
     row-ends-within (more s r) h = row-ends-within r (ends-within s)
 
 -- A row that is not at its end has a first term; at its end it has none.
-pub record First (nodes lengths : List ℕ) (Value : ℕ → Term → Type 0) (k end : ℕ) (ts : Terms) : Type 0 where
+pub record FirstOfRow (nodes lengths : List ℕ) (Value : ℕ → Term → Type 0) (k end : ℕ) (ts : Terms) : Type 0 where
   pub first : Term
   pub others : Terms
   pub are : ts ≡ cons first others
-  pub stands : Stands nodes lengths Value k first
-  pub row : StandInRow nodes lengths Value (k + getD lengths k 0) end others
+  pub denotes : Denotes nodes lengths Value k first
+  pub row : RowDenotes nodes lengths Value (k + getD lengths k 0) end others
 
 module _ {nodes lengths : List ℕ} {Value : ℕ → Term → Type 0} where
-  pub row-first : {k end : ℕ} {ts : Terms} → StandInRow nodes lengths Value k end ts → k < end → First nodes lengths Value k end ts
+  pub row-first : {k end : ℕ} {ts : Terms} → RowDenotes nodes lengths Value k end ts → k < end → FirstOfRow nodes lengths Value k end ts
   row-first (none e) h = absurd (omega arith)
-  row-first (more {t = t} {ts = ts} s r) h = record { first = t; others = ts; are = refl; stands = s; row = r }
+  row-first (more {t = t} {ts = ts} s r) h = record { first = t; others = ts; are = refl; denotes = s; row = r }
 
-  pub row-empty : {k end : ℕ} {ts : Terms} → StandInRow nodes lengths Value k end ts → end ≤ k → ts ≡ nil
+  pub row-empty : {k end : ℕ} {ts : Terms} → RowDenotes nodes lengths Value k end ts → end ≤ k → ts ≡ nil
   row-empty (none e) h = refl
   row-empty (more s r) h = absurd (omega (arith, some-node s, row-ordered r))
 
   -- A node stands for one term at most, if a variable has one value at most.
   module _ (once : (v : ℕ) (s t : Term) → Value v s → Value v t → s ≡ t) where
     mutual
-      pub unique : {i : ℕ} {s t : Term} → Stands nodes lengths Value i s → Stands nodes lengths Value i t → s ≡ t
+      pub unique : {i : ℕ} {s t : Term} → Denotes nodes lengths Value i s → Denotes nodes lengths Value i t → s ≡ t
       unique (symbol-node {f = f} h c r) (symbol-node {f = g} i d q) = let e : f ≡ g = cc in cc (row-unique r q)
       unique (symbol-node h c r) (variable-node i d o y) = let z : _≡_ {A = ℕ} 0 1 = cc in absurd (omega arith)
       unique (variable-node h c o x) (symbol-node i d q) = let z : _≡_ {A = ℕ} 0 1 = cc in absurd (omega arith)
       unique (variable-node {v = v} h c o x) (variable-node {v = w} i d p y) = let e : v ≡ w = cc in once w _ _ (rw e at x) y
 
-      pub row-unique : {k end : ℕ} {ss ts : Terms} → StandInRow nodes lengths Value k end ss → StandInRow nodes lengths Value k end ts → ss ≡ ts
+      pub row-unique : {k end : ℕ} {ss ts : Terms} → RowDenotes nodes lengths Value k end ss → RowDenotes nodes lengths Value k end ts → ss ≡ ts
       row-unique (none e) (none d) = refl
       row-unique (none e) (more s r) = absurd (omega (arith, some-node s, row-ordered r))
       row-unique (more s r) (none e) = absurd (omega (arith, some-node s, row-ordered r))
@@ -69,13 +68,13 @@ module _ {nodes lengths : List ℕ} {Value : ℕ → Term → Type 0} where
 -- A ground term stands whatever the variables stand for, and `lengths` has the number of its nodes.
 module _ {nodes lengths : List ℕ} where
   mutual
-    pub ground-stands : {Value : ℕ → Term → Type 0} {i : ℕ} {t : Term} → GroundAt nodes lengths i t → Stands nodes lengths Value i t
-    ground-stands (symbol-node h c r) = symbol-node h c (ground-row r)
-    ground-stands (variable-node h c o x) = absurd x
+    pub ground-denotes : {Value : ℕ → Term → Type 0} {i : ℕ} {t : Term} → GroundAt nodes lengths i t → Denotes nodes lengths Value i t
+    ground-denotes (symbol-node h c r) = symbol-node h c (ground-row r)
+    ground-denotes (variable-node h c o x) = absurd x
 
-    ground-row : {Value : ℕ → Term → Type 0} {k end : ℕ} {ts : Terms} → StandInRow nodes lengths (λ v t. ⊥) k end ts → StandInRow nodes lengths Value k end ts
+    ground-row : {Value : ℕ → Term → Type 0} {k end : ℕ} {ts : Terms} → RowDenotes nodes lengths (λ v t. ⊥) k end ts → RowDenotes nodes lengths Value k end ts
     ground-row (none e) = none e
-    ground-row (more s r) = more (ground-stands s) (ground-row r)
+    ground-row (more s r) = more (ground-denotes s) (ground-row r)
 
   mutual
     unfolding size
@@ -84,7 +83,7 @@ module _ {nodes lengths : List ℕ} where
     ground-size (symbol-node h c r) = omega (arith, ground-sizes r)
     ground-size (variable-node h c o x) = absurd x
 
-    ground-sizes : {k end : ℕ} {ts : Terms} → StandInRow nodes lengths (λ v t. ⊥) k end ts → k + sizes ts ≡ end
+    ground-sizes : {k end : ℕ} {ts : Terms} → RowDenotes nodes lengths (λ v t. ⊥) k end ts → k + sizes ts ≡ end
     ground-sizes (none e) = omega arith
     ground-sizes (more s r) = omega (arith, ground-size s, ground-sizes r)
 
@@ -94,9 +93,6 @@ module _ {nodes lengths values : List ℕ} where
 
   pub term-unique : {i : ℕ} {s t : Term} → TermAt nodes lengths values i s → TermAt nodes lengths values i t → s ≡ t
   term-unique a b = unique ground-once a b
-
-  pub terms-unique : {k end : ℕ} {ss ts : Terms} → TermsAt nodes lengths values k end ss → TermsAt nodes lengths values k end ts → ss ≡ ts
-  terms-unique a b = row-unique ground-once a b
 
 -- At a symbol stands the symbol with its arguments behind it; at a variable the value.
 pub record SymbolAt (nodes lengths values : List ℕ) (i : ℕ) (t : Term) : Type 0 where

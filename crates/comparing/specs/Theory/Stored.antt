@@ -4,8 +4,8 @@ use mathlib.Core.Path.{_≡_, refl, sym, ap, _∙_}
 use mathlib.Core.List.{List, _∷_, _++_, map, map-append, append-assoc}
 use native.Mathlib.Omega.{arith}
 use native.Mathlib.Decide.{decLt}
-use lib.ListN.{length, getD, take, drop, length-map}
-use lib.Seq.{length-take-le, drop-drop, drop-at, getD-drop}
+use lib.ListN.{length, getD, drop, length-map}
+use lib.Seq.{drop-drop, drop-at, getD-drop}
 use Rattle.format.specs.Limits.{max-symbols, node-count}
 use Rattle.format.specs.Byte.{class-of}
 use Rattle.format.specs.Theory.Byte.{symbol-class, variable-class}
@@ -15,47 +15,46 @@ use Rattle.terms.specs.Prefix.{prefix, prefixes}
 use Rattle.terms.specs.Theory.Limits.{VariablesBelow, AllVariablesBelow}
 use Rattle.terms.specs.Theory.Position.{length-subterms, subterm-first, subterm-rest}
 use Rattle.terms.specs.Theory.Prefix.{Fits, AllFit, grounds-fit, length-prefix}
-use Rattle.comparing.specs.Theory.Nodes.{ground-stands, ground-size}
-use Rattle.comparing.specs.Contracts.Nodes.{GroundAt, TermAt, Stands, symbol-node, variable-node, StandInRow, none, more}
+use Rattle.comparing.specs.Contracts.Nodes.{Denotes, symbol-node, variable-node, RowDenotes, none, more}
 
 -- From `i` on, `all` has the elements of `part`.
-pub record StoredAt (all : List ℕ) (i : ℕ) (part : List ℕ) : Type 0 where
+pub record PartAt (all : List ℕ) (i : ℕ) (part : List ℕ) : Type 0 where
   pub rest : List ℕ
   pub is : drop i all ≡ part ++ rest
 
 module _ {all : List ℕ} {i : ℕ} where
-  stored-head : {x : ℕ} {xs : List ℕ} → StoredAt all i (x ∷ xs) → getD all i 0 ≡ x
+  stored-head : {x : ℕ} {xs : List ℕ} → PartAt all i (x ∷ xs) → getD all i 0 ≡ x
   stored-head s =
       let e : i + 0 ≡ i = omega arith in
       ap (λ n. getD all n 0) (sym e) ∙ (sym (getD-drop i all 0 0) ∙ ap (λ l. getD l 0 0) (s .is))
 
-  stored-tail : {x : ℕ} {xs : List ℕ} → StoredAt all i (x ∷ xs) → StoredAt all (i + 1) xs
+  stored-tail : {x : ℕ} {xs : List ℕ} → PartAt all i (x ∷ xs) → PartAt all (i + 1) xs
   stored-tail s = record { rest = s .rest; is = sym (drop-drop 1 i all) ∙ ap (drop 1) (s .is) }
 
-  stored-first : (a b : List ℕ) → StoredAt all i (a ++ b) → StoredAt all i a
+  stored-first : (a b : List ℕ) → PartAt all i (a ++ b) → PartAt all i a
   stored-first a b s = record { rest = b ++ s .rest; is = s .is ∙ append-assoc a b (s .rest) }
 
-  stored-rest : (a b : List ℕ) (n : ℕ) → length a ≡ n → StoredAt all i (a ++ b) → StoredAt all (i + n) b
+  stored-rest : (a b : List ℕ) (n : ℕ) → length a ≡ n → PartAt all i (a ++ b) → PartAt all (i + n) b
   stored-rest a b n e s = record { rest = s .rest; is = sym (drop-drop n i all) ∙ (ap (drop n) (s .is ∙ append-assoc a b (s .rest)) ∙ drop-at a (b ++ s .rest) n e) }
 
 -- Terms over symbols with these arities, and values for their variables, numbered below `n`.
 module _ (arities : List ℕ) (known : length arities ≤ max-symbols) (nodes lengths : List ℕ) (Value : ℕ → Term → Type 0)
     (ρ : Values) (n : ℕ) (given : (v : ℕ) → v < n → Value v (ρ v)) where
-  pub record Stored (i : ℕ) (t : Term) : Type 0 where
+  pub record TermStored (i : ℕ) (t : Term) : Type 0 where
     pub fits : Fits arities t
     pub few : VariablesBelow n t
-    pub bytes : StoredAt nodes i (prefix t)
-    pub sizes-there : StoredAt lengths i (map size (subterms t))
+    pub bytes : PartAt nodes i (prefix t)
+    pub sizes-there : PartAt lengths i (map size (subterms t))
     pub within : i + size t ≤ node-count
 
-  pub record StoredRow (i : ℕ) (ts : Terms) : Type 0 where
+  pub record TermsStored (i : ℕ) (ts : Terms) : Type 0 where
     pub fit : AllFit arities ts
     pub few : AllVariablesBelow n ts
-    pub bytes : StoredAt nodes i (prefixes ts)
-    pub sizes-there : StoredAt lengths i (map size (subterms-of ts))
+    pub bytes : PartAt nodes i (prefixes ts)
+    pub sizes-there : PartAt lengths i (map size (subterms-of ts))
     pub within : i + sizes ts ≤ node-count
 
-  stored-arguments : {i f : ℕ} {ts : Terms} → Stored i (app f ts) → StoredRow (i + 1) ts
+  stored-arguments : {i f : ℕ} {ts : Terms} → TermStored i (app f ts) → TermsStored (i + 1) ts
   unfolding prefix subterms size
   stored-arguments {i} {f} {ts} s = record {
     fit = s .fits .2;
@@ -65,7 +64,7 @@ module _ (arities : List ℕ) (known : length arities ≤ max-symbols) (nodes le
     within = omega (arith, s .within);
   }
 
-  row-head : {i : ℕ} {t : Term} {ts : Terms} → StoredRow i (cons t ts) → Stored i t
+  row-head : {i : ℕ} {t : Term} {ts : Terms} → TermsStored i (cons t ts) → TermStored i t
   unfolding prefix subterms size
   row-head {i} {t} {ts} s = record {
     fits = s .fit .0;
@@ -75,7 +74,7 @@ module _ (arities : List ℕ) (known : length arities ≤ max-symbols) (nodes le
     within = omega (arith, s .within);
   }
 
-  row-tail : {i : ℕ} {t : Term} {ts : Terms} → StoredRow i (cons t ts) → StoredRow (i + size t) ts
+  row-tail : {i : ℕ} {t : Term} {ts : Terms} → TermsStored i (cons t ts) → TermsStored (i + size t) ts
   unfolding prefix subterms size
   row-tail {i} {t} {ts} s = record {
     fit = s .fit .1;
@@ -85,7 +84,7 @@ module _ (arities : List ℕ) (known : length arities ≤ max-symbols) (nodes le
     within = omega (arith, s .within);
   }
 
-  size-there : {i : ℕ} (t : Term) → Stored i t → getD lengths i 0 ≡ size t
+  size-there : {i : ℕ} (t : Term) → TermStored i t → getD lengths i 0 ≡ size t
   unfolding subterms
   size-there (var v) s = stored-head (s .sizes-there)
   size-there (app f ts) s = stored-head (s .sizes-there)
@@ -93,34 +92,34 @@ module _ (arities : List ℕ) (known : length arities ≤ max-symbols) (nodes le
   mutual
     unfolding prefix size inst
 
-    pub stored-stands : (t : Term) (i : ℕ) → Stored i t → Stands nodes lengths Value i (inst ρ t)
-    stored-stands (var v) i s =
+    pub stored-denotes : (t : Term) (i : ℕ) → TermStored i t → Denotes nodes lengths Value i (inst ρ t)
+    stored-denotes (var v) i s =
         let l : i < node-count = omega (arith, s .within) in
         variable-node l (ap class-of (stored-head (s .bytes)) ∙ variable-class v (s .fits)) (size-there (var v) s) (given v (s .few))
-    stored-stands (app f ts) i s =
+    stored-denotes (app f ts) i s =
         let e : i + getD lengths i 0 ≡ (i + 1) + sizes ts = omega (arith, size-there (app f ts) s) in
         let l : i < node-count = omega (arith, s .within) in
-        let r : StandInRow nodes lengths Value (i + 1) (i + getD lengths i 0) (insts ρ ts) = rw e (stored-row-stands ts (i + 1) (stored-arguments s)) in
+        let r : RowDenotes nodes lengths Value (i + 1) (i + getD lengths i 0) (insts ρ ts) = rw e (stored-row-denotes ts (i + 1) (stored-arguments s)) in
         symbol-node l (ap class-of (stored-head (s .bytes)) ∙ symbol-class f (omega (arith, s .fits .0))) r
 
-    pub stored-row-stands : (ts : Terms) (i : ℕ) → StoredRow i ts → StandInRow nodes lengths Value i (i + sizes ts) (insts ρ ts)
-    stored-row-stands nil i s = let e : i ≡ i + 0 = omega arith in none e
-    stored-row-stands (cons t ts) i s =
+    pub stored-row-denotes : (ts : Terms) (i : ℕ) → TermsStored i ts → RowDenotes nodes lengths Value i (i + sizes ts) (insts ρ ts)
+    stored-row-denotes nil i s = let e : i ≡ i + 0 = omega arith in none e
+    stored-row-denotes (cons t ts) i s =
         let e : i + (size t + sizes ts) ≡ (i + size t) + sizes ts = omega arith in
-        let r : StandInRow nodes lengths Value (i + getD lengths i 0) (i + (size t + sizes ts)) (insts ρ ts) = rw (size-there t (row-head s), e) (stored-row-stands ts (i + size t) (row-tail s)) in
-        more (stored-stands t i (row-head s)) r
+        let r : RowDenotes nodes lengths Value (i + getD lengths i 0) (i + (size t + sizes ts)) (insts ρ ts) = rw (size-there t (row-head s), e) (stored-row-denotes ts (i + size t) (row-tail s)) in
+        more (stored-denotes t i (row-head s)) r
 
   -- The subterm at a position.
   mutual
     unfolding size subterms
 
-    pub stored-subterm : (t : Term) (i p : ℕ) (d : Term) → Stored i t → p < size t → Stored (i + p) (getD (subterms t) p d)
+    pub stored-subterm : (t : Term) (i p : ℕ) (d : Term) → TermStored i t → p < size t → TermStored (i + p) (getD (subterms t) p d)
     stored-subterm (var v) i zero d s h = let e : i + 0 ≡ i = omega arith in rw e s
     stored-subterm (var v) i (suc p) d s h = absurd (omega arith)
     stored-subterm (app f ts) i zero d s h = let e : i + 0 ≡ i = omega arith in rw e s
     stored-subterm (app f ts) i (suc p) d s h = let e : i + suc p ≡ (i + 1) + p = omega arith in rw e (stored-row-subterm ts (i + 1) p d (stored-arguments s) (omega arith))
 
-    pub stored-row-subterm : (ts : Terms) (i p : ℕ) (d : Term) → StoredRow i ts → p < sizes ts → Stored (i + p) (getD (subterms-of ts) p d)
+    pub stored-row-subterm : (ts : Terms) (i p : ℕ) (d : Term) → TermsStored i ts → p < sizes ts → TermStored (i + p) (getD (subterms-of ts) p d)
     stored-row-subterm nil i p d s h = absurd (omega arith)
     stored-row-subterm (cons t ts) i p d s h =
         elim (decLt p (size t)) [
@@ -153,11 +152,11 @@ mutual
   grounds-no-variable arities (cons t ts) g = (ground-no-variable arities t (g .0), grounds-no-variable arities ts (g .1))
 
 -- Ground terms that are stored stand there.
-pub ground-row-stands : (arities : List ℕ) → length arities ≤ max-symbols → {nodes lengths : List ℕ} {i : ℕ} (ts : Terms) → Grounds arities ts
-    → StoredAt nodes i (prefixes ts) → StoredAt lengths i (map size (subterms-of ts)) → i + sizes ts ≤ node-count
-    → StandInRow nodes lengths (λ v t. ⊥) i (i + sizes ts) ts
-ground-row-stands arities known {nodes} {lengths} {i} ts g a b h =
-    let r = stored-row-stands arities known nodes lengths (λ v t. ⊥) var 0 (λ v l. absurd (omega arith)) ts i (record {
+pub ground-row-denotes : (arities : List ℕ) → length arities ≤ max-symbols → {nodes lengths : List ℕ} {i : ℕ} (ts : Terms) → Grounds arities ts
+    → PartAt nodes i (prefixes ts) → PartAt lengths i (map size (subterms-of ts)) → i + sizes ts ≤ node-count
+    → RowDenotes nodes lengths (λ v t. ⊥) i (i + sizes ts) ts
+ground-row-denotes arities known {nodes} {lengths} {i} ts g a b h =
+    let r = stored-row-denotes arities known nodes lengths (λ v t. ⊥) var 0 (λ v l. absurd (omega arith)) ts i (record {
       fit = grounds-fit arities ts g;
       few = grounds-no-variable arities ts g;
       bytes = a;
@@ -165,19 +164,3 @@ ground-row-stands arities known {nodes} {lengths} {i} ts g a b h =
       within = h;
     }) in
     rw (ground-insts arities var ts g) at r
-
--- Two ground terms to compare, one behind the other.
-two-in-row : {nodes lengths : List ℕ} {k end : ℕ} {s t : Term} → StandInRow nodes lengths (λ v u. ⊥) k end (cons s (cons t nil))
-    → GroundAt nodes lengths k s × GroundAt nodes lengths (k + getD lengths k 0) t
-two-in-row (more a (more b r)) = (a, b)
-
-pub two-stand : (arities : List ℕ) → length arities ≤ max-symbols → {nodes lengths : List ℕ} (values : List ℕ) {i : ℕ} (s t : Term) → Ground arities s → Ground arities t
-    → StoredAt nodes i (prefixes (cons s (cons t nil))) → StoredAt lengths i (map size (subterms-of (cons s (cons t nil)))) → i + sizes (cons s (cons t nil)) ≤ node-count
-    → TermAt nodes lengths values i s × TermAt nodes lengths values (i + size s) t
-two-stand arities known values s t g h a b l =
-    let (x, y) = two-in-row (ground-row-stands arities known (cons s (cons t nil)) (g, (h, tt)) a b l) in
-    (ground-stands x, ground-stands (rw (ground-size x) at y))
-
--- What `measure` leaves is stored.
-pub filled-stored : (before part after : List ℕ) (i : ℕ) {all : List ℕ} → i ≤ length before → all ≡ take i before ++ (part ++ after) → StoredAt all i part
-filled-stored before part after i h e = record { rest = after; is = ap (drop i) e ∙ drop-at (take i before) (part ++ after) i (length-take-le i before h) }

@@ -1,7 +1,6 @@
 -- What a verdict says of any two terms, ground or not.
-use Prim.Native.Nat.{ℕ, _≤_, _<_}
-use mathlib.Core.Path.{_≡_, refl, subst}
-use native.Mathlib.Decide.{ℕ-discrete}
+use Prim.Native.Nat.{_<_}
+use mathlib.Core.Path.{_≡_, refl, sym, subst, _∙_}
 use native.Mathlib.Omega.{arith}
 use Rattle.terms.specs.Term.{Term, Terms, cons, identical?}
 use Rattle.ordering.specs.Order.{_≻_, SomeReaches, here-equal, here-greater, there}
@@ -45,67 +44,53 @@ some-later m here-equal = absurd (m .0 refl)
 some-later m (here-greater g) = absurd (m .1 g)
 some-later m (there p) = p
 
--- From the verdict's number.
-module _ (s t : Term) {r : ℕ} (e : r ≡ verdict-number (verdict s t)) where
-  by-number : (v : Verdict) → ((w : Verdict) → r ≡ verdict-number w → w ≡ v) → Means v s t
-  by-number v k = subst (λ w. Means w s t) (k (verdict s t) e) (verdict-means s t)
+-- From the verdict.
+module _ (s t : Term) {r : Verdict} (e : r ≡ verdict s t) where
+  pub verdict-told : Means r s t
+  verdict-told = subst (λ v. Means v s t) (sym e) (verdict-means s t)
 
-  pub number-smaller : r < 1 → Means smaller s t
-  unfolding verdict-number
-  number-smaller h = by-number smaller go
-    where
-      go : (w : Verdict) → r ≡ verdict-number w → w ≡ smaller
-      go smaller d = refl
-      go equal d = absurd (omega arith)
-      go greater d = absurd (omega arith)
+  told-as : {v : Verdict} → r ≡ v → Means v s t
+  told-as d = subst (λ v. Means v s t) d verdict-told
 
-  pub number-equal : r ≡ 1 → s ≡ t
-  unfolding verdict-number
-  number-equal h = by-number equal go
-    where
-      go : (w : Verdict) → r ≡ verdict-number w → w ≡ equal
-      go smaller d = absurd (omega arith)
-      go equal d = refl
-      go greater d = absurd (omega arith)
+  pub told-smaller : r ≡ smaller → Means smaller s t
+  told-smaller d = told-as d
 
-  pub number-greater : 1 < r → s ≻ t
-  unfolding verdict-number
-  number-greater h = by-number greater go
-    where
-      go : (w : Verdict) → r ≡ verdict-number w → w ≡ greater
-      go smaller d = absurd (omega arith)
-      go equal d = absurd (omega arith)
-      go greater d = refl
+  pub told-equal : r ≡ equal → s ≡ t
+  told-equal d = told-as d
 
-  pub number-not-greater : r ≤ 1 → ¬ (s ≻ t)
-  number-not-greater h g = elim (ℕ-discrete r 1) [
-    | yes d ↦ ≻-irrefl (rw (number-equal d) at g)
-    | no d ↦ number-smaller (omega arith) .1 g
-  ]
+  pub told-greater : r ≡ greater → s ≻ t
+  told-greater d = told-as d
+
+  pub told-not-greater : ¬ (r ≡ greater) → ¬ (s ≻ t)
+  told-not-greater n g = n (e ∙ means-verdict s t greater g)
 
   -- L1: the first argument, or one of the others.
-  pub reaches-first : {ss : Terms} → 0 < r → SomeReaches (cons s ss) t
-  reaches-first h = elim (ℕ-discrete r 1) [
-    | yes d ↦ rw (number-equal d) here-equal
-    | no d ↦ here-greater (number-greater (omega arith))
-  ]
+  pub reaches-first : {ss : Terms} → ¬ (r ≡ smaller) → SomeReaches (cons s ss) t
+  reaches-first {ss} n = go r n verdict-told
+    where
+      go : (v : Verdict) → ¬ (v ≡ smaller) → Means v s t → SomeReaches (cons s ss) t
+      go smaller n m = absurd (n refl)
+      go equal n m = rw m here-equal
+      go greater n m = here-greater m
 
-  pub reaches-later : {ss : Terms} → r < 1 → SomeReaches (cons s ss) t → SomeReaches ss t
-  reaches-later h p = some-later (number-smaller h) p
+  pub reaches-later : {ss : Terms} → r ≡ smaller → SomeReaches (cons s ss) t → SomeReaches ss t
+  reaches-later d p = some-later (told-smaller d) p
 
--- To the verdict's number.
-module _ (s t : Term) where
-  by-means : (v : Verdict) → Means v s t → verdict-number v ≡ verdict-number (verdict s t)
-  by-means v m = rw (means-verdict s t v m)
+pub number-few : (v : Verdict) → verdict-number v < 3
+unfolding verdict-number
+number-few smaller = omega arith
+number-few equal = omega arith
+number-few greater = omega arith
 
-  pub smaller-number : Means smaller s t → 0 ≡ verdict-number (verdict s t)
-  unfolding verdict-number
-  smaller-number m = by-means smaller m
-
-  pub equal-number : s ≡ t → 1 ≡ verdict-number (verdict s t)
-  unfolding verdict-number
-  equal-number e = by-means equal e
-
-  pub greater-number : s ≻ t → 2 ≡ verdict-number (verdict s t)
-  unfolding verdict-number
-  greater-number g = by-means greater g
+-- The number tells the verdict.
+pub number-unique : (v w : Verdict) → verdict-number v ≡ verdict-number w → v ≡ w
+unfolding verdict-number
+number-unique smaller smaller e = refl
+number-unique smaller equal e = absurd (omega arith)
+number-unique smaller greater e = absurd (omega arith)
+number-unique equal smaller e = absurd (omega arith)
+number-unique equal equal e = refl
+number-unique equal greater e = absurd (omega arith)
+number-unique greater smaller e = absurd (omega arith)
+number-unique greater equal e = absurd (omega arith)
+number-unique greater greater e = refl

@@ -1,11 +1,11 @@
 -- Laws of the number that a call returns: its lowest byte tells the refusal.
-use Prim.Native.Nat.{ℕ, _+_, _*_, _^_, _%_, _≤_, _<_}
-use mathlib.Core.Path.{_≡_, refl}
+use Prim.Native.Nat.{ℕ, _^_, _≤_, _<_}
+use mathlib.Core.Path.{_≡_}
 use native.Mathlib.Omega.{arith}
 use Rattle.format.specs.Refusal.{number}
 use Rattle.format.specs.declared.refusal.Refusal.{Refusal}
 use Rattle.format.specs.declared.refusal.Refusal.the-variants.{TextLength as text-length, Digits as digits, FrameOrder as frame-order, SymbolFrame as symbol-frame, FrameBytes as frame-bytes, NotGround as not-ground, AbsentDirection as absent-direction, TooManyTurns as too-many-turns, TooManyElements as too-many-elements, TooManyLines as too-many-lines, ShortBuffer as short-buffer, AbsentArgument as absent-argument}
-use Rattle.outcomes.specs.Buffer.{fields, refusal-number, refusal-byte}
+use Rattle.outcomes.specs.Buffer.{field-limit, fields, refusal-number, refusal-byte}
 
 pub number-range : (r : Refusal) → (1 ≤ number r) × (number r ≤ 12)
 number-range text-length = omega arith
@@ -33,10 +33,10 @@ pub refused-not-zero : (r : Refusal) (line : ℕ) → refusal-byte (refusal-numb
 refused-not-zero r line e = omega (arith, refused-byte r line, number-range r)
 
 -- Fields that are 16-bit numbers make one 64-bit number.
-pub fields-fit : (a b c : ℕ) → a < 2 ^ 16 → b < 2 ^ 16 → c < 2 ^ 16 → fields a b c < 2 ^ 64
+pub fields-fit : (a b c : ℕ) → a < field-limit → b < field-limit → c < field-limit → fields a b c < 2 ^ 64
 unfolding fields
 fields-fit a b c h i j = omega arith
 
-pub refusal-fits : (r : Refusal) (line : ℕ) → line < 2 ^ 16 → refusal-number r line < 2 ^ 64
+pub refusal-fits : (r : Refusal) (line : ℕ) → line < field-limit → refusal-number r line < 2 ^ 64
 unfolding refusal-number fields
 refusal-fits r line h = omega (arith, number-range r)

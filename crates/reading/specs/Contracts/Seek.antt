@@ -12,15 +12,15 @@ use Rattle.scanning.specs.declared.known.Known.{Known}
 use Rattle.reading.specs.declared.seek.TaskHead.{TaskHead}
 use Rattle.reading.specs.declared.seek.TaskHead.the-variants.{Run, Judgement, Comparison}
 use Rattle.reading.specs.declared.seek.TaskFound.{TaskFound}
-use Rattle.sheet.specs.Text.{Row, rows, frame-of}
+use Rattle.sheet.specs.Text.{TextLine, lines-of, frame-of}
 use Rattle.sheet.specs.Sheet.{Task, run, judgement, comparison, Sheet}
 use Rattle.sheet.specs.Reading.{accepted, read}
-use Rattle.scanning.specs.Contracts.Cursor.{bytes-between}
-use Rattle.scanning.specs.Contracts.Body.{BodyReady, KnowsSheet}
+use Rattle.scanning.specs.Contracts.Cursor.{BodyReady, bytes-between}
+use Rattle.scanning.specs.Contracts.Body.{KnowsSheet}
 
 -- Line `n` of the text, counted from 0, is this frame.
 abbrev pub FrameIn : List ℕ → ℕ → List ℕ → Type 0
-FrameIn text n frame = (row : Row) × (entry (rows text) n ≡ some row) × (frame-of row ≡ some frame)
+FrameIn text n frame = (line : TextLine) × (entry (lines-of text) n ≡ some line) × (frame-of line ≡ some frame)
 
 -- The text is accepted, and its sheet is known: what the reader gives of an accepted text.
 abbrev pub Accepts : List ℕ → Known → Type 0

@@ -8,7 +8,6 @@ use native.Mathlib.Omega.{arith}
 use lib.ListN.{length}
 use lib.Dec.{ltb, ltb→lt, nltb→le}
 use Rattle.format.specs.Limits.{max-task-nodes}
-use Rattle.format.specs.Lists.{entry}
 use Rattle.format.specs.Theory.Lists.{Every, entry-length}
 use Rattle.terms.specs.Term.{Term, size, Values, inst}
 use Rattle.terms.specs.Position.{subterms, replace}

@@ -1,10 +1,11 @@
 -- Laws of the bytes between two places of a text.
-use Prim.Native.Nat.{ℕ, suc, _+_, _-_, _≤_}
-use mathlib.Core.Path.{_≡_, refl, ap, _∙_}
+use Prim.Native.Nat.{ℕ, zero, suc, _+_, _-_, _*_, _≤_}
+use mathlib.Core.Path.{_≡_, refl, ap, subst, _∙_}
 use mathlib.Core.List.{List, [], _∷_}
 use lib.ListN.{length, getD, take, drop, length-drop}
 use native.Mathlib.Omega.{arith}
-use Rattle.scanning.specs.Contracts.Cursor.{decoded, pair-at, bytes-between}
+use Rattle.sheet.specs.Contracts.Bytes.{max-byte, Bytes}
+use Rattle.scanning.specs.Contracts.Cursor.{decoded, pair-at, bytes-between, BodyReady}
 
 pub between-end : (text : List ℕ) (at end : ℕ) → end ≤ at → bytes-between text at end ≡ []
 unfolding bytes-between decoded
@@ -25,3 +26,21 @@ between-cons text at end h i =
     ap (λ n. decoded (take n (drop at text))) e
     ∙ ap decoded (two-taken (end - (at + 2)) (drop at text) (omega (arith, length-drop at text)))
     ∙ cc (a, b, d)
+
+-- The first of the bytes, and those behind it.
+module _ (text : List ℕ) (from end : ℕ) (b : BodyReady text from end) (more : from ≡ end → ⊥) where
+  pub two-more : from + 2 ≤ end
+  two-more = go (b .pairs) (b .even)
+    where
+      go : (m : ℕ) → end ≡ from + 2 * m → from + 2 ≤ end
+      go zero e = absurd (more (omega arith))
+      go (suc m) e = omega arith
+
+  pub first-byte : bytes-between text from end ≡ pair-at text from ∷ bytes-between text (from + 2) end
+  first-byte = between-cons text from end two-more (b .inside)
+
+  pub byte-small : pair-at text from ≤ max-byte
+  byte-small = subst Bytes first-byte (b .are-bytes) .0
+
+  pub body-behind : BodyReady text (from + 2) end
+  body-behind = record { pairs = b .pairs - 1; even = omega (arith, b .even, two-more); inside = b .inside; are-bytes = subst Bytes first-byte (b .are-bytes) .1 }

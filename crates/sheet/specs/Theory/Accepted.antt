@@ -9,17 +9,21 @@ use lib.Dec.{ltb, leb, eqb}
 use borrow.Author.Tests.{ltb-true, leb-true, eqb-true}
 use native.Mathlib.Omega.{arith}
 use Rattle.format.specs.Limits.{max-symbols, max-arity, max-equations, max-tasks, max-task-nodes, max-text}
+use Rattle.format.specs.Kind.{kind-of}
+use Rattle.format.specs.declared.kind.FrameKind.{FrameKind}
+use Rattle.format.specs.declared.kind.FrameKind.the-variants.{Symbols as symbols-kind, Equation as equation-kind, Run as run-kind, Judgement as judgement-kind, Comparison as comparison-kind, Unknown as unknown-kind}
 use Rattle.format.specs.Refusal.{Result, refuse, give}
 use Rattle.format.specs.declared.refusal.Refusal.the-variants.{SymbolFrame as symbol-frame, FrameOrder as frame-order, Digits as digits, TextLength as text-length}
 use Rattle.format.specs.Lists.{entry, any, all}
 use Rattle.format.specs.Theory.Lists.{Every, every-append, every-map, and-true, all-true, any-true}
 use Rattle.terms.specs.Term.{Terms, nil, cons, size, sizes, count, Ground, Grounds}
 use Rattle.terms.specs.Equation.{Equation, Direction, direction-of}
-use Rattle.sheet.specs.Text.{Row, rows, frame-of}
+use Rattle.sheet.specs.Text.{TextLine, lines-of, frame-of}
 use Rattle.sheet.specs.Sheet.{Task, run, judgement, comparison, Sheet, equation-width}
-use Rattle.sheet.specs.Frame.{State, start, within, Kind, symbols-kind, equation-kind, run-kind, judgement-kind, comparison-kind, unknown-kind, kind-of, takes-equation, takes-task, in-order, symbols-right, symbols-body, ground-terms, first-term, second-term, equation-body, run-body, values-body, judgement-body, comparison-body, with-equation, with-task, read-body, read-frame}
-use Rattle.sheet.specs.Reading.{Reading, refused-at, accepted, read-row, finish, read-rows, read}
-use Rattle.sheet.specs.Theory.Text.{Bytes, frame-bytes-small}
+use Rattle.sheet.specs.Frame.{State, start, within, takes-equation, takes-task, in-order, symbols-right, symbols-body, ground-terms, first-term, second-term, equation-body, run-body, values-body, judgement-body, comparison-body, with-equation, with-task, read-body, read-kind, read-frame}
+use Rattle.sheet.specs.Reading.{Reading, refused-at, accepted, read-line, finish, read-lines, read}
+use Rattle.sheet.specs.Contracts.Bytes.{Bytes}
+use Rattle.sheet.specs.Theory.Text.{frame-bytes-small}
 use Rattle.sheet.specs.Contracts.Valid.{ValidEquation, ValidTask, ValidSymbols, Valid}
 use Rattle.sheet.specs.Theory.Frame.{mapped, ground-terms-given, one-term, two-terms, equation-given}
 
@@ -152,7 +156,7 @@ module _ (s : Sheet) (v : Valid s) where
       subst TaskGiven y (h .0, h .1 .0, omega (arith, ap sizes d, g .few))
 
 -- 4. A frame, a line, all lines.
-body-kept : (state next : State) (kind : Kind) (bs : List ℕ) → Bytes bs → ValidState state → in-order state kind ≡ true → read-body state kind bs ≡ give next → ValidState next
+body-kept : (state next : State) (kind : FrameKind) (bs : List ℕ) → Bytes bs → ValidState state → in-order state kind ≡ true → read-body state kind bs ≡ give next → ValidState next
 unfolding in-order read-body
 body-kept start next kind bs small v o e = symbols-kept bs next e
 body-kept (within s) next symbols-kind bs small v o e = let z : _≡_ {A = ℕ} 0 1 = cc in absurd (omega arith)
@@ -164,22 +168,26 @@ body-kept (within s) next judgement-kind bs small v o e = let (t, x, y) = mapped
 body-kept (within s) next comparison-kind bs small v o e = let (t, x, y) = mapped (with-task s) (comparison-body s bs) next e in subst ValidState y (task-kept s t v o (comparison-given s v bs t x))
 body-kept (within s) next unknown-kind bs small v o e = let z : _≡_ {A = ℕ} 0 1 = cc in absurd (omega arith)
 
-pub frame-kept : (state next : State) (bs : List ℕ) → Bytes bs → ValidState state → read-frame state bs ≡ give next → ValidState next
-unfolding read-frame
-frame-kept state next [] small v e = let z : _≡_ {A = ℕ} 0 1 = cc in absurd (omega arith)
-frame-kept state next (k ∷ bs) small v e = go (in-order state (kind-of k)) refl e
+pub kind-kept : (state next : State) (kind : FrameKind) (bs : List ℕ) → Bytes bs → ValidState state → read-kind state kind bs ≡ give next → ValidState next
+unfolding read-kind
+kind-kept state next kind bs small v e = go (in-order state kind) refl e
   where
-    go : (t : Bool) → in-order state (kind-of k) ≡ t → _≡_ {A = Result State} (elim t [ true ↦ read-body state (kind-of k) bs | false ↦ refuse frame-order ]) (give next) → ValidState next
-    go true o e = body-kept state next (kind-of k) bs (small .1) v o e
+    go : (t : Bool) → in-order state kind ≡ t → _≡_ {A = Result State} (elim t [ true ↦ read-body state kind bs | false ↦ refuse frame-order ]) (give next) → ValidState next
+    go true o e = body-kept state next kind bs small v o e
     go false o e = let z : _≡_ {A = ℕ} 0 1 = cc in absurd (omega arith)
 
-pub row-kept : (state next : State) (row : Row) → ValidState state → read-row state row ≡ give next → ValidState next
-unfolding read-row
-row-kept state next row v e = go (frame-of row) refl e
+frame-kept : (state next : State) (bs : List ℕ) → Bytes bs → ValidState state → read-frame state bs ≡ give next → ValidState next
+unfolding read-frame
+frame-kept state next [] small v e = let z : _≡_ {A = ℕ} 0 1 = cc in absurd (omega arith)
+frame-kept state next (b ∷ bs) small v e = kind-kept state next (kind-of b) bs (small .1) v e
+
+pub line-kept : (state next : State) (line : TextLine) → ValidState state → read-line state line ≡ give next → ValidState next
+unfolding read-line
+line-kept state next line v e = go (frame-of line) refl e
   where
-    go : (o : Option (List ℕ)) → frame-of row ≡ o → _≡_ {A = Result State} (elim o [ none ↦ refuse digits | some bs ↦ read-frame state bs ]) (give next) → ValidState next
+    go : (o : Option (List ℕ)) → frame-of line ≡ o → _≡_ {A = Result State} (elim o [ none ↦ refuse digits | some bs ↦ read-frame state bs ]) (give next) → ValidState next
     go none d e = let z : _≡_ {A = ℕ} 0 1 = cc in absurd (omega arith)
-    go (some bs) d e = frame-kept state next bs (frame-bytes-small row bs d) v e
+    go (some bs) d e = frame-kept state next bs (frame-bytes-small line bs d) v e
 
 -- What `finish` accepts has an equation.
 finished : (state : State) (n : ℕ) (s : Sheet) → ValidState state → finish state n ≡ accepted s → Valid s × (1 ≤ length (s .equations))
@@ -191,21 +199,21 @@ finished (within r) n s v e = go (leb 1 (length (r .equations))) refl e
     go true d e = let x : r ≡ s = cc in subst (λ s. Valid s × (1 ≤ length (s .equations))) x (v, leb-true 1 (length (r .equations)) d)
     go false d e = let z : _≡_ {A = ℕ} 0 1 = cc in absurd (omega arith)
 
-rows-kept : (state : State) (n : ℕ) (rs : List Row) (s : Sheet) → ValidState state → read-rows state n rs ≡ accepted s → Valid s × (1 ≤ length (s .equations))
-unfolding read-rows
-rows-kept state n [] s v e = finished state n s v e
-rows-kept state n (row ∷ rs) s v e = go (λ next. rows-kept next (suc n) rs s) (read-row state row) refl e
+lines-kept : (state : State) (n : ℕ) (rs : List TextLine) (s : Sheet) → ValidState state → read-lines state n rs ≡ accepted s → Valid s × (1 ≤ length (s .equations))
+unfolding read-lines
+lines-kept state n [] s v e = finished state n s v e
+lines-kept state n (line ∷ rs) s v e = go (λ next. lines-kept next (suc n) rs s) (read-line state line) refl e
   where
-    go : ((next : State) → ValidState next → read-rows next (suc n) rs ≡ accepted s → Valid s × (1 ≤ length (s .equations))) → (r : Result State) → read-row state row ≡ r
-        → _≡_ {A = Reading Sheet} (elim r [ refuse x ↦ refused-at x (suc n) | give next ↦ read-rows next (suc n) rs ]) (accepted s) → Valid s × (1 ≤ length (s .equations))
+    go : ((next : State) → ValidState next → read-lines next (suc n) rs ≡ accepted s → Valid s × (1 ≤ length (s .equations))) → (r : Result State) → read-line state line ≡ r
+        → _≡_ {A = Reading Sheet} (elim r [ refuse x ↦ refused-at x (suc n) | give next ↦ read-lines next (suc n) rs ]) (accepted s) → Valid s × (1 ≤ length (s .equations))
     go ih (refuse x) d e = let z : _≡_ {A = ℕ} 0 1 = cc in absurd (omega arith)
-    go ih (give next) d e = ih next (row-kept state next row v d) e
+    go ih (give next) d e = ih next (line-kept state next line v d) e
 
 -- An accepted sheet is valid, and has an equation.
 pub accepted-valid : (text : List ℕ) (s : Sheet) → read text ≡ accepted s → Valid s × (1 ≤ length (s .equations))
 unfolding read
 accepted-valid text s e = go (leb 1 (length text) && leb (length text) max-text) e
   where
-    go : (t : Bool) → _≡_ {A = Reading Sheet} (elim t [ true ↦ read-rows start 0 (rows text) | false ↦ refused-at text-length 0 ]) (accepted s) → Valid s × (1 ≤ length (s .equations))
-    go true e = rows-kept start 0 (rows text) s tt e
+    go : (t : Bool) → _≡_ {A = Reading Sheet} (elim t [ true ↦ read-lines start 0 (lines-of text) | false ↦ refused-at text-length 0 ]) (accepted s) → Valid s × (1 ≤ length (s .equations))
+    go true e = lines-kept start 0 (lines-of text) s tt e
     go false e = let z : _≡_ {A = ℕ} 0 1 = cc in absurd (omega arith)

@@ -24,7 +24,7 @@ GroundIf true arities ts = Grounds arities ts
 GroundIf false arities ts = Unit {0}
 
 -- `bs` spells `need` terms, of at most `room` nodes, and then `rest`.
-pub record Scanned (arities : List ℕ) (ground : Bool) (bs : List ℕ) (need room : ℕ) (rest : List ℕ) : Type 0 where
+pub record Spells (arities : List ℕ) (ground : Bool) (bs : List ℕ) (need room : ℕ) (rest : List ℕ) : Type 0 where
   pub terms : Terms
   pub counted : count terms ≡ need
   pub spelled : bs ≡ prefixes terms ++ rest
@@ -34,8 +34,8 @@ pub record Scanned (arities : List ℕ) (ground : Bool) (bs : List ℕ) (need ro
 
 module _ (arities : List ℕ) where
   -- A symbol's node takes its arguments from the terms behind it.
-  put-symbol : (ground : Bool) (f : ℕ) (bs : List ℕ) (need room : ℕ) (rest : List ℕ) → f < length arities → Scanned arities ground bs (arity arities f + need) room rest
-      → Scanned arities ground (f ∷ bs) (suc need) (suc room) rest
+  put-symbol : (ground : Bool) (f : ℕ) (bs : List ℕ) (need room : ℕ) (rest : List ℕ) → f < length arities → Spells arities ground bs (arity arities f + need) room rest
+      → Spells arities ground (f ∷ bs) (suc need) (suc room) rest
   unfolding count size prefix
   put-symbol ground f bs need room rest known s =
       let n = arity arities f in
@@ -55,8 +55,8 @@ module _ (arities : List ℕ) where
       grounds true n ts c h = let (a, d) = ground-take-drop arities n ts h in ((known, c, a), d)
       grounds false n ts c h = tt
 
-  put-variable : (v : ℕ) (bs : List ℕ) (need room : ℕ) (rest : List ℕ) (b : ℕ) → b ∷ [] ≡ prefix (var v) → v < variable-count → Scanned arities false bs need room rest
-      → Scanned arities false (b ∷ bs) (suc need) (suc room) rest
+  put-variable : (v : ℕ) (bs : List ℕ) (need room : ℕ) (rest : List ℕ) (b : ℕ) → b ∷ [] ≡ prefix (var v) → v < variable-count → Spells arities false bs need room rest
+      → Spells arities false (b ∷ bs) (suc need) (suc room) rest
   unfolding count size prefix
   put-variable v bs need room rest b e small s = record {
     terms = cons (var v) (s .terms);
@@ -68,20 +68,20 @@ module _ (arities : List ℕ) where
   }
 
   -- One node in front of a scan.
-  put-node-byte : (ground : Bool) (b : ℕ) (c : Class) (bs : List ℕ) (need n room : ℕ) (rest : List ℕ) → class-of b ≡ c → after-node arities ground c need ≡ give n → Scanned arities ground bs n room rest
-      → Scanned arities ground (b ∷ bs) (suc need) (suc room) rest
+  put-node-byte : (ground : Bool) (b : ℕ) (c : Class) (bs : List ℕ) (need n room : ℕ) (rest : List ℕ) → class-of b ≡ c → after-node arities ground c need ≡ give n → Spells arities ground bs n room rest
+      → Spells arities ground (b ∷ bs) (suc need) (suc room) rest
   unfolding after-node prefix
   put-node-byte ground b (symbol f) bs need n room rest e d s = go (ltb f (length arities)) refl d
     where
       go : (t : Bool) → ltb f (length arities) ≡ t → elim t as (λ t. Result ℕ) [ true ↦ give (arity arities f + need) | false ↦ refuse frame-bytes ] ≡ give n
-          → Scanned arities ground (b ∷ bs) (suc need) (suc room) rest
+          → Spells arities ground (b ∷ bs) (suc need) (suc room) rest
       go true k d = let x : arity arities f + need ≡ n = cc in rw (class-symbol b f e .0) (put-symbol ground f bs need room rest (ltb-true f (length arities) k) (rw x s))
       go false k d = let z : _≡_ {A = ℕ} 0 1 = cc in absurd (omega arith)
   put-node-byte true b (variable v) bs need n room rest e d s = let z : _≡_ {A = ℕ} 0 1 = cc in absurd (omega arith)
   put-node-byte false b (variable v) bs need n room rest e d s = let x : need ≡ n = cc in let (y, small) = class-variable b v e in put-variable v bs need room rest b (ap (_∷ []) y) small (rw x s)
   put-node-byte ground b foreign bs need n room rest e d s = let z : _≡_ {A = ℕ} 0 1 = cc in absurd (omega arith)
 
-  nothing-scanned : (ground : Bool) (bs : List ℕ) (room : ℕ) (rest : List ℕ) → _≡_ {A = Result (List ℕ)} (give bs) (give rest) → Scanned arities ground bs 0 room rest
+  nothing-scanned : (ground : Bool) (bs : List ℕ) (room : ℕ) (rest : List ℕ) → _≡_ {A = Result (List ℕ)} (give bs) (give rest) → Spells arities ground bs 0 room rest
   unfolding count size prefix
   nothing-scanned ground bs room rest e = record { terms = nil; counted = refl; spelled = cc; within = omega arith; fit = tt; grounded = trivial ground }
     where
@@ -89,7 +89,7 @@ module _ (arities : List ℕ) where
       trivial true = tt
       trivial false = tt
 
-  pub scan-sound : (ground : Bool) (bs : List ℕ) (need room : ℕ) (rest : List ℕ) → scan arities ground bs need room ≡ give rest → Scanned arities ground bs need room rest
+  pub scan-sound : (ground : Bool) (bs : List ℕ) (need room : ℕ) (rest : List ℕ) → scan arities ground bs need room ≡ give rest → Spells arities ground bs need room rest
   unfolding scan
   scan-sound ground [] zero room rest e = nothing-scanned ground [] room rest e
   scan-sound ground [] (suc need) room rest e = let z : _≡_ {A = ℕ} 0 1 = cc in absurd (omega arith)
@@ -97,9 +97,9 @@ module _ (arities : List ℕ) where
   scan-sound ground (b ∷ bs) (suc need) zero rest e = let z : _≡_ {A = ℕ} 0 1 = cc in absurd (omega arith)
   scan-sound ground (b ∷ bs) (suc need) (suc room) rest e = go (λ n d. scan-sound ground bs n room rest d) (after-node arities ground (class-of b) need) refl e
     where
-      go : ((n : ℕ) → scan arities ground bs n room ≡ give rest → Scanned arities ground bs n room rest)
+      go : ((n : ℕ) → scan arities ground bs n room ≡ give rest → Spells arities ground bs n room rest)
           → (r : Result ℕ) → after-node arities ground (class-of b) need ≡ r
           → elim r as (λ r. Result (List ℕ)) [ refuse x ↦ refuse x | give n ↦ scan arities ground bs n room ] ≡ give rest
-          → Scanned arities ground (b ∷ bs) (suc need) (suc room) rest
+          → Spells arities ground (b ∷ bs) (suc need) (suc room) rest
       go ih (refuse x) d e = let z : _≡_ {A = ℕ} 0 1 = cc in absurd (omega arith)
       go ih (give n) d e = put-node-byte ground b (class-of b) bs need n room rest refl d (ih n e)

@@ -8,7 +8,7 @@ use Rattle.terms.specs.Equation.{Equation}
 use Rattle.terms.specs.Prefix.{equation-bytes}
 use Rattle.terms.specs.Theory.Limits.{WithinLimits}
 use Rattle.terms.specs.Theory.Prefix.{Fits}
-use Rattle.walking.specs.Contracts.Place.{line-bytes}
+use Rattle.lines.specs.Contracts.Layout.{line-bytes}
 
 module _ (bytes arities : List ℕ) where
   -- These are the bytes of this equation, which is over symbols with these arities and within the limits.

@@ -11,9 +11,10 @@ use Rattle.terms.specs.Position.{Node, var-node}
 use Rattle.terms.specs.Theory.View.{Layout}
 use Rattle.solving.specs.Line.{Bindings, lookup, bind}
 use Rattle.solving.specs.Walk.{Fuel, bound-to, occurs}
-use Rattle.solving.specs.Theory.Seen.{stays, Occurs, here, bound-variable, variable-bound, occurs-up, occurs-back}
-use Rattle.solving.specs.Theory.Rank.{Measure}
-use Rattle.solving.specs.Theory.Reach.{Sufficient, Proper, occurs-found, occurs-finds}
+use Rattle.solving.specs.Theory.Seen.{bound-variable, variable-bound, occurs-up, occurs-back}
+use Rattle.solving.specs.Contracts.Seen.{stays, Occurs, here}
+use Rattle.solving.specs.Contracts.Bindings.{Measure, Proper}
+use Rattle.solving.specs.Theory.Reach.{Sufficient, occurs-found, occurs-finds}
 
 -- What a binding adds, and what it leaves.
 module _ (θ : Bindings) (v p : ℕ) (slot : v < length θ) where

@@ -13,9 +13,11 @@ use Rattle.terms.specs.Theory.View.{In, head, tail, Layout, values-at, Model}
 use Rattle.ordering.specs.Theory.Laws.{≻-irrefl}
 use Rattle.solving.specs.Line.{Bindings, bind}
 use Rattle.solving.specs.Walk.{Fuel, reach, occurs, bind-unless, unify-variables, unify-each, unify-nodes, unify}
-use Rattle.solving.specs.Theory.Seen.{Reaches, stays, symbol-unbound}
+use Rattle.solving.specs.Theory.Seen.{symbol-unbound}
+use Rattle.solving.specs.Contracts.Seen.{Reaches, stays}
 use Rattle.solving.specs.Theory.Rank.{rank, rank-le, rank-down}
-use Rattle.solving.specs.Theory.Reach.{Sufficient, Proper, reach-reaches, occurs-found}
+use Rattle.solving.specs.Theory.Reach.{Sufficient, reach-reaches, occurs-found}
+use Rattle.solving.specs.Contracts.Bindings.{Proper}
 use Rattle.solving.specs.Theory.Unified.{unified-proper, unify-gives}
 use Rattle.solving.specs.Theory.Values.{Satisfied, satisfied-bind, reaches-value, variable-value, symbol-value, occurs-exceeded, size-measure}
 

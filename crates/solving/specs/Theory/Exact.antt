@@ -14,10 +14,13 @@ use Rattle.ordering.specs.Theory.Laws.{≻-trans, ≻-irrefl}
 use Rattle.solving.specs.Line.{Bindings, Element, equal, greater, Line, line}
 use Rattle.solving.specs.Walk.{Fuel, reach, occurs, unify, choices, Treatment, fully-reduced, becomes, unified, in-front, behind, treat-greater, treat, treat-leftmost, turn}
 use Rattle.solving.specs.Holds.{BindingsHold, ElementHolds, ElementsHold, SomeLineHolds}
-use Rattle.solving.specs.Theory.Seen.{Reaches}
-use Rattle.solving.specs.Theory.Reach.{Sufficient, Proper, reach-reaches, occurs-found}
-use Rattle.solving.specs.Theory.Unified.{Unified, unified-extends, unify-gives}
-use Rattle.solving.specs.Theory.Table.{Within, AllWithin, ProperTable}
+use Rattle.solving.specs.Contracts.Seen.{Reaches}
+use Rattle.solving.specs.Theory.Reach.{Sufficient, reach-reaches, occurs-found}
+use Rattle.solving.specs.Contracts.Bindings.{Proper}
+use Rattle.solving.specs.Theory.Unified.{unified-extends, unify-gives}
+use Rattle.solving.specs.Contracts.Unified.{Unified}
+use Rattle.solving.specs.Theory.Table.{ProperTable}
+use Rattle.solving.specs.Contracts.Within.{Within, AllWithin}
 use Rattle.solving.specs.Theory.Values.{satisfied, bindings-hold, satisfied-back, variable-value, symbol-value, occurs-reached, occurs-exceeded, unified-equal}
 use Rattle.solving.specs.Theory.Complete.{Succeeds, unify-succeeds}
 use Rattle.solving.specs.Theory.Choices.{choices-to, choices-from}

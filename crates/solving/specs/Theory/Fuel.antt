@@ -11,11 +11,15 @@ use Rattle.terms.specs.Theory.View.{In, head, tail, Layout}
 use Rattle.solving.specs.Line.{Bindings, bind, Element, equal, greater, Line, line}
 use Rattle.format.specs.declared.refusal.Refusal.{Refusal}
 use Rattle.solving.specs.Walk.{Fuel, reach, occurs, bind-unless, unify-variables, unify-each, unify-nodes, unify, Treatment, fully-reduced, becomes, in-front, behind, treat-greater, treat, treat-leftmost, treat-line, turn, over-limit, Walked, solved, refused, walk-until, walk-from}
-use Rattle.solving.specs.Theory.Seen.{Occurs, bound-variable, variable-bound}
-use Rattle.solving.specs.Theory.Rank.{Measure, rank, rank-le, rank-down}
-use Rattle.solving.specs.Theory.Reach.{Sufficient, Proper, reach-reaches, reach-is, occurs-found, occurs-finds}
-use Rattle.solving.specs.Theory.Unified.{Bindable, Unified, EachUnified, equal-variables, bound-left, bound-right, symbols, no-more, one-more, Extends, each-extends, unified-proper, unify-gives}
-use Rattle.solving.specs.Theory.Table.{Within, AllWithin, ProperTable, turn-proper}
+use Rattle.solving.specs.Theory.Seen.{bound-variable, variable-bound}
+use Rattle.solving.specs.Contracts.Seen.{Occurs}
+use Rattle.solving.specs.Theory.Rank.{rank, rank-le, rank-down}
+use Rattle.solving.specs.Contracts.Bindings.{Measure, Proper}
+use Rattle.solving.specs.Theory.Reach.{Sufficient, reach-reaches, reach-is, occurs-found, occurs-finds}
+use Rattle.solving.specs.Theory.Unified.{Extends, each-extends, unified-proper, unify-gives}
+use Rattle.solving.specs.Contracts.Unified.{Bindable, Unified, EachUnified, equal-variables, bound-left, bound-right, symbols, no-more, one-more}
+use Rattle.solving.specs.Theory.Table.{ProperTable, turn-proper}
+use Rattle.solving.specs.Contracts.Within.{Within, AllWithin}
 
 measure-back : {view : ℕ → Node} {θ θ′ : Bindings} {m : ℕ → ℕ} → Extends θ θ′ → Measure view θ′ m → Measure view θ m
 measure-back {view} {θ} {θ′} x me = record {

@@ -1,15 +1,14 @@
 -- A measure of positions that falls along every descent through the bindings, and how deep a descent can go.
 use Prim.Native.Nat.{ℕ, zero, suc, _+_, _≤_, _<_}
 use mathlib.Core.Path.{_≡_, ap}
-use mathlib.Core.Option.{some}
 use mathlib.Core.List.{List}
 use native.Mathlib.Decide.{ℕ-discrete, decLt}
 use native.Mathlib.Omega.{arith}
 use Rattle.terms.specs.Position.{Node, app-node}
 use Rattle.terms.specs.Theory.View.{In, Layout}
 use Rattle.solving.specs.Line.{Bindings}
-use Rattle.solving.specs.Walk.{bound-to}
-use Rattle.solving.specs.Theory.Seen.{Reaches, stays, goes}
+use Rattle.solving.specs.Contracts.Bindings.{Measure}
+use Rattle.solving.specs.Contracts.Seen.{Reaches, stays, goes}
 
 -- How many of the positions below `n` measure less than `a`.
 abbrev mark : {a b : ℕ} → Dec (a < b) → ℕ
@@ -62,11 +61,6 @@ rank n m p = below m n (m p)
 pub rank-le : (n : ℕ) (m : ℕ → ℕ) (p : ℕ) → rank n m p ≤ n
 unfolding rank
 rank-le n m p = below-le m n (m p)
-
--- It falls to the arguments, and does not rise along a binding.
-pub record Measure (view : ℕ → Node) (θ : Bindings) (m : ℕ → ℕ) : Type 0 where
-  pub down : (p f c : ℕ) (ps : List ℕ) → view p ≡ app-node f ps → In c ps → m c < m p
-  pub along : (p q : ℕ) → bound-to θ (view p) ≡ some q → m q ≤ m p
 
 module _ {view : ℕ → Node} {θ : Bindings} {m : ℕ → ℕ} (me : Measure view θ m) where
   pub reaches-le : {p r : ℕ} → Reaches view θ p r → m r ≤ m p

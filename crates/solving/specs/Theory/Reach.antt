@@ -4,17 +4,18 @@ use mathlib.Core.Path.{_≡_, refl}
 use mathlib.Core.Bool.{Bool, true, false, _||_}
 use mathlib.Core.Option.{Option, none, some}
 use mathlib.Core.List.{List, [], _∷_}
-use lib.ListN.{length}
 use native.Mathlib.Decide.{ℕ-discrete}
 use native.Mathlib.Omega.{arith}
 use Rattle.format.specs.Lists.{any}
 use Rattle.format.specs.Limits.{variable-count, position-count}
 use Rattle.terms.specs.Position.{Node, var-node, app-node}
 use Rattle.terms.specs.Theory.View.{In, head, tail, Layout}
-use Rattle.solving.specs.Line.{Bindings, lookup}
+use Rattle.solving.specs.Line.{Bindings}
 use Rattle.solving.specs.Walk.{Fuel, enough, bound-to, follow, reach, occurs-in, occurs}
-use Rattle.solving.specs.Theory.Seen.{Reaches, stays, goes, Occurs, here, inside, bound-variable, reaches-unique}
-use Rattle.solving.specs.Theory.Rank.{Measure, rank, rank-le, rank-down}
+use Rattle.solving.specs.Contracts.Bindings.{Proper}
+use Rattle.solving.specs.Theory.Seen.{bound-variable, reaches-unique}
+use Rattle.solving.specs.Contracts.Seen.{Reaches, stays, goes, Occurs, here, inside}
+use Rattle.solving.specs.Theory.Rank.{rank, rank-le, rank-down}
 
 -- Fuel that suffices where there are `vars` variables and `n` positions.
 pub record Sufficient (vars n : ℕ) (fuel : Fuel) : Type 0 where
@@ -24,14 +25,6 @@ pub record Sufficient (vars n : ℕ) (fuel : Fuel) : Type 0 where
 
 pub enough-suffices : {n : ℕ} → n ≤ position-count → Sufficient variable-count n enough
 enough-suffices l = record { hops-suffice = omega arith; occurs-suffices = omega arith; unify-suffices = omega arith }
-
--- Bindings of the walk: a slot for each variable, variables bound to higher ones, positions of the equation, no cycle.
-pub record Proper (view : ℕ → Node) (vars n : ℕ) (θ : Bindings) : Type 0 where
-  pub slots : length θ ≡ vars
-  pub rising : (v p w : ℕ) → lookup θ v ≡ some p → view p ≡ var-node w → v < w
-  pub within : (v p : ℕ) → lookup θ v ≡ some p → p < n
-  pub height : ℕ → ℕ
-  pub falls : Measure view θ height
 
 any-found : (f : ℕ → Bool) (ps : List ℕ) → any f ps ≡ true → (c : ℕ) × In c ps × (f c ≡ true)
 unfolding any

@@ -5,9 +5,9 @@ use mathlib.Core.Option.{none, some}
 use mathlib.Core.List.{List, [], _∷_, _++_, map}
 use lib.ListN.{length, getD, replicate, length-append, length-map, length-replicate}
 use native.Mathlib.Omega.{arith}
-use Rattle.format.specs.Limits.{max-elements, max-lines, record-bytes, table-bytes}
+use Rattle.format.specs.Limits.{max-elements, max-lines, record-bytes, table-bytes, no-position}
 use Rattle.solving.specs.Line.{Bindings, lookup, Element, equal, greater, Line, line, binding-byte, element-bytes, record-of, records}
-use Rattle.solving.specs.Theory.Table.{AllWithin}
+use Rattle.solving.specs.Contracts.Within.{AllWithin}
 use Rattle.solving.specs.Theory.Written.{WrittenLine, WrittenLines}
 
 -- "records of 89 bytes".
@@ -43,11 +43,6 @@ module _ (n : ℕ) where
   below-replicate zero b h = tt
   below-replicate (suc k) b h = (h, below-replicate k b h)
 
-  pub below-getD : (bs : List ℕ) (i d : ℕ) → AllBelow n bs → d < n → getD bs i d < n
-  below-getD [] i d h k = k
-  below-getD (b ∷ bs) zero d h k = h .0
-  below-getD (b ∷ bs) (suc i) d h k = below-getD bs i d (h .1) k
-
 module _ {n : ℕ} (small : n ≤ 256) where
   bindings-bytes : (θ : Bindings) → ((v p : ℕ) → lookup θ v ≡ some p → p < n) → AllBelow 256 (map binding-byte θ)
   unfolding binding-byte
@@ -64,9 +59,9 @@ module _ {n : ℕ} (small : n ≤ 256) where
   pub record-is-bytes : (θ : Bindings) (es : List Element) → WrittenLine n θ es → AllBelow 256 (record-of (line θ es))
   unfolding record-of
   record-is-bytes θ es w =
-      below-append 256 (map binding-byte θ ++ length es ∷ element-bytes es) (replicate (2 * (max-elements - length es)) 0xff)
+      below-append 256 (map binding-byte θ ++ length es ∷ element-bytes es) (replicate (2 * (max-elements - length es)) no-position)
       (below-append 256 (map binding-byte θ) (length es ∷ element-bytes es) (bindings-bytes θ (w .bound-within)) (omega (arith, w .few-elements), elements-bytes es (w .elements-within)))
-      (below-replicate 256 (2 * (max-elements - length es)) 0xff (omega arith))
+      (below-replicate 256 (2 * (max-elements - length es)) no-position (omega arith))
 
   pub records-are-bytes : (table : List Line) → WrittenLines n table → AllBelow 256 (records table)
   unfolding records

@@ -10,7 +10,8 @@ use Rattle.terms.specs.Theory.View.{Layout}
 use Rattle.solving.specs.Line.{Bindings, Element, equal, greater, Line, line}
 use Rattle.solving.specs.Walk.{Fuel, reach, occurs, unify, Treatment, fully-reduced, becomes, unified, in-front, behind, treat-greater, treat, treat-leftmost, turn}
 use Rattle.solving.specs.Theory.Seen.{Reduced, left-variable, right-variable}
-use Rattle.solving.specs.Theory.Reach.{Sufficient, Proper, reach-reaches, occurs-not}
+use Rattle.solving.specs.Theory.Reach.{Sufficient, reach-reaches, occurs-not}
+use Rattle.solving.specs.Contracts.Bindings.{Proper}
 use Rattle.solving.specs.Theory.Table.{ProperTable}
 
 abbrev pub AllReduced : (ℕ → Node) → Bindings → List Element → Type 0

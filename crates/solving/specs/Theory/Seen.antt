@@ -1,4 +1,4 @@
--- Terms seen through the bindings, occurrence and full reduction (document 01, 'The walk that solves s > t'), said without fuel.
+-- Laws of terms seen through the bindings and of occurrence, and full reduction (document 01, 'The walk that solves s > t') said without fuel.
 use Prim.Native.Nat.{ℕ}
 use mathlib.Core.Path.{_≡_, refl}
 use mathlib.Core.Option.{none, some}
@@ -8,22 +8,13 @@ use Rattle.terms.specs.Position.{Node, var-node, app-node}
 use Rattle.terms.specs.Theory.View.{In}
 use Rattle.solving.specs.Line.{Bindings, lookup, Element, greater}
 use Rattle.solving.specs.Walk.{bound-to}
+use Rattle.solving.specs.Contracts.Seen.{Reaches, stays, goes, Occurs, here, inside}
 
 module _ (view : ℕ → Node) (θ : Bindings) where
-  -- "a bound variable stands for its term, repeatedly": from `p` the bindings lead to `r`, where no bound variable stands.
-  pub data Reaches : ℕ → ℕ → Type 0 where
-    stays : {p : ℕ} → bound-to θ (view p) ≡ none → Reaches p p
-    goes : {p q r : ℕ} → bound-to θ (view p) ≡ some q → Reaches q r → Reaches p r
-
-  -- The variable `v` occurs in the term at a position, seen through the bindings.
-  pub data Occurs (v : ℕ) : ℕ → Type 0 where
-    here : {p r : ℕ} → Reaches p r → view r ≡ var-node v → Occurs v p
-    inside : {p r f c : ℕ} {ps : List ℕ} → Reaches p r → view r ≡ app-node f ps → In c ps → Occurs v c → Occurs v p
-
   -- An inequality l > r is fully reduced: l is a variable that does not occur in r, or l is none and r is a variable that does not occur in l.
   pub data Reduced : Element → Type 0 where
-    left-variable : {p q r v : ℕ} → Reaches p r → view r ≡ var-node v → (Occurs v q → ⊥) → Reduced (greater p q)
-    right-variable : {p q r s f w : ℕ} {ps : List ℕ} → Reaches p r → view r ≡ app-node f ps → Reaches q s → view s ≡ var-node w → (Occurs w p → ⊥) → Reduced (greater p q)
+    left-variable : {p q r v : ℕ} → Reaches view θ p r → view r ≡ var-node v → (Occurs view θ v q → ⊥) → Reduced (greater p q)
+    right-variable : {p q r s f w : ℕ} {ps : List ℕ} → Reaches view θ p r → view r ≡ app-node f ps → Reaches view θ q s → view s ≡ var-node w → (Occurs view θ w p → ⊥) → Reduced (greater p q)
 
 -- A bound position is a variable's.
 pub bound-variable : (θ : Bindings) (x : Node) (q : ℕ) → bound-to θ x ≡ some q → (v : ℕ) × (x ≡ var-node v) × (lookup θ v ≡ some q)

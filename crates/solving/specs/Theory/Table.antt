@@ -10,17 +10,10 @@ use Rattle.terms.specs.Position.{Node, var-node, app-node}
 use Rattle.terms.specs.Theory.View.{In, head, tail, Layout}
 use Rattle.solving.specs.Line.{Bindings, Element, equal, greater, Line, line}
 use Rattle.solving.specs.Walk.{Fuel, reach, occurs, unify, argument-choices, exceeds-each, lexicographic-choices, precedence-choices, same-symbol-choices, choices, Treatment, fully-reduced, becomes, unified, in-front, behind, treat-greater, treat, treat-leftmost, turn}
-use Rattle.solving.specs.Theory.Reach.{Sufficient, Proper}
+use Rattle.solving.specs.Contracts.Within.{Within, AllWithin}
+use Rattle.solving.specs.Theory.Reach.{Sufficient}
+use Rattle.solving.specs.Contracts.Bindings.{Proper}
 use Rattle.solving.specs.Theory.Unified.{unified-proper, unify-gives}
-
--- Positions below `n`.
-abbrev pub Within : ℕ → Element → Type 0
-Within n (equal p q) = (p < n) × (q < n)
-Within n (greater p q) = (p < n) × (q < n)
-
-abbrev pub AllWithin : ℕ → List Element → Type 0
-AllWithin n [] = Unit {0}
-AllWithin n (e ∷ es) = Within n e × AllWithin n es
 
 module _ (view : ℕ → Node) (vars n : ℕ) where
   abbrev pub ProperLine : Line → Type 0

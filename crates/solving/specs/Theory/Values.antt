@@ -15,10 +15,12 @@ use Rattle.ordering.specs.Theory.Subterm.{exceeds-argument}
 use Rattle.ordering.specs.Theory.Laws.{≻-trans}
 use Rattle.solving.specs.Line.{Bindings, lookup, bind}
 use Rattle.solving.specs.Holds.{BindingsHold}
-use Rattle.solving.specs.Theory.Seen.{Reaches, stays, goes, Occurs, here, inside, bound-variable, reaches-unique}
-use Rattle.solving.specs.Theory.Rank.{Measure}
+use Rattle.solving.specs.Theory.Seen.{bound-variable, reaches-unique}
+use Rattle.solving.specs.Contracts.Seen.{Reaches, stays, goes, Occurs, here, inside}
+use Rattle.solving.specs.Contracts.Bindings.{Measure}
 use Rattle.solving.specs.Theory.Bind.{bind-same, bind-cases}
-use Rattle.solving.specs.Theory.Unified.{Unified, EachUnified, equal-variables, bound-left, bound-right, symbols, no-more, one-more, Extends, unified-extends, each-extends}
+use Rattle.solving.specs.Theory.Unified.{Extends, unified-extends, each-extends}
+use Rattle.solving.specs.Contracts.Unified.{Unified, EachUnified, equal-variables, bound-left, bound-right, symbols, no-more, one-more}
 
 -- "each binding is an equality there, of identical terms", for every variable.
 pub record Satisfied (ρ : Values) (value : ℕ → Term) (θ : Bindings) : Type 0 where

@@ -15,7 +15,8 @@ use Rattle.solving.specs.Line.{no-bindings, unbound, lookup, greater, Li
 use Rattle.solving.specs.Walk.{Fuel, solved, over-limit, turn, walk}
 use Rattle.solving.specs.Holds.{SomeLineHolds}
 use Rattle.solving.specs.Theory.Seen.{bound-variable}
-use Rattle.solving.specs.Theory.Reach.{Sufficient, Proper}
+use Rattle.solving.specs.Theory.Reach.{Sufficient}
+use Rattle.solving.specs.Contracts.Bindings.{Proper}
 use Rattle.solving.specs.Theory.Table.{ProperTable, turn-proper}
 use Rattle.solving.specs.Theory.Fuel.{walk-from-fuel}
 use Rattle.solving.specs.Theory.Values.{bindings-hold}

@@ -15,7 +15,8 @@ use Rattle.terms.specs.Position.{Node}
 use Rattle.solving.specs.Line.{Bindings, lookup, Element, equal, greater, Line, line}
 use Rattle.solving.specs.Walk.{crowded, over-limit}
 use Rattle.solving.specs.Theory.Seen.{Reduced}
-use Rattle.solving.specs.Theory.Table.{AllWithin, ProperTable}
+use Rattle.solving.specs.Theory.Table.{ProperTable}
+use Rattle.solving.specs.Contracts.Within.{AllWithin}
 use Rattle.solving.specs.Theory.Reduced.{AllReduced, Finished}
 
 abbrev Inequality : Element → Type 0

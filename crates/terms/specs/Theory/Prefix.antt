@@ -7,7 +7,7 @@ use native.Mathlib.Omega.{arith}
 use Rattle.format.specs.Limits.{max-symbols, variable-count}
 use Rattle.format.specs.Theory.Byte.{symbol-class, variable-class}
 use Rattle.terms.specs.Term.{Term, Terms, var, app, nil, cons, size, sizes, count, arity, Ground, Grounds}
-use Rattle.terms.specs.Prefix.{prefix, prefixes, take-terms, drop-terms, put-node, terms-of}
+use Rattle.terms.specs.Prefix.{prefix, prefixes, take-terms, drop-terms, terms-of}
 use Rattle.terms.specs.Theory.Limits.{VariablesBelow, AllVariablesBelow}
 
 -- 1. Terms over the sheet's symbols, with variables: each symbol has as many arguments as its arity says.

@@ -3,7 +3,7 @@ use Prim.Native.Nat.{ℕ, _+_, _≤_}
 use mathlib.Core.Path.{_≡_}
 use mathlib.Core.List.{List}
 use lib.ListN.{length}
-use Rattle.unifying.specs.Contracts.Laid.{Row}
+use Rattle.unifying.specs.Contracts.PrefixForm.{Row}
 
 -- Terms stand in the row from `k` to `end`.
 pub record HasRow (sizes : List ℕ) (k end : ℕ) : Type 0 where

@@ -1,7 +1,7 @@
 -- An equation's bytes and sizes are laid out, and what the walk's code sees of them is what the walk sees of the equation.
 use Prim.Native.Nat.{ℕ, zero, suc, _+_, _-_, _≤_, _<_}
 use mathlib.Core.Path.{_≡_, refl, sym, ap, fun-ext, _∙_}
-use mathlib.Core.List.{List, [], _∷_, map, map-append}
+use mathlib.Core.List.{List, _∷_, map, map-append}
 use lib.ListN.{length, getD, length-map}
 use borrow.Author.Tests.{lt-ltb, le-ltb}
 use native.Mathlib.Omega.{arith}
@@ -17,9 +17,9 @@ use Rattle.terms.specs.Theory.Position.{size-pos}
 use Rattle.terms.specs.Theory.Positions.{Segment, term-head, first-segment, rest-segment, all-subterms, length-all, past-end, arguments-at, segment-within}
 use Rattle.terms.specs.Theory.Prefix.{Fits, AllFit}
 use Rattle.solving.specs.Walk.{enough, walk, solve}
-use Rattle.unifying.specs.Contracts.Laid.{row, arguments-of, view-of, Row, none, more, Laid}
+use Rattle.unifying.specs.Contracts.PrefixForm.{row, arguments-of, view-of, Row, none, more, InPrefixForm}
 use Rattle.unifying.specs.Contracts.Equation.{equation-sizes}
-use Rattle.unifying.specs.Theory.Laid.{row-ordered, row-empty, getD-any, symbol-seen, variable-seen}
+use Rattle.unifying.specs.Theory.PrefixForm.{row-ordered, row-empty, getD-any, symbol-seen, variable-seen}
 
 -- 1. The byte at a position is that of the term there.
 unfoldable first-byte : Term → ℕ
@@ -139,9 +139,9 @@ module _ (e : Equation) where
     unfolding solve
     equation-walk d = ap (λ v. walk enough v (source-position e d) (target-position e d)) equation-view
 
-    pub equation-laid : WithinLimits e → Laid (equation-bytes e) (equation-sizes e)
+    pub equation-form : WithinLimits e → InPrefixForm (equation-bytes e) (equation-sizes e)
     unfolding first-byte size
-    equation-laid w = record {
+    equation-form w = record {
       same-length = length-sizes ∙ sym length-nodes;
       few = omega (arith, length-nodes, positions-few w);
       variable-low = λ p l h. variable-byte p (term-at e p) refl (term-fits p) h .0;

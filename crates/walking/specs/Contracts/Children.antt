@@ -3,7 +3,7 @@ use Prim.Native.Nat.{ℕ, _+_}
 use mathlib.Core.List.{List, _++_}
 use lib.ListN.{length}
 use Rattle.solving.specs.Line.{Element}
-use Rattle.walking.specs.Contracts.Stored.{Stored}
+use Rattle.lines.specs.Contracts.Stored.{Stored}
 
 -- "the choice's elements standing where the old one stood". Those in front are known to be fully reduced.
 abbrev pub child : (bindings : List ℕ) (pre post : List Element) → List Element → Stored

@@ -6,7 +6,7 @@ use lib.ListN.{length}
 use Rattle.format.specs.Buffer.{written}
 use Rattle.solving.specs.Line.{Line, records}
 use Rattle.solving.specs.Walk.{Walked, solved, refused, enough, walk}
-use Rattle.unifying.specs.Contracts.Laid.{view-of}
+use Rattle.unifying.specs.Contracts.PrefixForm.{view-of}
 use Rattle.walking.specs.declared.solve.Ending.{Ending}
 use Rattle.walking.specs.declared.solve.Ending.the-variants.{Solved, Refused}
 use Rattle.walking.specs.declared.solve.Walked.{Walked as Told}

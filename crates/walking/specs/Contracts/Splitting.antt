@@ -7,9 +7,10 @@ use lib.ListN.{length}
 use Rattle.format.specs.Limits.{variable-count, max-elements}
 use Rattle.solving.specs.Line.{Element}
 use Rattle.solving.specs.Walk.{argument-choices, choices}
-use Rattle.unifying.specs.Contracts.Laid.{Row}
-use Rattle.walking.specs.Contracts.Stored.{equality-mark, Stored, stored-bytes}
-use Rattle.walking.specs.Contracts.Place.{line-bytes, placed, lines-bytes}
+use Rattle.unifying.specs.Contracts.PrefixForm.{Row}
+use Rattle.lines.specs.Contracts.Stored.{equality-mark, Stored, stored-bytes}
+use Rattle.lines.specs.Contracts.Layout.{line-bytes, placed}
+use Rattle.lines.specs.Contracts.Place.{lines-bytes}
 use Rattle.walking.specs.Contracts.Children.{child}
 
 unfoldable pub lesser : ℕ → ℕ → ℕ

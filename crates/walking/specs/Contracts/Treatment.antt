@@ -8,8 +8,8 @@ use Rattle.solving.specs.Line.{Element, equal, greater, line}
 use Rattle.solving.specs.Walk.{enough, reach, fully-reduced, becomes, treat}
 use Rattle.walking.specs.declared.treat.Treatment.{Treatment}
 use Rattle.walking.specs.declared.treat.Treatment.the-variants.{Reduced, DropLine, DropElement, Unify, Split}
-use Rattle.unifying.specs.Contracts.Laid.{view-of}
-use Rattle.unifying.specs.Contracts.Bound.{bindings-of}
+use Rattle.unifying.specs.Contracts.PrefixForm.{view-of}
+use Rattle.unifying.specs.Contracts.Bindings.{bindings-of}
 
 -- "both non-variables": the element l > r at `p` and `q`, the terms reached at `s` and `t`.
 pub record BothSymbols (nodes sizes bindings : List ℕ) (e : Element) (p q s t : ℕ) : Type 0 where

@@ -1,24 +1,29 @@
 -- The memory of the walk, and what it means.
 use Prim.Native.Nat.{ℕ, _+_, _-_, _*_, _≤_, _<_}
 use mathlib.Core.Path.{_≡_}
+use mathlib.Core.Bool.{false}
+use mathlib.Core.Option.{none}
 use mathlib.Core.List.{List, [], _∷_, _++_, map}
 use lib.ListN.{length, take, drop}
 use Rattle.format.specs.Limits.{max-lines, max-turns, record-bytes}
 use Rattle.format.specs.declared.refusal.Refusal.{Refusal}
 use Rattle.solving.specs.Line.{Element, Line, records}
-use Rattle.solving.specs.Walk.{enough, Walked, refused, walk-from, walk}
+use Rattle.terms.specs.Position.{Node}
+use Rattle.solving.specs.Walk.{enough, treat-line, crowded, Walked, refused, walk-from, walk}
 use Rattle.walking.specs.declared.treat.Treatment.{Treatment}
 use Rattle.walking.specs.declared.treat.Treatment.the-variants.{Reduced}
 use Rattle.walking.specs.declared.walk.Walk.{Walk}
 use Rattle.walking.specs.declared.walk.Progress.{Progress}
 use Rattle.walking.specs.declared.walk.Progress.the-variants.{Going, Refused}
 use Rattle.walking.specs.declared.walk.Advanced.{Advanced}
-use Rattle.unifying.specs.Contracts.Laid.{view-of, Laid}
-use Rattle.walking.specs.Contracts.Stored.{Stored, line-of, stored-bytes}
-use Rattle.walking.specs.Contracts.Place.{line-bytes, lines-bytes}
+use Rattle.unifying.specs.Contracts.PrefixForm.{view-of, InPrefixForm}
+use Rattle.lines.specs.Contracts.Stored.{Stored, line-of, stored-bytes}
+use Rattle.lines.specs.declared.line.Line.{Line as Named}
+use Rattle.lines.specs.Contracts.Layout.{line-bytes}
+use Rattle.lines.specs.Contracts.Place.{lines-bytes}
+use Rattle.lines.specs.Contracts.Named.{Holds}
 use Rattle.walking.specs.Contracts.Treatment.{Treated}
 use Rattle.walking.specs.Contracts.Sound.{AllReduced, Sound}
-use Rattle.walking.specs.Theory.Turn.{AllFinished}
 
 -- 255 places for lines.
 abbrev pub memory-bytes : ℕ
@@ -27,6 +32,16 @@ memory-bytes = max-lines * line-bytes
 abbrev pub AllSound : (nodes sizes : List ℕ) → List Stored → Type 0
 AllSound nodes sizes [] = Unit {0}
 AllSound nodes sizes (l ∷ ls) = Sound nodes sizes l × AllSound nodes sizes ls
+
+-- Finished lines, none longer than allowed.
+module _ (view : ℕ → Node) where
+  pub record Finished (l : Line) : Type 0 where
+    pub nothing-left : treat-line enough view l ≡ none
+    pub short : crowded l ≡ false
+
+  abbrev pub AllFinished : List Line → Type 0
+  AllFinished [] = Unit {0}
+  AllFinished (l ∷ ls) = Finished l × AllFinished ls
 
 -- Finished lines stand as records from the front, the others from their place to the end.
 pub record Memory (nodes sizes memory : List ℕ) (done top : ℕ) (finished : List Line) (unfinished : List Stored) : Type 0 where
@@ -45,49 +60,62 @@ whole-walk nodes sizes w = walk enough (view-of nodes sizes) (w .source) (w .tar
 
 -- The walk has come so far: from the table in the memory it goes on as it is defined.
 pub record Walking (nodes sizes memory : List ℕ) (w : Walk) : Type 0 where
-  pub laid : Laid nodes sizes
+  pub laid : InPrefixForm nodes sizes
   pub finished : List Line
   pub unfinished : List Stored
   pub holds : Memory nodes sizes memory (w .done) (w .top) finished unfinished
   pub turns-within : w .turns ≤ max-turns
   pub leads : walk-from enough (view-of nodes sizes) (max-turns - w .turns) (w .turns) (finished ++ map line-of unfinished) ≡ whole-walk nodes sizes w
 
--- The first unfinished line is taken out, and all its elements are fully reduced.
-pub record Finishing (nodes sizes line memory : List ℕ) (w : Walk) : Type 0 where
-  pub laid : Laid nodes sizes
+-- All elements of the first unfinished line are fully reduced.
+pub record Finishing (nodes sizes memory : List ℕ) (w : Walk) : Type 0 where
+  pub laid : InPrefixForm nodes sizes
   pub finished : List Line
   pub first : Stored
   pub others : List Stored
   pub holds : Memory nodes sizes memory (w .done) (w .top) finished (first ∷ others)
-  pub line-is : line ≡ stored-bytes first
   pub turns-within : w .turns ≤ max-turns
   pub leads : walk-from enough (view-of nodes sizes) (max-turns - w .turns) (w .turns) (finished ++ map line-of (first ∷ others)) ≡ whole-walk nodes sizes w
   pub all-reduced : AllReduced nodes sizes (first .bindings) (first .elements)
 
--- The first unfinished line is taken out, and element number `at` of it is to be treated.
-pub record Treating (nodes sizes line memory : List ℕ) (w : Walk) (at : ℕ) (t : Treatment) : Type 0 where
-  pub laid : Laid nodes sizes
+-- Element number `at` of the first unfinished line is to be treated.
+pub record Treating (nodes sizes memory : List ℕ) (w : Walk) (at : ℕ) (t : Treatment) : Type 0 where
+  pub laid : InPrefixForm nodes sizes
   pub finished : List Line
   pub first : Stored
   pub others : List Stored
   pub holds : Memory nodes sizes memory (w .done) (w .top) finished (first ∷ others)
-  pub line-is : line ≡ stored-bytes first
-  pub turns-below : w .turns < max-turns
+  pub turns-within : w .turns ≤ max-turns
   pub leads : walk-from enough (view-of nodes sizes) (max-turns - w .turns) (w .turns) (finished ++ map line-of (first ∷ others)) ≡ whole-walk nodes sizes w
   pub pre : List Element
   pub element : Element
   pub post : List Element
   pub split : first .elements ≡ pre ++ (element ∷ post)
   pub at-is : length pre ≡ at
+  pub not-passed : first .reduced ≤ at
   pub pre-reduced : AllReduced nodes sizes (first .bindings) pre
   pub treated : Treated nodes sizes (first .bindings) element t
+
+-- The code has that line by its named parts, or no more of it than the number of its elements.
+pub record TreatingLine (nodes sizes memory : List ℕ) (w : Walk) (l : Named) (at : ℕ) (t : Treatment) : Type 0 where
+  pub treating : Treating nodes sizes memory w at t
+  pub line-holds : Holds l (treating .first)
+
+pub record TreatingCount (nodes sizes memory : List ℕ) (w : Walk) (count at : ℕ) (t : Treatment) : Type 0 where
+  pub treating : Treating nodes sizes memory w at t
+  pub count-is : count ≡ length (treating .first .elements)
+  pub turns-below : w .turns < max-turns
+
+-- What is left to do: less with each turn, and with each line that is finished.
+abbrev pub left-to-do : Walk → ℕ
+left-to-do w = (max-lines + 1) * (max-turns - w .turns) + (max-lines - w .top)
 
 -- The same walk, further on: a line more is finished, or a turn more is taken.
 pub record Further (w v : Walk) : Type 0 where
   pub same-source : v .source ≡ w .source
   pub same-target : v .target ≡ w .target
   pub top-within : v .top ≤ max-lines
-  pub falls : 300 * (max-turns - v .turns) + (max-lines - v .top) < 300 * (max-turns - w .turns) + (max-lines - w .top)
+  pub falls : left-to-do v < left-to-do w
 
 -- The walk goes on from a new table, or it is refused.
 pub record GoesOn (nodes sizes memory : List ℕ) (w v : Walk) : Type 0 where

@@ -2,7 +2,7 @@
 use mathlib.Core.Path.{refl, sym, _∙_}
 use native.Mathlib.Omega.{arith}
 use borrow.Author.Needs.{needs}
-use Rattle.answers.proofs.Stored.{cells-there, no-row-counts, scratch-cleared}
+use Rattle.answers.proofs.Stored.{cells-there, no-row-ready, scratch-cleared}
 use Rattle.answers.proofs.compare.compare_stored.Statement.{statement}
 use Rattle.answers.proofs.compare.compare_stored.Tie as tie
 
@@ -13,8 +13,8 @@ exceeds-requires : tie.Need-exceeds-requires
 exceeds-requires c κs =
     let start = c .before .before .before .before .before .before in
     let (s, t, two) = start .pre .1 in (
-      no-row-counts (start .args .scratch .now) (start .pre .0 .2) _ _ _ (start .pre .0 .0) (start .pre .0 .1) refl (start .pre .0 .3),
-      (record { term = s; stands = two .first-stands _ }, (record { term = t; stands = two .second-stands _ }, two .second-low)),
+      no-row-ready (start .args .scratch .now) (start .pre .0 .2) _ _ _ (start .pre .0 .0) (start .pre .0 .1) refl (start .pre .0 .3),
+      (record { term = s; denotes = two .first-stands _ }, (record { term = t; denotes = two .second-stands _ }, two .second-low)),
     )
 
 fill-requires : tie.Need-fill-requires
@@ -27,7 +27,7 @@ returns : tie.Need-returns
 returns c =
     let start = c .before .before .before .before .before .before .before .before .before .before .before .before .before .before in
     let exceeds = c .before .before .before .before .before .before .before .exceeds in (
-      λ s t two. exceeds .ensures .0 .number s t (two .first-stands _) (two .second-stands _),
+      λ s t two. exceeds .ensures .0 .is s t (two .first-stands _) (two .second-stands _),
       scratch-cleared (start .args .scratch .now) (start .pre .0 .2) (exceeds .last .1 .1 .1 .1 .0) _ (exceeds .kept .1 .1 .1 .1 .0) (c .before .before .fill .ensures),
     )
 

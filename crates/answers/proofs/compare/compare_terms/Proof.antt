@@ -1,7 +1,8 @@
 -- `calls::compare::compare_terms` gives the verdict of the two terms that the digits write.
 use mathlib.Core.Path.{refl}
+use Rattle.format.specs.Limits.{node-count}
 use borrow.Author.Needs.{needs}
-use Rattle.comparing.specs.Theory.Ready.{symbols-zero}
+use Rattle.comparing.specs.Theory.Cells.{symbols-zero}
 use Rattle.answers.proofs.Arities.{symbols-room, symbols-taken}
 use Rattle.answers.proofs.Stored.{pair-taken}
 use Rattle.answers.proofs.compare.compare_terms.Statement.{statement}
@@ -16,7 +17,7 @@ slice-aggregate-store c = let pre = c .before .before .before .before .pre in sy
 store-requires : tie.Need-store-requires
 store-requires c κs =
     let pre = c .before .before .before .before .before .before .pre in
-    (record { first = pre .0 .first; second = pre .0 .second; is = pair-taken (pre .1) (pre .0 .is) }, (refl, refl, symbols-zero 224))
+    (record { first = pre .0 .first; second = pre .0 .second; is = pair-taken (pre .1) (pre .0 .is) }, (refl, refl, symbols-zero node-count))
 
 compare-stored-requires : tie.Need-compare-stored-requires
 compare-stored-requires c κs =

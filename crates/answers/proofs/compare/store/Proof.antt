@@ -4,8 +4,9 @@ use lib.ListN.{length, drop}
 use mathlib.Core.Path.{ap, _∙_}
 use native.Mathlib.Omega.{arith}
 use borrow.Author.Needs.{needs}
-use Rattle.comparing.specs.Theory.Ready.{symbols-drop, symbols-take}
-use Rattle.answers.proofs.Stored.{placed, placed-symbols, pair-few, pair-symbols, pair-measurable, pair-stands}
+use Rattle.comparing.specs.Theory.Cells.{symbols-drop, symbols-take}
+use Rattle.answers.proofs.Stored.{placed}
+use Rattle.answers.proofs.Stored.{placed-symbols, pair-few, pair-symbols, pair-measurable, pair-stands}
 use Rattle.answers.proofs.compare.store.Statement.{statement}
 use Rattle.answers.proofs.compare.store.Tie as tie
 

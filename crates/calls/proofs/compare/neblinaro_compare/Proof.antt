@@ -13,14 +13,14 @@ compare-task-requires : tie.Need-compare-task-requires
 compare-task-requires c κs = (sheet-accepted _ _ _ (c .before .before .before .read-sheet .ensures) (c .before .enum-told .given .1), c .before .before .before .before .if1 .left)
 
 refusal-number-requires-2 : tie.Need-refusal-number-requires-2
-refusal-number-requires-2 c κs = refused-line _ _ _ (c .before .before .before .read-sheet .ensures) (c .before .reading .given .1)
+refusal-number-requires-2 c κs = refused-line _ _ _ (c .before .before .before .read-sheet .ensures) (c .before .status .given .1)
 
 returns-2 : tie.Need-returns-2
 returns-2 c = (compare-long _ _ _ (c .before .before .before .before .before .before .before .if1 .left) ∙ c .before .before .compare-task .ensures, refl)
 
 returns-3 : tie.Need-returns-3
 returns-3 c =
-    (compare-refused _ _ _ _ _ (c .before .before .before .before .read-sheet .ensures) (c .before .before .before .before .before .if1 .left) (c .before .before .reading .given .1) (c .refusal-number2 .ensures), refl)
+    (compare-refused _ _ _ _ _ (c .before .before .before .before .read-sheet .ensures) (c .before .before .before .before .before .if1 .left) (c .before .before .status .given .1) (c .refusal-number2 .ensures), refl)
 
 pub neblinaro-compare-spec : {M : Type 1} → statement M
 neblinaro-compare-spec =

@@ -16,13 +16,13 @@ solve-named-requires : tie.Need-solve-named-requires
 solve-named-requires c κs = (sheet-accepted _ _ _ (c .before .before .before .before .read-sheet .ensures) (c .before .before .enum-told .given .1), (c .before .before .before .before .before .before .if1 .left, c .before .before .before .before .before .if2 .left))
 
 refusal-number-requires-3 : tie.Need-refusal-number-requires-3
-refusal-number-requires-3 c κs = refused-line _ _ _ (c .before .before .before .read-sheet .ensures) (c .before .reading .given .1)
+refusal-number-requires-3 c κs = refused-line _ _ _ (c .before .before .before .read-sheet .ensures) (c .before .status .given .1)
 
 returns-3 : tie.Need-returns-3
 returns-3 c = (buffers-long _ _ _ _ _ (c .before .before .before .before .before .before .before .before .before .before .before .if1 .left) (c .before .before .before .before .before .before .before .before .before .before .if2 .left) ∙ c .before .before .before .before .solve-named .ensures, refl)
 
 returns-4 : tie.Need-returns-4
-returns-4 c = (sheet-refused _ _ _ _ _ (c .before .before .before .before .before .before .if1 .left) (c .before .before .before .before .before .if2 .left) _ _ (c .before .before .before .before .read-sheet .ensures) (c .before .before .reading .given .1) (c .refusal-number3 .ensures), refl)
+returns-4 c = (sheet-refused _ _ _ _ _ (c .before .before .before .before .before .before .if1 .left) (c .before .before .before .before .before .if2 .left) _ _ (c .before .before .before .before .read-sheet .ensures) (c .before .before .status .given .1) (c .refusal-number3 .ensures), refl)
 
 pub neblinaro-solve-spec : {M : Type 1} → statement M
 neblinaro-solve-spec =

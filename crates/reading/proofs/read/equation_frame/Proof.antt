@@ -2,17 +2,17 @@
 use mathlib.Core.Path.{subst}
 use borrow.Author.Needs.{needs}
 use Rattle.scanning.specs.Contracts.Scan.{EquationGiven}
-use Rattle.reading.specs.Contracts.Reader.{StepRead}
-use Rattle.scanning.specs.Theory.Outcome.{by-refused}
-use Rattle.reading.proofs.Step.{after-tasks, equations-full, equation-refused, equation-done, width-given}
+use Rattle.reading.specs.Contracts.Reader.{FrameRead}
+use Rattle.reading.proofs.Refused.{by-refused}
+use Rattle.reading.proofs.OneFrame.{after-tasks, equations-full, equation-refused, equation-done, width-given}
 use Rattle.reading.proofs.read.equation_frame.Statement.{statement}
 use Rattle.reading.proofs.read.equation_frame.Tie as tie
 
 returns : tie.Need-returns
-returns c = λ sheet knows. by-refused (StepRead _ _) (c .refused .ensures) (after-tasks _ sheet knows (c .before .if1 .taken) _)
+returns c = λ sheet knows. by-refused (FrameRead _) (c .refused .ensures) (after-tasks _ sheet knows (c .before .if1 .taken) _)
 
 returns-2 : tie.Need-returns-2
-returns-2 c = λ sheet knows. by-refused (StepRead _ _) (c .refused2 .ensures) (equations-full _ sheet knows (c .before .if2 .taken) _)
+returns-2 c = λ sheet knows. by-refused (FrameRead _) (c .refused2 .ensures) (equations-full _ sheet knows (c .before .if2 .taken) _)
 
 with-equation-requires : tie.Need-with-equation-requires
 with-equation-requires c κs =
@@ -22,13 +22,13 @@ with-equation-requires c κs =
 returns-3 : tie.Need-returns-3
 returns-3 c = λ sheet knows.
     let body = c .before .before .before .before in
-    by-refused (StepRead _ _) (c .refused3 .ensures)
-    (equation-refused _ sheet knows (body .before .before .before .if1 .left) (body .before .if2 .left) _ (subst (EquationGiven _ _ _) (c .before .before .outcome .given .1) (body .equation-body .ensures)))
+    by-refused (FrameRead _) (c .refused3 .ensures)
+    (equation-refused _ sheet knows (body .before .before .before .if1 .left) (body .before .if2 .left) _ (subst (EquationGiven _ _ _) (c .before .before .status .given .1) (body .equation-body .ensures)))
 
 returns-4 : tie.Need-returns-4
 returns-4 c = λ sheet knows.
     let body = c .before .before .before in
-    equation-done _ sheet knows (body .before .before .before .if1 .left) (body .before .if2 .left) _ (body .before .before .before .before .before .before .pre .0 .are-bytes) _
+    equation-done _ sheet knows (body .before .before .before .if1 .left) (body .before .if2 .left) _ (body .before .before .before .before .before .before .pre .0 .body .are-bytes) _
     (subst (EquationGiven _ _ _) (c .before .enum-told .given .1) (body .equation-body .ensures)) (c .with-equation .ensures)
 
 pub equation-frame-spec : {M : Type 1} → statement M

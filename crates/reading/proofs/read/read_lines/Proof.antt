@@ -4,7 +4,7 @@ use native.Mathlib.Omega.{arith}
 use borrow.Author.Needs.{needs}
 use lib.ListN.{length}
 use mathlib.Core.Path.{subst}
-use Rattle.scanning.specs.Contracts.Cursor.{RowRead}
+use Rattle.scanning.specs.Contracts.Cursor.{LineRead}
 use Rattle.reading.proofs.Lines.{Passing, passing-start, line-broken, line-body, line-some, line-refused, line-next, no-equations, all-accepted, by-refused-at}
 use Rattle.reading.proofs.read.read_lines.Statement.{statement}
 use Rattle.reading.proofs.read.read_lines.Tie as tie
@@ -20,48 +20,48 @@ loop-holds c = passing-start _ _ (c .before .before .pre .0) (c .before .before 
 
 returns : tie.Need-returns Inv-loop μ-loop
 returns c =
-    let row = c .before .before .before in
-    let loop = row .before .before .loop in
-    by-refused-at _ _ _ (c .refused-at .ensures) (line-broken _ _ _ _ (loop .inv) (subst (RowRead _ _) (c .before .enum-told .given .1) (row .row-end .ensures)))
-    (omega (arith, loop .inv .counted, row .before .loop-test .taken, row .before .before .before .before .before .pre .1))
+    let ended = c .before .before .before in
+    let loop = ended .before .before .loop in
+    by-refused-at _ _ _ (c .refused-at .ensures) (line-broken _ _ _ _ (loop .inv) (subst (LineRead _ _) (c .before .enum-told .given .1) (ended .line-end .ensures)))
+    (omega (arith, loop .inv .counted, ended .before .loop-test .taken, ended .before .before .before .before .before .pre .1))
 
 read-frame-requires : tie.Need-read-frame-requires Inv-loop μ-loop
 read-frame-requires c κs =
-    let row = c .before .before .before in
-    let loop = row .before .before .loop in
-    let line = subst (RowRead _ _) (c .before .end .given .1) (row .row-end .ensures) in
+    let ended = c .before .before .before in
+    let loop = ended .before .before .loop in
+    let line = subst (LineRead _ _) (c .before .end .given .1) (ended .line-end .ensures) in
     (line-body _ _ _ _ (loop .inv) _ line, line-some _ _ _ _ (loop .inv) _ line, (loop .inv .state, loop .inv .knows))
 
 returns-2 : tie.Need-returns-2 Inv-loop μ-loop
 returns-2 c =
     let frame = c .before .before .before .before in
-    let row = frame .before .before .before .before in
-    let loop = row .before .before .loop in
-    let line = subst (RowRead _ _) (frame .before .before .end .given .1) (row .row-end .ensures) in
-    by-refused-at _ _ _ (c .refused-at2 .ensures) (line-refused _ _ _ _ (loop .inv) _ line _ _ (frame .read-frame .ensures) (c .before .before .outcome .given .1))
-    (omega (arith, loop .inv .counted, row .before .loop-test .taken, row .before .before .before .before .before .pre .1))
+    let ended = frame .before .before .before .before in
+    let loop = ended .before .before .loop in
+    let line = subst (LineRead _ _) (frame .before .before .end .given .1) (ended .line-end .ensures) in
+    by-refused-at _ _ _ (c .refused-at2 .ensures) (line-refused _ _ _ _ (loop .inv) _ line _ _ (frame .read-frame .ensures) (c .before .before .status .given .1))
+    (omega (arith, loop .inv .counted, ended .before .loop-test .taken, ended .before .before .before .before .before .pre .1))
 
 loop-less : tie.Need-loop-less Inv-loop μ-loop
 loop-less c =
     let frame = c .before .before .before in
-    let row = frame .before .before .before .before in
-    let loop = row .before .before .loop in
-    let line = subst (RowRead _ _) (frame .before .before .end .given .1) (row .row-end .ensures) in
-    omega (arith, line .inside, line .even, row .before .loop-test .taken)
+    let ended = frame .before .before .before .before in
+    let loop = ended .before .before .loop in
+    let line = subst (LineRead _ _) (frame .before .before .end .given .1) (ended .line-end .ensures) in
+    omega (arith, line .inside, line .even, ended .before .loop-test .taken)
 
 loop-again : tie.Need-loop-again Inv-loop μ-loop
 loop-again c =
     let frame = c .before .before .before in
-    let row = frame .before .before .before .before in
-    let loop = row .before .before .loop in
-    let line = subst (RowRead _ _) (frame .before .before .end .given .1) (row .row-end .ensures) in
-    line-next _ _ _ _ (loop .inv) _ line (frame .read-frame .result .known) (frame .read-frame .result .outcome) (frame .read-frame .ensures) (c .before .enum-told2 .given .1)
+    let ended = frame .before .before .before .before in
+    let loop = ended .before .before .loop in
+    let line = subst (LineRead _ _) (frame .before .before .end .given .1) (ended .line-end .ensures) in
+    line-next _ _ _ _ (loop .inv) _ line (frame .read-frame .result .known) (frame .read-frame .result .status) (frame .read-frame .ensures) (c .before .enum-told2 .given .1)
 
 add-at : tie.Need-add-at Inv-loop μ-loop
 add-at c =
     let frame = c .before .before .before in
-    let row = frame .before .before .before .before in
-    let line = subst (RowRead _ _) (frame .before .before .end .given .1) (row .row-end .ensures) in
+    let ended = frame .before .before .before .before in
+    let line = subst (LineRead _ _) (frame .before .before .end .given .1) (ended .line-end .ensures) in
     omega (arith, line .inside)
 
 returns-3 : tie.Need-returns-3 Inv-loop μ-loop

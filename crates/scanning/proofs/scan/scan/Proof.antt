@@ -1,54 +1,56 @@
 -- `scanning::scan::scan` is the definition's `scan`. The loop's invariant, `Scanning`: what is left to read decides, and the numbers stay small.
+
 use mathlib.Core.Path.{subst}
 use native.Mathlib.Omega.{arith}
 use borrow.Author.Needs.{needs}
 use Rattle.scanning.specs.Contracts.Scan.{listed}
-use Rattle.scanning.proofs.Scanning.{Scanning, scanning-start, stop-done, stop-early, stop-full, stop-refused, byte-small, next-inside, scanning-next, scanning-declared, told-after, told-width}
+use Rattle.scanning.proofs.Scanning.{Scanning, scanning-start, stop-done, stop-early, stop-full, stop-refused, next-small, next-inside, scanning-next, scanning-declared, told-after, told-width}
 use Rattle.scanning.proofs.scan.scan.Statement.{statement}
 use Rattle.scanning.proofs.scan.scan.Tie as tie
 
 abbrev Inv-loop : tie.InvT-loop
-Inv-loop s from end ground terms nodes width symbols arities at₀ need₀ room₀ widest₀ at need room widest = Scanning s from end (listed symbols arities) ground terms nodes width at need room widest
+Inv-loop s symbols arities end ground at₀ need₀ room₀ widest₀ at need room widest =
+    Scanning s (record { from = at₀; end = end }) (listed symbols arities) (record { terms = need₀; nodes = room₀; ground = ground; width = widest₀ }) at need room widest
 
 abbrev μ-loop : tie.MeasureT-loop
-μ-loop s from end ground terms nodes width symbols arities at₀ need₀ room₀ widest₀ at need room widest = room
+μ-loop s symbols arities end ground at₀ need₀ room₀ widest₀ at need room widest = room
 
 loop-holds : tie.Need-loop-holds Inv-loop μ-loop
-loop-holds c = scanning-start _ _ _ _ _ _ _ _ (c .before .before .pre)
+loop-holds c = scanning-start _ _ _ _ (c .before .before .pre)
 
 returns : tie.Need-returns Inv-loop μ-loop
 returns c =
     let loop = c .before .before .loop in
-    stop-early _ _ _ _ _ _ _ _ (loop .at) (loop .need) (loop .room) (loop .widest) (loop .inv) (c .if1 .taken) (c .before .loop-test .taken)
+    stop-early _ _ _ _ (loop .at) (loop .need) (loop .room) (loop .widest) (loop .inv) (c .if1 .taken) (c .before .loop-test .taken)
 
 returns-2 : tie.Need-returns-2 Inv-loop μ-loop
 returns-2 c =
     let loop = c .before .before .before .loop in
-    stop-full _ _ _ _ _ _ _ _ (loop .at) (loop .need) (loop .room) (loop .widest) (loop .inv) (c .before .if1 .left) (c .before .before .loop-test .taken) (c .if2 .taken)
+    stop-full _ _ _ _ (loop .at) (loop .need) (loop .room) (loop .widest) (loop .inv) (c .before .if1 .left) (c .before .before .loop-test .taken) (c .if2 .taken)
 
 byte-at-requires : tie.Need-byte-at-requires Inv-loop μ-loop
 byte-at-requires c κs =
     let loop = c .before .before .before .loop in
-    omega (arith, next-inside _ _ _ _ _ _ _ _ (loop .at) (loop .need) (loop .room) (loop .widest) (loop .inv) (c .before .if1 .left), loop .inv .inside)
+    omega (arith, next-inside _ _ _ _ (loop .at) (loop .need) (loop .room) (loop .widest) (loop .inv) (c .before .if1 .left))
 
 add-at : tie.Need-add-at Inv-loop μ-loop
 add-at c =
     let read = c .before .before in
     let loop = read .before .before .before .before .loop in
-    omega (arith, next-inside _ _ _ _ _ _ _ _ (loop .at) (loop .need) (loop .room) (loop .widest) (loop .inv) (read .before .before .if1 .left), loop .inv .inside)
+    omega (arith, next-inside _ _ _ _ (loop .at) (loop .need) (loop .room) (loop .widest) (loop .inv) (read .before .before .if1 .left))
 
 loop-again : tie.Need-loop-again Inv-loop μ-loop
 loop-again c =
     let read = c .before .before in
     let loop = read .before .before .before .before .loop in
-    scanning-declared _ _ _ _ _ _ _ _ _ (loop .at) (loop .need) (loop .room) (loop .widest) (loop .inv) (read .before .before .if1 .left) (read .before .before .before .loop-test .taken) (read .before .if2 .left)
+    scanning-declared _ _ _ _ _ (loop .at) (loop .need) (loop .room) (loop .widest) (loop .inv) (read .before .before .if1 .left) (read .before .before .before .loop-test .taken) (read .before .if2 .left)
     (read .before .before .before .before .before .before .before .pre .few-symbols) (read .byte-at .ensures) (c .before .if3 .taken) (c .wide .ensures .0) (c .wide .ensures .1)
 
 cast-classify : tie.Need-cast-classify Inv-loop μ-loop
 cast-classify c =
     let read = c .before in
     let loop = read .before .before .before .before .loop in
-    omega (arith, read .byte-at .ensures, byte-small _ _ _ _ _ _ _ _ (loop .at) (loop .need) (loop .room) (loop .widest) (loop .inv) (read .before .before .if1 .left))
+    omega (arith, read .byte-at .ensures, next-small _ _ _ _ (loop .at) (loop .need) (loop .room) (loop .widest) (loop .inv) (read .before .before .if1 .left))
 
 terms-after-requires : tie.Need-terms-after-requires Inv-loop μ-loop
 terms-after-requires c κs =
@@ -60,14 +62,14 @@ returns-3 c =
     let call = c .before .before .before in
     let read = call .before .before .before .before in
     let loop = read .before .before .before .before .loop in
-    stop-refused _ _ _ _ _ _ _ _ (loop .at) (loop .need) (loop .room) (loop .widest) (loop .inv) (read .before .before .if1 .left) (read .before .before .before .loop-test .taken)
+    stop-refused _ _ _ _ (loop .at) (loop .need) (loop .room) (loop .widest) (loop .inv) (read .before .before .if1 .left) (read .before .before .before .loop-test .taken)
     (read .before .if2 .left) _ (told-after _ _ _ (read .byte-at .ensures) (call .before .before .classify .ensures) (call .terms-after .ensures .0) (c .before .r .given .1))
 
 add-at-2 : tie.Need-add-at-2 Inv-loop μ-loop
 add-at-2 c =
     let read = c .before .before .before .before .before .before .before in
     let loop = read .before .before .before .before .loop in
-    omega (arith, next-inside _ _ _ _ _ _ _ _ (loop .at) (loop .need) (loop .room) (loop .widest) (loop .inv) (read .before .before .if1 .left), loop .inv .inside)
+    omega (arith, next-inside _ _ _ _ (loop .at) (loop .need) (loop .room) (loop .widest) (loop .inv) (read .before .before .if1 .left))
 
 loop-again-2 : tie.Need-loop-again-2 Inv-loop μ-loop
 loop-again-2 c =
@@ -77,14 +79,14 @@ loop-again-2 c =
     let n = c .before .before .before .n .given in
     let most = subst (Rattle.scanning.specs.Contracts.Scan.NeedAtMost _) (n .1) (call .terms-after .ensures .1) in
     let next =
-    scanning-next _ _ _ _ _ _ _ _ (loop .at) (loop .need) (loop .room) (loop .widest) (loop .inv) (read .before .before .if1 .left) (read .before .before .before .loop-test .taken)
+    scanning-next _ _ _ _ (loop .at) (loop .need) (loop .room) (loop .widest) (loop .inv) (read .before .before .if1 .left) (read .before .before .before .loop-test .taken)
     (read .before .if2 .left) (n .0 .0) (told-after _ _ _ (read .byte-at .ensures) (call .before .before .classify .ensures) (call .terms-after .ensures .0) (n .1)) most in
-    subst (Scanning _ _ _ _ _ _ _ _ _ _ _) (told-width (loop .widest) (read .byte-at .ensures) (call .before .before .classify .ensures) (c .before .node-width .ensures) (c .greater .ensures)) next
+    subst (Scanning _ _ _ _ _ _ _) (told-width (loop .widest) (read .byte-at .ensures) (call .before .before .classify .ensures) (c .before .node-width .ensures) (c .greater .ensures)) next
 
 returns-4 : tie.Need-returns-4 Inv-loop μ-loop
 returns-4 c =
     let loop = c .before .loop in
-    stop-done _ _ _ _ _ _ _ _ (loop .at) (loop .need) (loop .room) (loop .widest) (loop .inv) (c .loop-test .left)
+    stop-done _ _ _ _ (loop .at) (loop .need) (loop .room) (loop .widest) (loop .inv) (c .loop-test .left)
 
 pub scan-spec : {M : Type 1} → statement M
 scan-spec =

@@ -1,4 +1,4 @@
--- `scanning::text::byte_at` gives the byte of two digits; each value is at most 16, so nothing wraps.
+-- `scanning::text::byte_at` gives the byte of two digits; each value is at most the base, so nothing wraps.
 use Prim.Native.Nat.{_+_}
 use native.Mathlib.Omega.{arith}
 use borrow.Author.Needs.{needs}

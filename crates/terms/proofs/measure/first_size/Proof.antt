@@ -13,52 +13,42 @@ Inv-loop nodes arities lengths byte count next₀ k₀ next k = Added nodes arit
 abbrev μ-loop : tie.MeasureT-loop
 μ-loop nodes arities lengths byte count next₀ k₀ next k = count - k
 
--- src/lib.rt:154:9
 returns : tie.Need-returns Inv-loop μ-loop
 returns c =
     let s = c .before .before .before .before .before in
     rw (s .pre .1 .1) (variable-sizes (s .args .arities .now) (s .args .nodes .now) (s .pre .0) (s .pre .1 .0 .0) (c .if1 .taken))
 
--- src/lib.rt:156:17
 shared-slice-read-count : tie.Need-shared-slice-read-count Inv-loop μ-loop
 shared-slice-read-count c =
     let s = c .before .before .before .before .before .before .before in
     let x = symbol-sizes (s .args .arities .now) (s .args .nodes .now) (s .pre .0) (s .pre .1 .0 .0) (c .before .before .if1 .left) in
     omega (arith, x .known, c .before .wide .ensures .0)
 
--- src/lib.rt:159:5
 loop-holds : tie.Need-loop-holds Inv-loop μ-loop
 loop-holds c =
     let s = c .before .before .before .before .before .before .before in
     rw (c .before .wide .ensures .0) (added-none (s .pre .0) (s .pre .1 .0 .0) (s .pre .1 .0 .1) (s .pre .1 .1) (c .before .before .if1 .left))
 
--- src/lib.rt:160:28
 shared-slice-read-wide : tie.Need-shared-slice-read-wide Inv-loop μ-loop
 shared-slice-read-wide c = added-below (c .before .before .loop .inv) (c .before .loop-test .taken)
 
--- src/lib.rt:160:16
 add-next : tie.Need-add-next Inv-loop μ-loop
 add-next c =
     let a = added-more (c .before .before .before .loop .inv) (c .before .before .loop-test .taken) in
     omega (arith, added-few a, c .wide2 .ensures .0)
 
--- src/lib.rt:161:13
 add-k : tie.Need-add-k Inv-loop μ-loop
 add-k c = omega (arith, c .before .before .before .before .shared-slice-known5 .given (c .before .before .before .before .before .wide .result))
 
--- src/lib.rt:159:5
 loop-again : tie.Need-loop-again Inv-loop μ-loop
 loop-again c = rw (c .wide2 .ensures .0) (added-more (c .before .before .before .loop .inv) (c .before .before .loop-test .taken))
 
--- src/lib.rt:163:6
 add-result : tie.Need-add-result Inv-loop μ-loop
 add-result c = omega (arith, added-few (c .before .loop .inv))
 
--- src/lib.rt:163:5
 cast-result : tie.Need-cast-result Inv-loop μ-loop
 cast-result c = omega (arith, added-few (c .before .loop .inv))
 
--- src/lib.rt:146:1
 returns-2 : tie.Need-returns-2 Inv-loop μ-loop
 returns-2 c = added-all (c .before .loop .inv) (c .loop-test .left)
 

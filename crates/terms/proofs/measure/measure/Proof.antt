@@ -12,37 +12,30 @@ Inv-loop nodes arities before from end i₀ sizes i = Filled arities nodes befor
 abbrev μ-loop : tie.MeasureT-loop
 μ-loop nodes arities before from end i₀ sizes i = i
 
--- src/lib.rt:172:5
 loop-holds : tie.Need-loop-holds Inv-loop μ-loop
 loop-holds c = filled-none (c .before .before .before .pre)
 
--- src/lib.rt:175:56
 part-first-size-end-2 : tie.Need-part-first-size-end-2 Inv-loop μ-loop
 part-first-size-end-2 c =
     let f = c .before .before .before .loop .inv in
     omega (arith, filled-same-length (c .before .before .before .before .before .before .before .pre) f, c .before .before .before .before .before .before .before .pre .sizes-room)
 
--- src/lib.rt:175:13
 first-size-requires : tie.Need-first-size-requires Inv-loop μ-loop
 first-size-requires c κs =
     let q = first-asks (c .before .before .before .before .before .before .before .before .pre) (c .before .before .before .before .loop .inv) (c .before .before .before .loop-test .taken) in
     (q .0, (q .1, q .2))
 
--- src/lib.rt:176:9
 slice-write-sizes : tie.Need-slice-write-sizes Inv-loop μ-loop
 slice-write-sizes c =
     let f = c .before .before .before .before .before .loop .inv in
     omega (arith, f .high, filled-same-length (c .before .before .before .before .before .before .before .before .before .pre) f, c .before .before .before .before .before .before .before .before .before .pre .sizes-room, c .before .before .before .before .loop-test .taken)
 
--- src/lib.rt:172:5
 loop-again : tie.Need-loop-again Inv-loop μ-loop
 loop-again c = filled-more (c .before .before .before .before .before .before .before .before .before .pre) (c .before .before .before .before .before .loop .inv) (c .before .before .before .before .loop-test .taken) (c .first-size .ensures)
 
--- src/lib.rt:167:1
 same-length : tie.Need-same-length Inv-loop μ-loop
 same-length c = filled-same-length (c .before .before .before .before .before .pre) (c .before .loop .inv)
 
--- src/lib.rt:167:1
 returns : tie.Need-returns Inv-loop μ-loop
 returns c =
     let f = c .before .loop .inv in

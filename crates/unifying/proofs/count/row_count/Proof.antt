@@ -5,9 +5,6 @@ use Rattle.unifying.proofs.Rows.{Counting, counting-start, counting-siz
 use borrow.Author.Needs.{needs}
 use Rattle.unifying.proofs.count.row_count.Statement.{statement}
 use Rattle.unifying.proofs.count.row_count.Tie as tie
-use Rattle.unifying.proofs.count.row_count.Reads as reads
-use Rattle.unifying.proofs.count.row_count.Lts as lts
-use Rattle.format.proofs.byte.wide.Reads as wide-reads
 
 abbrev Inv-loop : tie.InvT-loop
 Inv-loop sizes k end count₀ t₀ count t = Counting sizes k end t count

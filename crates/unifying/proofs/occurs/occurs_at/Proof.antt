@@ -3,7 +3,7 @@ use Prim.Native.Nat.{_<_}
 use borrow.Author.Needs.{needs}
 use native.Mathlib.Omega.{arith}
 use Rattle.format.specs.Limits.{variable-count}
-use Rattle.unifying.specs.Contracts.Met.{weight, weight-next}
+use Rattle.unifying.proofs.Marks.{weight, weight-next}
 use Rattle.unifying.proofs.Occurrence.{Search, Searched, Sought, slots, search-start, search-passed, search-next, search-true, search-false}
 use Rattle.unifying.proofs.occurs.occurs_at.Statement.{statement}
 use Rattle.unifying.proofs.occurs.occurs_at.Tie as tie
@@ -20,20 +20,20 @@ sought c = record { laid = c .pre .0 .0; proper = c .pre .1 .0; free = c .pre .1
 loop-holds : tie.Need-loop-holds Inv-loop μ-loop
 loop-holds c = search-start _ _ _ _ _ (c .before .before .before .pre .0 .1)
 
-stands-requires : tie.Need-stands-requires Inv-loop μ-loop
-stands-requires c κs =
+search-term-requires : tie.Need-search-term-requires Inv-loop μ-loop
+search-term-requires c κs =
     let start = c .before .before .before .before .before in
     ((start .pre .0 .0, c .before .loop .inv .within), (slots (sought start), c .before .loop .inv .marks .each))
 
 returns : tie.Need-returns Inv-loop μ-loop
-returns c = search-true (sought (c .before .before .before .before .before .before .before)) (c .before .before .before .loop .inv) (c .before .stands .ensures .0 (c .if1 .taken))
+returns c = search-true (sought (c .before .before .before .before .before .before .before)) (c .before .before .before .loop .inv) (c .before .search-term .ensures .0 (c .if1 .taken))
 
 -- What the call of `first_met` is given, and what it finds.
 searched : (c : tie.After-first-met Inv-loop μ-loop)
     → let start = c .before .before .before .before .before .before .before .before .before in
-    Searched (start .args .nodes .now) (start .args .sizes .now) (start .args .bindings .now) (start .args .v) (start .args .p) (c .before .before .before .stands .last .1 .1 .1 .1 .1 .0)
+    Searched (start .args .nodes .now) (start .args .sizes .now) (start .args .bindings .now) (start .args .v) (start .args .p) (c .before .before .before .search-term .last .1 .1 .1 .1 .1 .0)
 searched c =
-    search-passed (sought (c .before .before .before .before .before .before .before .before .before)) (c .before .before .before .before .before .loop .inv) (c .before .before .before .stands .ensures .1 (c .before .before .if1 .left))
+    search-passed (sought (c .before .before .before .before .before .before .before .before .before)) (c .before .before .before .before .before .loop .inv) (c .before .before .before .search-term .ensures .1 (c .before .before .if1 .left))
 
 returns-2 : tie.Need-returns-2 Inv-loop μ-loop
 returns-2 c =
@@ -51,7 +51,7 @@ shared-slice-read-wide c =
 loop-less : tie.Need-loop-less Inv-loop μ-loop
 loop-less c =
     let call = c .before .before .before in
-    weight-next (call .before .before .before .stands .ensures .1 (call .before .before .if1 .left)) _ (call .first-met .ensures .1 .0 (index (c .before .before)))
+    weight-next (call .before .before .before .search-term .ensures .1 (call .before .before .if1 .left)) _ (call .first-met .ensures .1 .0 (index (c .before .before)))
 
 loop-again : tie.Need-loop-again Inv-loop μ-loop
 loop-again c =
@@ -67,7 +67,7 @@ occurs-at-spec =
     Inv-loop
     μ-loop
     loop-holds
-    stands-requires
+    search-term-requires
     returns
     (λ c κs. search needs)
     returns-2

@@ -1,13 +1,10 @@
 -- `reached` meets its contract. The invariant: from where the walk has come, the hops that are left lead to the same position.
 use native.Mathlib.Omega.{arith}
 use borrow.Author.Needs.{needs}
-use Rattle.unifying.specs.Theory.Bound.{not-unbound}
+use Rattle.unifying.specs.Theory.Bindings.{not-unbound}
 use Rattle.unifying.proofs.Follow.{Following, following-start, slot-there, reached-symbol, reached-free, following-on, reached-end}
 use Rattle.unifying.proofs.reach.reached.Statement.{statement}
 use Rattle.unifying.proofs.reach.reached.Tie as tie
-use Rattle.unifying.proofs.reach.reached.Reads as reads
-use Rattle.unifying.proofs.reach.reached.Lts as lts
-use Rattle.format.proofs.byte.wide.Reads as wide-reads
 
 abbrev Inv-loop : tie.InvT-loop
 Inv-loop nodes sizes bindings p at₀ hops₀ at hops = Following nodes sizes bindings p at hops
@@ -15,7 +12,6 @@ Inv-loop nodes sizes bindings p at₀ hops₀ at hops = Following nodes sizes bi
 abbrev μ-loop : tie.MeasureT-loop
 μ-loop nodes sizes bindings p at₀ hops₀ at hops = hops
 
--- src/reach.rt:25:5
 loop-holds : tie.Need-loop-holds Inv-loop μ-loop
 loop-holds c = following-start (c .before .before .before .pre .1)
 
@@ -23,38 +19,30 @@ loop-holds c = following-start (c .before .before .before .pre .1)
 shared-slice-read-byte : tie.Need-shared-slice-read-byte Inv-loop μ-loop
 shared-slice-read-byte c = c .before .before .loop .inv .within
 
--- src/reach.rt:28:13
 returns : tie.Need-returns Inv-loop μ-loop
 returns c = let f = c .before .before .before .loop .inv in (reached-symbol f (c .if1 .taken), f .within)
 
--- src/reach.rt:30:29
 wide-requires : tie.Need-wide-requires Inv-loop μ-loop
 wide-requires c κs = search needs
 
--- src/reach.rt:30:20
 shared-slice-read-next : tie.Need-shared-slice-read-next Inv-loop μ-loop
 shared-slice-read-next c = let f = c .before .before .before .before .before .loop .inv in omega (arith, slot-there (c .before .before .before .before .before .before .before .before .before .pre .0) (f .within) (c .before .before .if1 .left), c .before .wide .ensures .0)
 
--- src/reach.rt:32:13
 returns-2 : tie.Need-returns-2 Inv-loop μ-loop
 returns-2 c =
     let f = c .before .before .before .before .before .before .loop .inv in
     let s = slot-there (c .before .before .before .before .before .before .before .before .before .before .pre .0) (f .within) (c .before .before .before .if1 .left) in
     (reached-free (c .before .before .wide .result) f (c .before .before .before .if1 .left) (c .before .before .wide .ensures .0) (omega (arith, s, c .before .before .wide .ensures .0)) (c .if2 .taken), f .within)
 
--- src/reach.rt:34:9
 wide-requires-2 : tie.Need-wide-requires-2 Inv-loop μ-loop
 wide-requires-2 c κs = search needs
 
--- src/reach.rt:35:16
 sub-hops : tie.Need-sub-hops Inv-loop μ-loop
 sub-hops c = search needs
 
--- src/reach.rt:25:5
 loop-less : tie.Need-loop-less Inv-loop μ-loop
 loop-less c = search needs
 
--- src/reach.rt:25:5
 loop-again : tie.Need-loop-again Inv-loop μ-loop
 loop-again c =
     let f = c .before .before .before .before .before .before .before .loop .inv in
@@ -63,7 +51,6 @@ loop-again c =
     following-on (c .before .before .before .wide .result) q _ (c .before .before .before .before .before .before .before .before .before .before .before .pre .0) f (omega (arith, c .before .before .before .before .before .before .loop-test .taken)) (c .before .before .before .before .if1 .left) (c .before .before .before .wide .ensures .0)
     (omega (arith, s, c .before .before .before .wide .ensures .0)) (c .wide2 .ensures .0) (not-unbound (c .wide2 .ensures .0) (c .wide2 .ensures .1) (c .before .if2 .left))
 
--- src/reach.rt:17:1
 returns-3 : tie.Need-returns-3 Inv-loop μ-loop
 returns-3 c = let f = c .before .loop .inv in (reached-end f (c .loop-test .left), f .within)
 

@@ -5,13 +5,10 @@ use native.Mathlib.Omega.{arith}
 use Rattle.format.specs.Limits.{variable-count}
 use Rattle.unifying.specs.Theory.Front.{Fronting, fronting-start, fronting-length, fronting-next, fronting-whole}
 use Rattle.unifying.proofs.Copied.{copy-unified}
-use Rattle.unifying.specs.Theory.Bound.{readable-slots}
+use Rattle.unifying.specs.Theory.Bindings.{readable-slots}
 use borrow.Author.Needs.{needs}
 use Rattle.unifying.proofs.unifier.unify_positions.Statement.{statement}
 use Rattle.unifying.proofs.unifier.unify_positions.Tie as tie
-use Rattle.unifying.proofs.unifier.unify_positions.Reads as reads
-use Rattle.unifying.proofs.unifier.unify_positions.Lts as lts
-use Rattle.unifying.proofs.unify.unify_terms.Reads as unify-terms-reads
 
 abbrev Inv-loop : tie.InvT-loop
 Inv-loop nodes sizes bindings p q own₀ i₀ own i = Fronting variable-count bindings own₀ own i
@@ -51,7 +48,7 @@ slice-aggregate-unify-terms c = sym (fronting-length (c .before .before .loop .i
 unify-terms-requires : tie.Need-unify-terms-requires Inv-loop μ-loop
 unify-terms-requires c κs =
     let start = c .before .before .before .before .before .before in
-    ((rw (fronting-whole (c .before .before .loop .inv) (c .before .loop-test .left) refl) (start .pre .0), omega arith), start .pre .1)
+    ((rw (fronting-whole (c .before .before .loop .inv) (c .before .loop-test .left) refl) (start .pre .0)), start .pre .1)
 
 -- src/unifier.rt:21:1
 returns : tie.Need-returns Inv-loop μ-loop

@@ -2,39 +2,29 @@
 use mathlib.Core.Path.{sym, _∙_}
 use native.Mathlib.Omega.{arith}
 use borrow.Author.Needs.{needs}
-use Rattle.unifying.specs.Theory.Bound.{length-bindings}
+use Rattle.unifying.specs.Theory.Bindings.{length-bindings}
 use Rattle.unifying.specs.Theory.Unify.{term-fails, term-binds}
 use Rattle.unifying.proofs.unify.bind_term.Statement.{statement}
 use Rattle.unifying.proofs.unify.bind_term.Tie as tie
-use Rattle.unifying.proofs.unify.bind_term.Reads as reads
-use Rattle.unifying.proofs.unify.bind_term.Lts as lts
-use Rattle.unifying.proofs.occurs.occurs_at.Reads as occurs-at-reads
 
--- src/unify.rt:45:8
 occurs-at-requires : tie.Need-occurs-at-requires
 occurs-at-requires c κs = let a = c .before .before .before .before in ((a .pre .0 .0 .laid, a .pre .0 .1), (a .pre .0 .0 .proper, a .pre .1))
 
--- src/unify.rt:46:9
 same-length : tie.Need-same-length
 same-length c = search needs
 
--- src/unify.rt:46:9
 returns : tie.Need-returns
 returns c = let a = c .before .before .before .before .before .before in term-fails (a .args .bindings .now) (a .args .v) (a .args .p) _ _ (sym (c .if1 .taken) ∙ c .before .occurs-at .ensures)
 
--- src/unify.rt:48:19
 cast-bindings : tie.Need-cast-bindings
 cast-bindings c = let a = c .before .before .before .before .before .before in omega (arith, a .pre .0 .1, a .pre .0 .0 .laid .few)
 
--- src/unify.rt:48:5
 slice-write-bindings : tie.Need-slice-write-bindings
 slice-write-bindings c = let a = c .before .before .before .before .before .before in omega (arith, a .pre .1 .0, a .pre .0 .0 .proper .slots, length-bindings (a .args .bindings .now))
 
--- src/unify.rt:40:1
 same-length-2 : tie.Need-same-length-2
 same-length-2 c = search needs
 
--- src/unify.rt:40:1
 returns-2 : tie.Need-returns-2
 returns-2 c = let a = c .before .before .before .before .before .before in term-binds (a .args .bindings .now) (a .args .v) (a .args .p) _ (sym (c .if1 .left) ∙ c .before .occurs-at .ensures) (omega (arith, a .pre .0 .1, a .pre .0 .0 .laid .few))
 

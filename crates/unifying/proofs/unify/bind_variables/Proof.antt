@@ -3,18 +3,13 @@ use borrow.Author.Needs.{needs}
 use Rattle.unifying.specs.Theory.Unify.{variables-same, variables-less, variables-more}
 use Rattle.unifying.proofs.unify.bind_variables.Statement.{statement}
 use Rattle.unifying.proofs.unify.bind_variables.Tie as tie
-use Rattle.unifying.proofs.unify.bind_variables.Reads as reads
-use Rattle.unifying.proofs.unify.bind_variables.Lts as lts
 
--- src/unify.rt:29:9
 returns : tie.Need-returns
 returns c = variables-same (c .before .args .bindings .now) (c .before .args .v) (c .before .args .w) (c .before .args .p) (c .before .args .q) (c .if1 .taken)
 
--- src/unify.rt:32:23
 cast-bindings : tie.Need-cast-bindings
 cast-bindings c = search needs
 
--- src/unify.rt:32:9
 slice-write-bindings : tie.Need-slice-write-bindings
 slice-write-bindings c = search needs
 
@@ -26,7 +21,6 @@ same-length c = search needs
 returns-2 : tie.Need-returns-2
 returns-2 c = let a = c .before .before in variables-less (a .args .bindings .now) (a .args .v) (a .args .w) (a .args .p) (a .args .q) (c .before .if1 .left) (c .if2 .taken) (a .pre .3)
 
--- src/unify.rt:35:19
 cast-bindings-2 : tie.Need-cast-bindings-2
 cast-bindings-2 c = search needs
 
@@ -34,11 +28,9 @@ cast-bindings-2 c = search needs
 slice-write-bindings-2 : tie.Need-slice-write-bindings-2
 slice-write-bindings-2 c = search needs
 
--- src/unify.rt:24:1
 same-length-2 : tie.Need-same-length-2
 same-length-2 c = search needs
 
--- src/unify.rt:24:1
 returns-3 : tie.Need-returns-3
 returns-3 c = let a = c .before .before in variables-more (a .args .bindings .now) (a .args .v) (a .args .w) (a .args .p) (a .args .q) (c .before .if1 .left) (c .if2 .left) (a .pre .2)
 

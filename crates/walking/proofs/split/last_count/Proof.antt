@@ -1,6 +1,6 @@
 -- `last_count` meets its contract, by the order of the symbols.
 use borrow.Author.Needs.{needs}
-use Rattle.walking.specs.Theory.Splitting.{last-more, last-same, last-none}
+use Rattle.walking.proofs.Splitting.{last-more, last-same, last-none}
 use Rattle.walking.proofs.split.last_count.Statement.{statement}
 use Rattle.walking.proofs.split.last_count.Tie as tie
 use Rattle.walking.proofs.split.last_count.Reads as reads

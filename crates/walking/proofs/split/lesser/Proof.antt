@@ -2,7 +2,7 @@
 use mathlib.Core.Path.{sym}
 use native.Mathlib.Omega.{arith}
 use borrow.Author.Needs.{needs}
-use Rattle.walking.specs.Theory.Children.{lesser-left, lesser-right}
+use Rattle.walking.proofs.Children.{lesser-left, lesser-right}
 use Rattle.walking.proofs.split.lesser.Statement.{statement}
 use Rattle.walking.proofs.split.lesser.Tie as tie
 use Rattle.walking.proofs.split.lesser.Reads as reads

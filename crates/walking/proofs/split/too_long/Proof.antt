@@ -1,6 +1,6 @@
 -- `too_long` meets its contract.
 use borrow.Author.Needs.{needs}
-use Rattle.walking.specs.Theory.Splitting.{too-long-none, too-long-some}
+use Rattle.walking.proofs.Splitting.{too-long-none, too-long-some}
 use Rattle.walking.proofs.split.too_long.Statement.{statement}
 use Rattle.walking.proofs.split.too_long.Tie as tie
 use Rattle.walking.proofs.split.too_long.Reads as reads

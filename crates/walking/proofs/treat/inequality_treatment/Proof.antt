@@ -2,7 +2,7 @@
 use mathlib.Core.Path.{sym, _∙_}
 use borrow.Author.Needs.{needs}
 use Rattle.unifying.specs.Theory.Unify.{variable-free}
-use Rattle.walking.specs.Theory.Treatment.{left-drops, left-reduced, right-drops, right-reduced, splits}
+use Rattle.walking.proofs.Treatment.{left-drops, left-reduced, right-drops, right-reduced, splits}
 use Rattle.walking.proofs.treat.inequality_treatment.Statement.{statement}
 use Rattle.walking.proofs.treat.inequality_treatment.Tie as tie
 use Rattle.walking.proofs.treat.inequality_treatment.Reads as reads

@@ -1,43 +1,51 @@
 -- `finish` meets its contract.
-use Prim.Native.Nat.{_+_, _*_}
-use mathlib.Core.Path.{refl, sym, _∙_}
 use native.Mathlib.Omega.{arith}
-use lib.ListN.{take}
-use lib.Seq.{length-take-le}
+use Rattle.walking.proofs.Treating.{finishing-fits, finishing-done, finishing-goes-on}
 use borrow.Author.Needs.{needs}
-use Rattle.walking.specs.Theory.Treating.{finishing-fits, finishing-done, finishing-goes-on}
 use Rattle.walking.proofs.walk.Walk.finish.Statement.{statement}
 use Rattle.walking.proofs.walk.Walk.finish.Tie as tie
 use Rattle.walking.proofs.walk.Walk.finish.Reads as reads
 use Rattle.walking.proofs.walk.Walk.finish.Lts as lts
-use Rattle.walking.proofs.finish.write_record.Reads as write-record-reads
+use Rattle.lines.proofs.record.write_record.Reads as write-record-reads
 
--- src/walk.rt:64:36
+-- src/walk.rt:66:30
 mul-write-record : tie.Need-mul-write-record
-mul-write-record c = omega (arith, finishing-done (c .before .before .before .before .before .before .pre) .0)
+mul-write-record c = omega (arith, finishing-done (c .before .before .before .before .before .pre) .1)
 
--- src/walk.rt:64:9
+-- src/walk.rt:66:47
+mul-write-record-2 : tie.Need-mul-write-record-2
+mul-write-record-2 c = omega (arith, finishing-done (c .before .before .before .before .before .before .pre) .0)
+
+-- src/walk.rt:66:9
 write-record-requires : tie.Need-write-record-requires
 write-record-requires c κs = finishing-fits (c .before .before .before .before .before .before .pre)
 
--- src/walk.rt:68:19
+-- src/walk.rt:70:19
+add-t8 : tie.Need-add-t8
+add-t8 c = search needs
+
+-- src/walk.rt:71:18
 add-t9 : tie.Need-add-t9
 add-t9 c = search needs
 
--- src/walk.rt:69:18
-add-t10 : tie.Need-add-t10
-add-t10 c = search needs
-
--- src/walk.rt:60:5
+-- src/walk.rt:62:5
 same-length : tie.Need-same-length
 same-length c = search needs
 
--- src/walk.rt:60:5
+-- src/walk.rt:62:5
 returns : tie.Need-returns
 returns c =
-    let a = c .before .before .before .before .before .before .before .before .before .before .before in
-    finishing-goes-on (a .pre) (c .before .before .before .before .write-record .last .1 .0) (λ i. omega (arith, c .before .before .before .before .before .before .before .before .shared-slice-known3 .given i)) (c .before .before .before .before .write-record .ensures)
+    let start = c .before .before .before .before .before .before .before .before .before .before .before in
+    finishing-goes-on (start .pre) (c .before .before .before .before .write-record .last .0) (λ i. omega (arith, c .before .before .before .before .before .before .before .before .slice-known .given i)) (c .before .before .before .before .write-record .ensures)
 
 pub finish-spec : {M : Type 1} → statement M
 finish-spec =
-    tie.close (tie.spec mul-write-record write-record-requires add-t9 add-t10 same-length returns)
+    tie.close
+    (tie.spec
+    mul-write-record
+    mul-write-record-2
+    write-record-requires
+    add-t8
+    add-t9
+    same-length
+    returns)

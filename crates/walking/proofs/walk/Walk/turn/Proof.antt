@@ -1,110 +1,211 @@
--- `turn` meets its contract: the line is finished, the walk refused, or an element treated.
-use Prim.Native.Nat.{_<_}
-use mathlib.Core.Path.{_≡_, ap}
-use native.Mathlib.Omega.{arith}
+-- `turn` meets its contract: the line is filled in and searched, and then finished or treated. The loops' invariants: `Filling`, the elements passed are filled in; `Searching`, those passed are fully reduced.
+use mathlib.Core.Path.{ap, _∙_}
+use lib.ListN.{length}
 use denote.Enum.Declared.{tagOf}
 use Rattle.walking.proofs.treat.Treatment.{the-type}
+use Prim.Native.Nat.{_-_}
+use mathlib.Core.Path.{_≡_, refl}
+use native.Mathlib.Omega.{arith}
+use Rattle.walking.proofs.Searching.{Filling, Searching, filling-start, filling-next, searching-start, place-there, head-few, head-readable, head-within, head-next, head-treating, head-finishing, not-first}
 use borrow.Author.Needs.{needs}
-use Rattle.walking.specs.declared.treat.Treatment.the-variants.{Reduced}
-use Rattle.walking.specs.Theory.Leftmost.{not-first}
-use Rattle.walking.specs.Theory.Step.{place-there, line-has, finishing, treating, too-long-walk, below-limit}
 use Rattle.walking.proofs.walk.Walk.turn.Statement.{statement}
 use Rattle.walking.proofs.walk.Walk.turn.Tie as tie
 use Rattle.walking.proofs.walk.Walk.turn.Reads as reads
 use Rattle.walking.proofs.walk.Walk.turn.Lts as lts
-use Rattle.walking.proofs.leftmost.find_leftmost.Reads as find-leftmost-reads
-use Rattle.walking.proofs.record.load.Reads as load-reads
+use Rattle.lines.proofs.element.element_at.Reads as element-at-reads
+use Rattle.lines.proofs.line.Line.head.Reads as head-reads
+use Rattle.walking.proofs.treat.treatment_of.Reads as treatment-of-reads
 use Rattle.walking.proofs.walk.Walk.finish.Reads as finish-reads
 use Rattle.walking.proofs.walk.Walk.treat.Reads as treat-reads
 use Rattle.walking.proofs.walk.going.Reads as going-reads
 
--- src/walk.rt:222:22
-mul-load : tie.Need-mul-load
-mul-load c = search needs
+abbrev Inv-loop : tie.InvT-loop
+Inv-loop self nodes sizes memory place line₀ bindings count i₀ line i = Filling memory place line₀ line i
 
--- src/walk.rt:222:9
-load-requires : tie.Need-load-requires
-load-requires c κs = let a = c .before .before .before .before .before .before .before in (place-there (a .pre .0) (a .pre .1 .0), a .pre .1 .1)
+abbrev μ-loop : tie.MeasureT-loop
+μ-loop self nodes sizes memory place line₀ bindings count i₀ line i = count - i
 
--- src/walk.rt:223:13
-find-leftmost-requires : tie.Need-find-leftmost-requires
-find-leftmost-requires c κs = line-has (c .before .before .before .before .before .before .before .before .before .before .before .pre .0) (c .before .before .before .before .before .before .before .before .before .before .before .pre .1 .0) (c .before .before .before .load .last .1 .1 .0) (c .before .before .before .load .ensures)
+abbrev Inv-loop2 : tie.InvT-loop2
+Inv-loop2 self nodes sizes memory₀ place line bindings count i₀ memory i = (memory ≡ memory₀) × Searching nodes sizes memory₀ place line i
 
-enum-told : tie.Need-enum-told
+abbrev μ-loop2 : tie.MeasureT-loop2
+μ-loop2 self nodes sizes memory₀ place line bindings count i₀ memory i = count - i
+
+-- src/walk.rt:183:21
+mul-place : tie.Need-mul-place Inv-loop μ-loop Inv-loop2 μ-loop2
+mul-place c = search needs
+
+-- src/walk.rt:184:24
+head-requires : tie.Need-head-requires Inv-loop μ-loop Inv-loop2 μ-loop2
+head-requires c κs = place-there (c .before .before .before .before .before .pre .0) (c .before .before .before .before .before .pre .1)
+
+-- src/walk.rt:188:9
+loop-holds : tie.Need-loop-holds Inv-loop μ-loop Inv-loop2 μ-loop2
+loop-holds c = filling-start _ _ _ (c .before .head .ensures .places)
+
+-- src/walk.rt:189:51
+add-element-at : tie.Need-add-element-at Inv-loop μ-loop Inv-loop2 μ-loop2
+add-element-at c = search needs
+
+-- src/walk.rt:189:75
+mul-element-at : tie.Need-mul-element-at Inv-loop μ-loop Inv-loop2 μ-loop2
+mul-element-at c = omega (arith, head-few (c .before .before .before .before .before .before .before .before .before .before .pre .0) (c .before .before .before .before .before .before .before .before .before .before .pre .1) (c .before .before .before .before .head .ensures))
+
+-- src/walk.rt:189:51
+add-element-at-2 : tie.Need-add-element-at-2 Inv-loop μ-loop Inv-loop2 μ-loop2
+add-element-at-2 c = omega (arith, head-few (c .before .before .before .before .before .before .before .before .before .before .pre .0) (c .before .before .before .before .before .before .before .before .before .before .pre .1) (c .before .before .before .before .head .ensures), place-there (c .before .before .before .before .before .before .before .before .before .before .pre .0) (c .before .before .before .before .before .before .before .before .before .before .pre .1))
+
+-- src/walk.rt:189:32
+element-at-requires : tie.Need-element-at-requires Inv-loop μ-loop Inv-loop2 μ-loop2
+element-at-requires c κs = omega (arith, head-few (c .before .before .before .before .before .before .before .before .before .before .pre .0) (c .before .before .before .before .before .before .before .before .before .before .pre .1) (c .before .before .before .before .head .ensures), place-there (c .before .before .before .before .before .before .before .before .before .before .pre .0) (c .before .before .before .before .before .before .before .before .before .before .pre .1))
+
+-- src/walk.rt:189:13
+mul-t23 : tie.Need-mul-t23 Inv-loop μ-loop Inv-loop2 μ-loop2
+mul-t23 c = omega (arith, head-few (c .before .before .before .before .before .before .before .before .before .before .before .pre .0) (c .before .before .before .before .before .before .before .before .before .before .before .pre .1) (c .before .before .before .before .before .head .ensures))
+
+-- src/walk.rt:189:13
+element-set-from-line : tie.Need-element-set-from-line Inv-loop μ-loop Inv-loop2 μ-loop2
+element-set-from-line c = omega (arith, head-few (c .before .before .before .before .before .before .before .before .before .before .before .pre .0) (c .before .before .before .before .before .before .before .before .before .before .before .pre .1) (c .before .before .before .before .before .head .ensures))
+
+-- src/walk.rt:190:17
+add-i : tie.Need-add-i Inv-loop μ-loop Inv-loop2 μ-loop2
+add-i c = search needs
+
+-- src/walk.rt:188:9
+loop-less : tie.Need-loop-less Inv-loop μ-loop Inv-loop2 μ-loop2
+loop-less c = search needs
+
+-- src/walk.rt:188:9
+loop-again : tie.Need-loop-again Inv-loop μ-loop Inv-loop2 μ-loop2
+loop-again c = filling-next (c .before .before .before .loop .inv) (omega (arith, head-few (c .before .before .before .before .before .before .before .before .before .before .before .pre .0) (c .before .before .before .before .before .before .before .before .before .before .before .pre .1) (c .before .before .before .before .before .head .ensures))) _ (c .element-at .ensures)
+
+-- src/walk.rt:193:9
+loop2-holds : tie.Need-loop2-holds Inv-loop μ-loop Inv-loop2 μ-loop2
+loop2-holds c = (refl, searching-start _ _ _ _ _)
+
+-- src/walk.rt:194:27
+mul-element : tie.Need-mul-element Inv-loop μ-loop Inv-loop2 μ-loop2
+mul-element c = omega (arith, head-few (c .before .before .before .before .before .before .before .before .before .before .before .pre .0) (c .before .before .before .before .before .before .before .before .before .before .before .pre .1) (c .before .before .before .before .before .head .ensures))
+
+-- src/walk.rt:194:27
+element-copy-out-element : tie.Need-element-copy-out-element Inv-loop μ-loop Inv-loop2 μ-loop2
+element-copy-out-element c = omega (arith, head-few (c .before .before .before .before .before .before .before .before .before .before .before .pre .0) (c .before .before .before .before .before .before .before .before .before .before .before .pre .1) (c .before .before .before .before .before .head .ensures))
+
+-- src/walk.rt:195:56
+slice-aggregate-treatment-of :
+    tie.Need-slice-aggregate-treatment-of Inv-loop μ-loop Inv-loop2 μ-loop2
+slice-aggregate-treatment-of c = search needs
+
+-- src/walk.rt:195:17
+treatment-of-requires : tie.Need-treatment-of-requires Inv-loop μ-loop Inv-loop2 μ-loop2
+treatment-of-requires c κs =
+    let start = c .before .before .before .before .before .before .before .before .before .before .before .before .before in
+    let head = c .before .before .before .before .before .before .before .head .ensures in
+    let filled = c .before .before .before .before .before .loop .inv in
+    let full = c .before .before .before .before .loop-test .left in
+    (head-readable (start .pre .0) (start .pre .1) head, head-within (start .pre .0) (start .pre .1) head filled full (c .before .before .before .loop2 .inv .1) (c .before .before .loop2-test .taken))
+
+enum-told : tie.Need-enum-told Inv-loop μ-loop Inv-loop2 μ-loop2
 enum-told c = search needs
 
--- src/walk.rt:227:17
-same-length : tie.Need-same-length
-same-length c = search needs
+-- src/walk.rt:197:63
+cast-treat : tie.Need-cast-treat Inv-loop μ-loop Inv-loop2 μ-loop2
+cast-treat c = omega (arith, head-few (c .before .before .before .before .before .before .before .before .before .before .before .before .before .before .before .before .pre .0) (c .before .before .before .before .before .before .before .before .before .before .before .before .before .before .before .before .pre .1) (c .before .before .before .before .before .before .before .before .before .before .head .ensures))
 
--- src/walk.rt:227:17
-same-length-2 : tie.Need-same-length-2
-same-length-2 c = search needs
-
--- src/walk.rt:227:17
-returns : tie.Need-returns
-returns c =
-    let f = c .before .before .before .find-leftmost in
-    record { outcome = too-long-walk (c .before .before .before .before .before .before .before .before .before .before .before .before .before .before .before .pre .0) (c .before .before .before .before .before .before .before .before .before .before .before .before .before .before .before .pre .1 .0) (c .before .before .before .before .before .before .before .load .last .1 .1 .0) (c .before .before .before .before .before .before .before .load .ensures) (f .result) (f .ensures) (λ z. not-first (c .before .before .match .keys2) (ap (tagOf the-type) z)) (c .if1 .taken) }
-
--- src/walk.rt:232:13
-treat-requires : tie.Need-treat-requires
+-- src/walk.rt:197:17
+treat-requires : tie.Need-treat-requires Inv-loop μ-loop Inv-loop2 μ-loop2
 treat-requires c κs =
-    let f = c .before .before .before .before .before .find-leftmost in
-    let other : f .result .treatment ≡ Reduced → ⊥ = λ z. not-first (c .before .before .before .before .match .keys2) (ap (tagOf the-type) z) in
-    (treating (c .before .before .before .before .before .before .before .before .before .before .before .before .before .before .before .before .before .pre .0) (c .before .before .before .before .before .before .before .before .before .before .before .before .before .before .before .before .before .pre .1 .0) (c .before .before .before .before .before .before .before .before .before .load .last .1 .1 .0) (c .before .before .before .before .before .before .before .before .before .load .ensures) (f .result) (f .ensures) other (below-limit (c .before .before .before .before .before .before .before .before .before .before .before .before .before .before .before .before .before .pre .0 .turns-within) (c .before .before .if1 .left)), other)
+    let start = c .before .before .before .before .before .before .before .before .before .before .before .before .before .before .before .before in
+    let head = c .before .before .before .before .before .before .before .before .before .before .head .ensures in
+    let filled = c .before .before .before .before .before .before .before .before .loop .inv in
+    let full = c .before .before .before .before .before .before .before .loop-test .left in
+    let found = c .before .before .treatment-of in
+    let loop = c .before .before .before .before .before .before .loop2 in
+    (head-treating (start .pre .0) (start .pre .1) head filled full (loop .inv .1) (c .before .before .before .before .before .loop2-test .taken) (found .result) (found .ensures) _ (loop .inv .0), λ z. not-first (c .before .match .keys2) (ap (tagOf the-type) z))
 
--- src/walk.rt:232:13
-same-length-3 : tie.Need-same-length-3
-same-length-3 c = search needs
+-- src/walk.rt:197:17
+same-length : tie.Need-same-length Inv-loop μ-loop Inv-loop2 μ-loop2
+same-length c = c .before .before .treat .kept .1 .1 .1 .1 .0 ∙ ap length (c .before .before .before .before .before .before .before .before .before .loop2 .inv .0)
 
--- src/walk.rt:232:13
-same-length-4 : tie.Need-same-length-4
-same-length-4 c = search needs
+-- src/walk.rt:197:17
+returns : tie.Need-returns Inv-loop μ-loop Inv-loop2 μ-loop2
+returns c = c .before .before .treat .ensures
 
--- src/walk.rt:232:13
-returns-2 : tie.Need-returns-2
-returns-2 c = c .before .before .before .before .treat .ensures
+-- src/walk.rt:199:17
+add-i-2 : tie.Need-add-i-2 Inv-loop μ-loop Inv-loop2 μ-loop2
+add-i-2 c = search needs
 
--- src/walk.rt:234:15
-finish-requires : tie.Need-finish-requires
+-- src/walk.rt:193:9
+loop2-less : tie.Need-loop2-less Inv-loop μ-loop Inv-loop2 μ-loop2
+loop2-less c = search needs
+
+-- src/walk.rt:193:9
+loop2-again : tie.Need-loop2-again Inv-loop μ-loop Inv-loop2 μ-loop2
+loop2-again c =
+    let start = c .before .before .before .before .before .before .before .before .before .before .before .before .before .before .before .before in
+    let head = c .before .before .before .before .before .before .before .before .before .before .head .ensures in
+    let filled = c .before .before .before .before .before .before .before .before .loop .inv in
+    let full = c .before .before .before .before .before .before .before .loop-test .left in
+    let found = c .before .before .treatment-of in
+    let loop = c .before .before .before .before .before .before .loop2 in
+    (loop .inv .0, head-next (start .pre .0) (start .pre .1) head filled full (loop .inv .1) (c .before .before .before .before .before .loop2-test .taken) (found .result) (found .ensures) (c .enum-told .given .1))
+
+-- src/walk.rt:201:15
+finish-requires : tie.Need-finish-requires Inv-loop μ-loop Inv-loop2 μ-loop2
 finish-requires c κs =
-    let f = c .before .before .before .before .find-leftmost in
-    finishing (c .before .before .before .before .before .before .before .before .before .before .before .before .before .before .before .before .pre .0) (c .before .before .before .before .before .before .before .before .before .before .before .before .before .before .before .before .pre .1 .0) (c .before .before .before .before .before .before .before .before .load .last .1 .1 .0) (c .before .before .before .before .before .before .before .before .load .ensures) (f .result) (f .ensures) (c .before .before .enum-told .given .1)
+    let start = c .before .before .before .before .before .before .before .before .before .before .before .before in
+    let head = c .before .before .before .before .before .before .head .ensures in
+    let filled = c .before .before .before .before .loop .inv in
+    let full = c .before .before .before .loop-test .left in
+    let loop = c .before .before .loop2 in
+    head-finishing (start .pre .0) (start .pre .1) head filled full (loop .inv .1) (c .before .loop2-test .left) _ (loop .inv .0)
 
--- src/walk.rt:234:9
-going-requires : tie.Need-going-requires
+-- src/walk.rt:201:9
+going-requires : tie.Need-going-requires Inv-loop μ-loop Inv-loop2 μ-loop2
 going-requires c κs = search needs
 
--- src/walk.rt:217:5
-same-length-5 : tie.Need-same-length-5
-same-length-5 c = search needs
+-- src/walk.rt:179:5
+same-length-2 : tie.Need-same-length-2 Inv-loop μ-loop Inv-loop2 μ-loop2
+same-length-2 c = c .before .before .before .finish .kept .1 .1 .1 .0 ∙ ap length (c .before .before .before .before .before .before .loop2 .inv .0)
 
--- src/walk.rt:217:5
-same-length-6 : tie.Need-same-length-6
-same-length-6 c = search needs
-
--- src/walk.rt:217:5
-returns-3 : tie.Need-returns-3
-returns-3 c = rw (c .going .ensures) (record { outcome = c .before .before .before .finish .ensures })
+-- src/walk.rt:179:5
+returns-2 : tie.Need-returns-2 Inv-loop μ-loop Inv-loop2 μ-loop2
+returns-2 c = rw (c .going .ensures) (record { outcome = c .before .before .before .finish .ensures })
 
 pub turn-spec : {M : Type 1} → statement M
 turn-spec =
     tie.close
     (tie.spec
-    mul-load
-    load-requires
-    find-leftmost-requires
+    Inv-loop
+    μ-loop
+    Inv-loop2
+    μ-loop2
+    mul-place
+    head-requires
+    loop-holds
+    add-element-at
+    mul-element-at
+    add-element-at-2
+    element-at-requires
+    mul-t23
+    element-set-from-line
+    add-i
+    loop-less
+    loop-again
+    loop2-holds
+    mul-element
+    element-copy-out-element
+    slice-aggregate-treatment-of
+    treatment-of-requires
     enum-told
-    same-length
-    same-length-2
-    returns
+    cast-treat
     treat-requires
-    same-length-3
-    same-length-4
-    returns-2
+    same-length
+    returns
+    add-i-2
+    loop2-less
+    loop2-again
     finish-requires
     going-requires
-    same-length-5
-    same-length-6
-    returns-3)
+    same-length-2
+    returns-2)

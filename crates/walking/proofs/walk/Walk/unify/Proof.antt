@@ -1,122 +1,118 @@
--- `unify` meets its contract: failure deletes the line, success the element.
-use Prim.Native.Nat.{_+_, _*_}
-use mathlib.Core.Path.{refl, sym, _∙_}
+-- `unify` meets its contract: failure deletes the line, success the element, and other bindings are put back.
+use mathlib.Core.Path.{refl, sym, ap, _∙_}
 use native.Mathlib.Omega.{arith}
-use lib.ListN.{take}
-use lib.Seq.{length-take-le}
+use Rattle.walking.proofs.Treating.{treating-top, treating-place, line-slots, removal-fits, equal-within, line-readable, unify-failed, unify-kept, unify-changed}
 use borrow.Author.Needs.{needs}
-use Rattle.walking.specs.Theory.Treating.{treating-line, treating-top, treating-place, removal-fits, equal-within, line-readable, unify-failed, unify-succeeded}
 use Rattle.walking.proofs.walk.Walk.unify.Statement.{statement}
 use Rattle.walking.proofs.walk.Walk.unify.Tie as tie
 use Rattle.walking.proofs.walk.Walk.unify.Reads as reads
 use Rattle.walking.proofs.walk.Walk.unify.Lts as lts
-use Rattle.walking.proofs.rebind.rebind.Reads as rebind-reads
-use Rattle.walking.proofs.record.make_room.Reads as make-room-reads
-use Rattle.walking.proofs.record.store.Reads as store-reads
+use Rattle.lines.proofs.line.Line.put_without.Reads as put-without-reads
+use Rattle.lines.proofs.rebind.differ.Reads as differ-reads
+use Rattle.lines.proofs.rebind.rebind.Reads as rebind-reads
 use Rattle.unifying.proofs.unifier.unify_positions.Reads as unify-positions-reads
 use Rattle.walking.proofs.walk.Walk.turned.Reads as turned-reads
 
--- src/walk.rt:119:53
-slice-reshare-prefix-unify-positions : tie.Need-slice-reshare-prefix-unify-positions
-slice-reshare-prefix-unify-positions c = omega (arith, treating-line (c .before .before .before .before .pre))
+-- src/walk.rt:104:21
+mul-place : tie.Need-mul-place
+mul-place c = omega (arith, treating-top (c .before .before .before .before .pre .0 .treating))
 
--- src/walk.rt:119:53
+-- src/walk.rt:106:53
 slice-aggregate-unify-positions : tie.Need-slice-aggregate-unify-positions
-slice-aggregate-unify-positions c = sym (length-take-le 8 (c .before .before .before .before .before .args .line .now) (omega (arith, treating-line (c .before .before .before .before .before .pre))))
+slice-aggregate-unify-positions c = search needs
 
--- src/walk.rt:119:13
+-- src/walk.rt:106:13
 unify-positions-requires : tie.Need-unify-positions-requires
-unify-positions-requires c κs =
-    let a = c .before .before .before .before .before in
-    (line-readable (a .pre) (a .args .p) (a .args .q) refl (take 8 (a .args .line .now)) refl, equal-within (a .pre) (a .args .p) (a .args .q) refl)
+unify-positions-requires c κs = let start = c .before .before .before .before .before .before in (line-readable (start .pre .0) (start .pre .1) _ _ refl, equal-within (start .pre .0) (start .pre .1) _ _ refl)
 
 enum-told : tie.Need-enum-told
 enum-told c = search needs
 
--- src/walk.rt:122:32
+-- src/walk.rt:109:32
 enum-told-2 : tie.Need-enum-told-2
 enum-told-2 c = search needs
 
--- src/walk.rt:122:32
+-- src/walk.rt:109:32
 add-turned : tie.Need-add-turned
 add-turned c = search needs
 
--- src/walk.rt:122:13
+-- src/walk.rt:109:13
 turned-requires : tie.Need-turned-requires
 turned-requires c κs = search needs
 
--- src/walk.rt:122:13
-same-length : tie.Need-same-length
-same-length c = search needs
-
--- src/walk.rt:122:13
+-- src/walk.rt:109:13
 returns : tie.Need-returns
-returns c =
-    let a = c .before .before .before .before .before .before .before .before .before .before in
-    rw (c .turned .ensures) (unify-failed (a .pre) (a .args .p) (a .args .q) refl (take 8 (a .args .line .now)) refl (c .before .before .before .before .unify-positions .result) (c .before .before .before .before .unify-positions .ensures) (c .before .before .enum-told2 .given .1))
+returns c = rw (c .turned .ensures) (unify-failed (c .before .before .before .before .before .before .before .before .before .before .before .pre .0) (c .before .before .before .before .before .before .before .before .before .before .before .pre .1) _ _ refl (c .before .before .before .before .unify-positions .result) (c .before .before .before .before .unify-positions .ensures) (c .before .before .enum-told2 .given .1))
 
--- src/walk.rt:125:9
-make-room-requires : tie.Need-make-room-requires
-make-room-requires c κs = removal-fits (c .before .before .before .before .before .before .before .before .before .before .pre)
+-- src/walk.rt:111:9
+put-without-requires : tie.Need-put-without-requires
+put-without-requires c κs = removal-fits (c .before .before .before .before .before .before .before .before .before .before .pre .0)
 
--- src/walk.rt:126:22
+-- src/walk.rt:113:19
+slice-aggregate-differ : tie.Need-slice-aggregate-differ
+slice-aggregate-differ c = sym (line-slots (c .before .before .before .before .before .before .before .before .before .before .before .before .before .before .before .pre .0))
+
+-- src/walk.rt:113:30
+slice-aggregate-differ-2 : tie.Need-slice-aggregate-differ-2
+slice-aggregate-differ-2 c = search needs
+
+-- src/walk.rt:113:12
+differ-requires : tie.Need-differ-requires
+differ-requires c κs = (line-slots (c .before .before .before .before .before .before .before .before .before .before .before .before .before .before .before .before .pre .0), c .before .before .before .before .before .before .before .before .before .unify-positions .ensures .whole)
+
+-- src/walk.rt:114:35
 slice-aggregate-rebind : tie.Need-slice-aggregate-rebind
 slice-aggregate-rebind c = search needs
 
--- src/walk.rt:126:9
+-- src/walk.rt:114:13
 rebind-requires : tie.Need-rebind-requires
-rebind-requires c κs =
-    let a = c .before .before .before .before .before .before .before .before .before .before .before .before .before .before .before in
-    (c .before .before .before .before .make-room .kept .0 ∙ treating-line (a .pre), c .before .before .before .before .before .before .before .before .before .unify-positions .ensures .whole)
+rebind-requires c κs = (omega (arith, treating-place (c .before .before .before .before .before .before .before .before .before .before .before .before .before .before .before .before .before .before .before .before .pre .0 .treating), c .before .before .before .before .before .before .before .before .before .put-without .kept .1 .0), c .before .before .before .before .before .before .before .before .before .before .before .before .before .unify-positions .ensures .whole)
 
--- src/walk.rt:127:29
-mul-store : tie.Need-mul-store
-mul-store c = search needs
-
--- src/walk.rt:127:9
-store-requires : tie.Need-store-requires
-store-requires c κs =
-    let a = c .before .before .before .before .before .before .before .before .before .before .before .before .before .before .before .before .before .before .before .before .before in
-    (treating-place (a .pre), c .before .before .before .before .before .rebind .kept .0 ∙ (c .before .before .before .before .before .before .before .before .before .before .make-room .kept .0 ∙ treating-line (a .pre)))
-
--- src/walk.rt:128:9
+-- src/walk.rt:115:13
 turned-requires-2 : tie.Need-turned-requires-2
 turned-requires-2 c κs = search needs
 
--- src/walk.rt:106:5
+-- src/walk.rt:115:13
+same-length : tie.Need-same-length
+same-length c = search needs
+
+-- src/walk.rt:115:13
+returns-2 : tie.Need-returns-2
+returns-2 c = rw (c .turned2 .ensures) (unify-changed (c .before .before .before .before .before .before .before .before .before .before .before .before .before .before .before .before .before .before .before .before .before .before .before .before .pre .0) (c .before .before .before .before .before .before .before .before .before .before .before .before .before .before .before .before .before .before .before .before .before .before .before .before .pre .1) _ _ refl (c .before .before .before .before .before .before .before .before .before .before .before .before .before .before .before .before .before .unify-positions .result) (c .before .before .before .before .before .before .before .before .before .before .before .before .before .before .before .before .before .unify-positions .ensures) (c .before .before .before .before .before .before .before .before .before .before .before .before .before .before .before .enum-told .given .1) _ _ (c .before .before .before .before .before .before .before .before .before .before .before .before .before .put-without .ensures) (c .before .before .before .rebind .ensures))
+
+-- src/walk.rt:117:9
+turned-requires-3 : tie.Need-turned-requires-3
+turned-requires-3 c κs = search needs
+
+-- src/walk.rt:100:5
 same-length-2 : tie.Need-same-length-2
 same-length-2 c = search needs
 
--- src/walk.rt:106:5
-same-length-3 : tie.Need-same-length-3
-same-length-3 c = search needs
-
--- src/walk.rt:106:5
-returns-2 : tie.Need-returns-2
-returns-2 c =
-    let a = c .before .before .before .before .before .before .before .before .before .before .before .before .before .before .before .before .before .before .before .before .before .before .before .before .before in
-    let u = c .before .before .before .before .before .before .before .before .before .before .before .before .before .before .before .before .before .before .before .unify-positions in
-    rw (c .turned2 .ensures) (unify-succeeded (a .pre) (a .args .p) (a .args .q) refl (take 8 (a .args .line .now)) refl (u .result) (u .ensures) (c .before .before .before .before .before .before .before .before .before .before .before .before .before .before .before .before .before .enum-told .given .1) (c .before .before .before .before .before .before .before .before .before .before .before .before .before .before .make-room .last .0) (c .before .before .before .before .before .before .before .before .before .rebind .last .0) (c .before .before .before .store .last .1 .0) (c .before .before .before .before .before .before .before .before .before .before .before .before .before .before .make-room .ensures) (c .before .before .before .before .before .before .before .before .before .rebind .ensures) (c .before .before .before .store .ensures))
+-- src/walk.rt:100:5
+returns-3 : tie.Need-returns-3
+returns-3 c = rw (c .turned3 .ensures) (unify-kept (c .before .before .before .before .before .before .before .before .before .before .before .before .before .before .before .before .before .before .before .pre .0) (c .before .before .before .before .before .before .before .before .before .before .before .before .before .before .before .before .before .before .before .pre .1) _ _ refl (c .before .before .before .before .before .before .before .before .before .before .before .before .unify-positions .result) (c .before .before .before .before .before .before .before .before .before .before .before .before .unify-positions .ensures) (c .before .before .before .before .before .before .before .before .before .before .enum-told .given .1) _ (c .before .before .differ .ensures .same (c .before .if1 .left)) (c .before .before .before .before .before .before .before .before .put-without .ensures))
 
 pub unify-spec : {M : Type 1} → statement M
 unify-spec =
     tie.close
     (tie.spec
-    slice-reshare-prefix-unify-positions
+    mul-place
     slice-aggregate-unify-positions
     unify-positions-requires
     enum-told
     enum-told-2
     add-turned
     turned-requires
-    same-length
     returns
-    make-room-requires
+    put-without-requires
+    slice-aggregate-differ
+    slice-aggregate-differ-2
+    differ-requires
     slice-aggregate-rebind
     rebind-requires
-    mul-store
-    store-requires
     turned-requires-2
+    same-length
+    returns-2
+    turned-requires-3
     same-length-2
-    same-length-3
-    returns-2)
+    returns-3)

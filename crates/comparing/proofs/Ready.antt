@@ -1,0 +1,50 @@
+-- A row of cells that is cleared element by element, and is ready from then on.
+use Prim.Native.Nat.{ℕ, _+_, _*_, _≤_, _<_}
+use mathlib.Core.Path.{_≡_, refl, _∙_}
+use mathlib.Core.Logic.{_⊎_, inl, inr}
+use mathlib.Core.List.{List}
+use native.Mathlib.Decide.{ℕ-discrete, decLt}
+use native.Mathlib.Omega.{arith}
+use lib.ListN.{length, getD, set, length-set}
+use lib.Seq.{getD-set-same, getD-set-other}
+use Rattle.format.specs.Limits.{node-count}
+use Rattle.comparing.specs.Contracts.Cells.{Cleared, MadeReady}
+
+pub cleared-none : (cells : List ℕ) (from : ℕ) → Cleared cells from from cells
+cleared-none cells from = record { same-length = refl; inside = λ k h l. absurd (omega arith); below = λ k h. refl; above = λ k h. refl }
+
+pub cleared-more : {before after : List ℕ} {from at : ℕ} → Cleared before from at after → from ≤ at → at < length before → Cleared before from (at + 1) (set after at 0)
+cleared-more {before} {after} {from} {at} c h l = record {
+  same-length = length-set after at 0 ∙ c .same-length;
+  inside = λ k a b. elim (ℕ-discrete k at) [
+    | yes e ↦ rw e (getD-set-same after at 0 0 (omega (arith, c .same-length)))
+    | no e ↦ getD-set-other after at k 0 0 e ∙ c .inside k a (omega arith)
+  ];
+  below = λ k a. getD-set-other after at k 0 0 (λ e. omega arith) ∙ c .below k a;
+  above = λ k a. getD-set-other after at k 0 0 (λ e. omega arith) ∙ c .above k (omega arith);
+}
+
+-- The row was ready already.
+pub ready-before : {ready cells : List ℕ} {s : ℕ} → 0 < getD ready s 0 → MadeReady ready cells s ready cells
+ready-before h = record { ready-length = refl; cells-length = refl; is-ready = h; kept = λ i j l r. inr (r, refl) }
+
+pub ready-now : {ready cells cleared : List ℕ} {s : ℕ} → s < length ready → Cleared cells (s * node-count) (s * node-count + node-count) cleared
+    → MadeReady ready cells s (set ready s 1) cleared
+ready-now {ready} {cells} {cleared} {s} h c = record {
+  ready-length = length-set ready s 1;
+  cells-length = c .same-length;
+  is-ready = rw (getD-set-same ready s 1 0 h) (omega arith);
+  kept = kept;
+}
+  where
+    kept : (i j : ℕ) → j < node-count → 0 < getD (set ready s 1) i 0
+        → (getD cleared (i * node-count + j) 0 ≡ 0) ⊎ ((0 < getD ready i 0) × (getD cleared (i * node-count + j) 0 ≡ getD cells (i * node-count + j) 0))
+    kept i j l r = elim (ℕ-discrete i s) [
+      | yes e ↦ inl (c .inside (i * node-count + j) (omega arith) (omega arith))
+      | no e ↦
+          let q = rw (getD-set-other ready s i 1 0 e) at r in
+          elim (decLt i s) [
+            | yes b ↦ inr (q, c .below (i * node-count + j) (omega arith))
+            | no b ↦ inr (q, c .above (i * node-count + j) (omega arith))
+          ]
+    ]

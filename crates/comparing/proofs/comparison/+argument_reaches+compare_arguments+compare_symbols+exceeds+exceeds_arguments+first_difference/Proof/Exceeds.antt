@@ -1,0 +1,81 @@
+-- The needs of `exceeds`.
+use Prim.Native.Nat.{ℕ}
+use native.Mathlib.Omega.{arith}
+use Rattle.comparing.specs.Theory.Nodes.{within}
+use Rattle.comparing.specs.Theory.Cells.{made-ready-settled}
+use Rattle.comparing.proofs.Resolved.{byte-low}
+use Rattle.comparing.proofs.Pair.{resolves, subject-resolves, known, settled}
+use Rattle.comparing.proofs.comparison.exceeds.Reads as exceeds
+use Rattle.comparing.proofs.comparison.+argument_reaches+compare_arguments+compare_symbols+exceeds+exceeds_arguments+first_difference.Lts-exceeds as exceeds-lts
+use Rattle.comparing.proofs.comparison.+argument_reaches+compare_arguments+compare_symbols+exceeds+exceeds_arguments+first_difference.Proof.Measures.{exceeds-at, exceeds-calls}
+
+pub exceeds-resolve-requires : (t : ℕ) → exceeds-lts.Need-resolve-requires (exceeds-calls t) (exceeds-at t) exceeds.Post
+exceeds-resolve-requires t c κs =
+    let start = c .before .before .before .before .before in
+    let m = start .pre .1 .0 in
+    let h = start .pre .1 .1 .0 .denotes in
+    omega (arith, within h, byte-low h, m .nodes-length, m .values-length)
+
+pub exceeds-make-ready-requires : (t : ℕ) → exceeds-lts.Need-make-ready-requires (exceeds-calls t) (exceeds-at t) exceeds.Post
+exceeds-make-ready-requires t c κs =
+    let start = c .before .before .before .before .before .before .before .before in
+    let x = resolves (start .pre .1 .1 .0) (c .before .before .resolve .ensures) in (x .below, start .pre .1 .0 .ready-length, start .pre .1 .0 .cells-length)
+
+pub exceeds-mul-cell : (t : ℕ) → exceeds-lts.Need-mul-cell (exceeds-calls t) (exceeds-at t) exceeds.Post
+exceeds-mul-cell t c =
+    let start = c .before .before .before .before .before .before .before .before .before .before .before .before .before in
+    let resolve = c .before .before .before .before .before .before .before .resolve in
+    let x = resolves (start .pre .1 .1 .0) (resolve .ensures) in omega (arith, x .below)
+
+pub exceeds-add-cell : (t : ℕ) → exceeds-lts.Need-add-cell (exceeds-calls t) (exceeds-at t) exceeds.Post
+exceeds-add-cell t c =
+    let start = c .before .before .before .before .before .before .before .before .before .before .before .before .before in
+    let resolve = c .before .before .before .before .before .before .before .resolve in
+    let x = resolves (start .pre .1 .1 .0) (resolve .ensures) in
+    let y = subject-resolves (start .pre .1 .0) (start .pre .1 .1 .1 .0) (start .pre .1 .1 .1 .1) in
+    omega (arith, x .below, y .below)
+
+pub exceeds-slice-read-known : (t : ℕ) → exceeds-lts.Need-slice-read-known (exceeds-calls t) (exceeds-at t) exceeds.Post
+exceeds-slice-read-known t c =
+    let start = c .before .before .before .before .before .before .before .before .before .before .before .before .before .before in
+    let resolve = c .before .before .before .before .before .before .before .before .resolve in
+    let make-ready = c .before .before .before .before .before .make-ready in
+    let x = resolves (start .pre .1 .1 .0) (resolve .ensures) in
+    let y = subject-resolves (start .pre .1 .0) (start .pre .1 .1 .1 .0) (start .pre .1 .1 .1 .1) in
+    let m = made-ready-settled (start .pre .1 .0) (make-ready .ensures) in
+    omega (arith, x .below, y .below, m .cells-length)
+
+pub exceeds-returns : (t : ℕ) → exceeds-lts.Need-returns (exceeds-calls t) (exceeds-at t) exceeds.Post
+exceeds-returns t c =
+    let start = c .before .before .before .before .before .before .before .before .before .before .before .before .before .before .before .before in
+    let resolve = c .before .before .before .before .before .before .before .before .before .before .resolve in
+    let make-ready = c .before .before .before .before .before .before .before .make-ready in
+    let x = resolves (start .pre .1 .1 .0) (resolve .ensures) in
+    let y = subject-resolves (start .pre .1 .0) (start .pre .1 .1 .1 .0) (start .pre .1 .1 .1 .1) in
+    known x y (made-ready-settled (start .pre .1 .0) (make-ready .ensures)) (make-ready .ensures .is-ready) (start .pre .1 .1 .1 .1) (c .before .if1 .taken) (c .held .ensures)
+
+pub exceeds-compare-symbols-requires : (t : ℕ) → exceeds-lts.Need-compare-symbols-requires (exceeds-calls t) (exceeds-at t) exceeds.Post
+exceeds-compare-symbols-requires t c κs =
+    let start = c .before .before .before .before .before .before .before .before .before .before .before .before .before .before .before .before .before in
+    let resolve = c .before .before .before .before .before .before .before .before .before .before .before .resolve in
+    let make-ready = c .before .before .before .before .before .before .before .before .make-ready in
+    let x = resolves (start .pre .1 .1 .0) (resolve .ensures) in
+    (omega (arith, start .pre .0, x .same-weight), (made-ready-settled (start .pre .1 .0) (make-ready .ensures), ((x .here, x .symbol), start .pre .1 .1 .1)))
+
+pub exceeds-settle-requires : (t : ℕ) → exceeds-lts.Need-settle-requires (exceeds-calls t) (exceeds-at t) exceeds.Post
+exceeds-settle-requires t c κs =
+    let start = c .before .before .before .before .before .before .before .before .before .before .before .before .before .before .before .before .before .before .before .before .before .before .before in
+    let resolve = c .before .before .before .before .before .before .before .before .before .before .before .before .before .before .before .before .before .resolve in
+    let compare-symbols = c .before .before .before .before .before .compare-symbols in
+    let x = resolves (start .pre .1 .1 .0) (resolve .ensures) in
+    let y = subject-resolves (start .pre .1 .0) (start .pre .1 .1 .1 .0) (start .pre .1 .1 .1 .1) in
+    omega (arith, x .below, y .below, compare-symbols .ensures .1 .cells-length)
+
+pub exceeds-returns-2 : (t : ℕ) → exceeds-lts.Need-returns-2 (exceeds-calls t) (exceeds-at t) exceeds.Post
+exceeds-returns-2 t c =
+    let start = c .before .before .before .before .before .before .before .before .before .before .before .before .before .before .before .before .before .before .before .before .before .before .before .before .before .before in
+    let resolve = c .before .before .before .before .before .before .before .before .before .before .before .before .before .before .before .before .before .before .before .before .resolve in
+    let compare-symbols = c .before .before .before .before .before .before .before .before .compare-symbols in
+    let x = resolves (start .pre .1 .1 .0) (resolve .ensures) in
+    let y = subject-resolves (start .pre .1 .0) (start .pre .1 .1 .1 .0) (start .pre .1 .1 .1 .1) in
+    settled x y (compare-symbols .ensures .1) (compare-symbols .ensures .0) (c .before .before .settle .ensures .0) (c .before .before .settle .ensures .1)

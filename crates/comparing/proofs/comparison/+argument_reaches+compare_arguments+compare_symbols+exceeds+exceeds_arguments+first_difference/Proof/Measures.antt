@@ -1,0 +1,149 @@
+-- The measures of the functions of the cycle, and what each may ask of its callees: eight times the summed size of the terms compared, and more the earlier
+-- a function stands in the chain of those that hand the same terms on.
+use Prim.Native.Nat.{ℕ, _+_, _*_, _<_}
+use Rattle.comparing.proofs.Weight.{term-weight, row-weight}
+use borrow.Fn.Kinds.{In}
+use borrow.Fn.PlainCycle.{Measures, is, falls, and}
+use Rattle.comparing.proofs.comparison.argument_reaches.Reads as argument-reaches
+use Rattle.comparing.proofs.comparison.argument_reaches.Kinds as argument-reaches-kinds
+use Rattle.comparing.proofs.comparison.+argument_reaches+compare_arguments+compare_symbols+exceeds+exceeds_arguments+first_difference.Lts-argument_reaches as argument-reaches-lts
+use Rattle.comparing.proofs.comparison.compare_arguments.Reads as compare-arguments
+use Rattle.comparing.proofs.comparison.compare_arguments.Kinds as compare-arguments-kinds
+use Rattle.comparing.proofs.comparison.+argument_reaches+compare_arguments+compare_symbols+exceeds+exceeds_arguments+first_difference.Lts-compare_arguments as compare-arguments-lts
+use Rattle.comparing.proofs.comparison.compare_symbols.Reads as compare-symbols
+use Rattle.comparing.proofs.comparison.compare_symbols.Kinds as compare-symbols-kinds
+use Rattle.comparing.proofs.comparison.+argument_reaches+compare_arguments+compare_symbols+exceeds+exceeds_arguments+first_difference.Lts-compare_symbols as compare-symbols-lts
+use Rattle.comparing.proofs.comparison.exceeds.Reads as exceeds
+use Rattle.comparing.proofs.comparison.exceeds.Kinds as exceeds-kinds
+use Rattle.comparing.proofs.comparison.+argument_reaches+compare_arguments+compare_symbols+exceeds+exceeds_arguments+first_difference.Lts-exceeds as exceeds-lts
+use Rattle.comparing.proofs.comparison.exceeds_arguments.Reads as exceeds-arguments
+use Rattle.comparing.proofs.comparison.exceeds_arguments.Kinds as exceeds-arguments-kinds
+use Rattle.comparing.proofs.comparison.first_difference.Reads as first-difference
+use Rattle.comparing.proofs.comparison.first_difference.Kinds as first-difference-kinds
+use Rattle.comparing.proofs.comparison.+argument_reaches+compare_arguments+compare_symbols+exceeds+exceeds_arguments+first_difference.Lts-first_difference as first-difference-lts
+use Rattle.comparing.proofs.cells.held.Reads as held-reads
+use Rattle.comparing.proofs.cells.make_ready.Reads as make-ready-reads
+use Rattle.comparing.proofs.cells.settle.Reads as settle-reads
+use Rattle.comparing.proofs.comparison.greater_if.Reads as greater-if-reads
+use Rattle.comparing.proofs.nodes.resolve.Reads as resolve-reads
+use Rattle.terms.proofs.arguments.arguments_of.Reads as arguments-of-reads
+use Rattle.terms.proofs.arguments.other_arguments.Reads as other-arguments-reads
+
+abbrev pub μ-argument-reaches : Measures 5 argument-reaches-kinds.ps ℕ
+μ-argument-reaches κs a = (row-weight (a .0 .now) (a .1 .0 .now) (a .1 .1 .0 .now) (a .1 .1 .1 .1 .1 .0) + term-weight (a .0 .now) (a .1 .0 .now) (a .1 .1 .0 .now) (a .1 .1 .1 .1 .1 .1 .0)) * 8 + 4
+
+abbrev pub μ-compare-arguments : Measures 5 compare-arguments-kinds.ps ℕ
+μ-compare-arguments κs a = (term-weight (a .0 .now) (a .1 .0 .now) (a .1 .1 .0 .now) (a .1 .1 .1 .1 .1 .0) + term-weight (a .0 .now) (a .1 .0 .now) (a .1 .1 .0 .now) (a .1 .1 .1 .1 .1 .1 .0)) * 8 + 1
+
+abbrev pub μ-compare-symbols : Measures 5 compare-symbols-kinds.ps ℕ
+μ-compare-symbols κs a = (term-weight (a .0 .now) (a .1 .0 .now) (a .1 .1 .0 .now) (a .1 .1 .1 .1 .1 .0) + term-weight (a .0 .now) (a .1 .0 .now) (a .1 .1 .0 .now) (a .1 .1 .1 .1 .1 .1 .0)) * 8 + 2
+
+abbrev pub μ-exceeds : Measures 5 exceeds-kinds.ps ℕ
+μ-exceeds κs a = (term-weight (a .0 .now) (a .1 .0 .now) (a .1 .1 .0 .now) (a .1 .1 .1 .1 .1 .0) + term-weight (a .0 .now) (a .1 .0 .now) (a .1 .1 .0 .now) (a .1 .1 .1 .1 .1 .1 .0)) * 8 + 3
+
+abbrev pub μ-exceeds-arguments : Measures 5 exceeds-arguments-kinds.ps ℕ
+μ-exceeds-arguments κs a = (term-weight (a .0 .now) (a .1 .0 .now) (a .1 .1 .0 .now) (a .1 .1 .1 .1 .1 .0) + row-weight (a .0 .now) (a .1 .0 .now) (a .1 .1 .0 .now) (a .1 .1 .1 .1 .1 .1 .0)) * 8 + 4
+
+abbrev pub μ-first-difference : Measures 5 first-difference-kinds.ps ℕ
+μ-first-difference κs a = (term-weight (a .0 .now) (a .1 .0 .now) (a .1 .1 .0 .now) (a .1 .1 .1 .1 .1 .0) + term-weight (a .0 .now) (a .1 .0 .now) (a .1 .1 .0 .now) (a .1 .1 .1 .1 .1 .1 .0)) * 8 + 0
+
+abbrev pub argument-reaches-at : ℕ → In 5 argument-reaches-kinds.ps
+argument-reaches-at t =
+    and
+    5
+    argument-reaches-kinds.ps
+    (is 5 argument-reaches-kinds.ps μ-argument-reaches t)
+    argument-reaches.Pre
+
+abbrev pub argument-reaches-below : ℕ → In 5 argument-reaches-kinds.ps
+argument-reaches-below t =
+    and
+    5
+    argument-reaches-kinds.ps
+    (falls 5 argument-reaches-kinds.ps _<_ μ-argument-reaches t)
+    argument-reaches.Pre
+
+abbrev pub compare-arguments-at : ℕ → In 5 compare-arguments-kinds.ps
+compare-arguments-at t =
+    and
+    5
+    compare-arguments-kinds.ps
+    (is 5 compare-arguments-kinds.ps μ-compare-arguments t)
+    compare-arguments.Pre
+
+abbrev pub compare-arguments-below : ℕ → In 5 compare-arguments-kinds.ps
+compare-arguments-below t =
+    and
+    5
+    compare-arguments-kinds.ps
+    (falls 5 compare-arguments-kinds.ps _<_ μ-compare-arguments t)
+    compare-arguments.Pre
+
+abbrev pub compare-symbols-at : ℕ → In 5 compare-symbols-kinds.ps
+compare-symbols-at t =
+    and
+    5
+    compare-symbols-kinds.ps
+    (is 5 compare-symbols-kinds.ps μ-compare-symbols t)
+    compare-symbols.Pre
+
+abbrev pub compare-symbols-below : ℕ → In 5 compare-symbols-kinds.ps
+compare-symbols-below t =
+    and
+    5
+    compare-symbols-kinds.ps
+    (falls 5 compare-symbols-kinds.ps _<_ μ-compare-symbols t)
+    compare-symbols.Pre
+
+abbrev pub exceeds-at : ℕ → In 5 exceeds-kinds.ps
+exceeds-at t = and 5 exceeds-kinds.ps (is 5 exceeds-kinds.ps μ-exceeds t) exceeds.Pre
+
+abbrev pub exceeds-below : ℕ → In 5 exceeds-kinds.ps
+exceeds-below t = and 5 exceeds-kinds.ps (falls 5 exceeds-kinds.ps _<_ μ-exceeds t) exceeds.Pre
+
+abbrev pub exceeds-arguments-at : ℕ → In 5 exceeds-arguments-kinds.ps
+exceeds-arguments-at t =
+    and
+    5
+    exceeds-arguments-kinds.ps
+    (is 5 exceeds-arguments-kinds.ps μ-exceeds-arguments t)
+    exceeds-arguments.Pre
+
+abbrev pub exceeds-arguments-below : ℕ → In 5 exceeds-arguments-kinds.ps
+exceeds-arguments-below t =
+    and
+    5
+    exceeds-arguments-kinds.ps
+    (falls 5 exceeds-arguments-kinds.ps _<_ μ-exceeds-arguments t)
+    exceeds-arguments.Pre
+
+abbrev pub first-difference-at : ℕ → In 5 first-difference-kinds.ps
+first-difference-at t =
+    and
+    5
+    first-difference-kinds.ps
+    (is 5 first-difference-kinds.ps μ-first-difference t)
+    first-difference.Pre
+
+abbrev pub first-difference-below : ℕ → In 5 first-difference-kinds.ps
+first-difference-below t =
+    and
+    5
+    first-difference-kinds.ps
+    (falls 5 first-difference-kinds.ps _<_ μ-first-difference t)
+    first-difference.Pre
+
+abbrev pub argument-reaches-calls : ℕ → argument-reaches-lts.Claims
+argument-reaches-calls t = (exceeds-below t, exceeds.Post, other-arguments-reads.Asked, other-arguments-reads.Learnt)
+
+abbrev pub compare-arguments-calls : ℕ → compare-arguments-lts.Claims
+compare-arguments-calls t = (first-difference-below t, first-difference.Post, argument-reaches-below t, argument-reaches.Post, greater-if-reads.Asked, greater-if-reads.Learnt, exceeds-arguments-below t, exceeds-arguments.Post)
+
+abbrev pub compare-symbols-calls : ℕ → compare-symbols-lts.Claims
+compare-symbols-calls t = (arguments-of-reads.Asked, arguments-of-reads.Learnt, argument-reaches-below t, argument-reaches.Post, greater-if-reads.Asked, greater-if-reads.Learnt, exceeds-arguments-below t, exceeds-arguments.Post, compare-arguments-below t, compare-arguments.Post)
+
+abbrev pub exceeds-calls : ℕ → exceeds-lts.Claims
+exceeds-calls t = (resolve-reads.Asked, resolve-reads.Learnt, make-ready-reads.Asked, make-ready-reads.Learnt, held-reads.Asked, held-reads.Learnt, compare-symbols-below t, compare-symbols.Post, settle-reads.Asked, settle-reads.Learnt)
+
+abbrev pub first-difference-calls : ℕ → first-difference-lts.Claims
+first-difference-calls t = (arguments-of-reads.Asked, arguments-of-reads.Learnt, exceeds-below t, exceeds.Post, other-arguments-reads.Asked, other-arguments-reads.Learnt)

@@ -1,0 +1,130 @@
+-- Laws of the cells of a comparison: where no row is ready, where one more row is, and where the equation and the match are others.
+use Prim.Native.Nat.{ℕ, zero, suc, _+_, _*_, _≤_, _<_}
+use mathlib.Core.Path.{_≡_, refl, sym, ap, _∙_}
+use mathlib.Core.Logic.{_⊎_, inl, inr}
+use mathlib.Core.List.{List, [], _∷_, _++_}
+use native.Mathlib.Omega.{arith}
+use native.Mathlib.Decide.{decLt}
+use lib.ListN.{length, getD, take, drop, replicate}
+use lib.Seq.{getD-drop}
+use Rattle.format.specs.Limits.{max-symbols, position-count, first-variable, variable-count, node-count, cell-count}
+use Rattle.format.specs.Byte.{class-of}
+use Rattle.format.specs.Theory.Byte.{class-variable}
+use Rattle.terms.specs.Term.{Term, Terms, var, app, nil, cons, Ground, Grounds}
+use Rattle.terms.specs.Prefix.{prefix, prefixes}
+use Rattle.ordering.specs.Verdict.{verdict, verdict-number}
+use Rattle.comparing.specs.Contracts.Nodes.{TermAt, Denotes, symbol-node, variable-node, RowDenotes, none, more, AllSymbols}
+use Rattle.comparing.specs.Contracts.Cells.{SettledCells, Cleared, MadeReady}
+use Rattle.comparing.specs.Theory.Nodes.{within}
+
+-- No row is ready.
+pub none-ready : {nodes lengths values ready cells : List ℕ} → length nodes ≡ node-count → length lengths ≡ node-count → length values ≡ variable-count
+    → length ready ≡ node-count → length cells ≡ cell-count → ((i : ℕ) → position-count ≤ i → getD nodes i 0 < first-variable)
+    → ((k : ℕ) → getD ready k 0 ≡ 0) → SettledCells nodes lengths values ready cells
+none-ready a b c r d l z = record {
+  nodes-length = a;
+  sizes-length = b;
+  values-length = c;
+  ready-length = r;
+  cells-length = d;
+  symbols = l;
+  settled = λ i j s t h. absurd (omega (arith, z i));
+}
+
+-- One more row is ready.
+pub made-ready-settled : {nodes lengths values ready cells after cleared : List ℕ} {s : ℕ} → SettledCells nodes lengths values ready cells → MadeReady ready cells s after cleared
+    → SettledCells nodes lengths values after cleared
+made-ready-settled {nodes} {lengths} {values} {ready} {cells} {after} {cleared} m o = record {
+  nodes-length = m .nodes-length;
+  sizes-length = m .sizes-length;
+  values-length = m .values-length;
+  ready-length = o .ready-length ∙ m .ready-length;
+  cells-length = o .cells-length ∙ m .cells-length;
+  symbols = m .symbols;
+  settled = λ i j s t h l a b. elim (o .kept i j (within b) h) [ inl e ↦ inl e | inr e ↦ rw (e .1) (m .settled i j s t (e .0) l a b) ];
+}
+
+-- From `n` on the two lists are the same.
+pub record SameFrom (n : ℕ) (before after : List ℕ) : Type 0 where
+  pub same-length : length after ≡ length before
+  pub same : (k : ℕ) → n ≤ k → getD after k 0 ≡ getD before k 0
+
+-- A subject's node stands for the same term whatever the equation's nodes are and whatever the variables stand for.
+module _ {nodes lengths nodes-after lengths-after : List ℕ} {Value Value-after : ℕ → Term → Type 0}
+    (symbols : (i : ℕ) → position-count ≤ i → getD nodes i 0 < first-variable)
+    (n : SameFrom position-count nodes nodes-after) (l : SameFrom position-count lengths lengths-after) where
+  mutual
+    pub subject-denotes : {i : ℕ} {t : Term} → position-count ≤ i → Denotes nodes-after lengths-after Value-after i t → Denotes nodes lengths Value i t
+    subject-denotes {i} h (symbol-node w c r) =
+        let q = subject-row (omega arith) r in
+        symbol-node w (ap class-of (sym (n .same i h)) ∙ c) (rw (l .same i h) at q)
+    subject-denotes {i} h (variable-node {v = v} w c o x) = absurd (omega (arith, class-variable (getD nodes-after i 0) v c .0, symbols i h, n .same i h))
+
+    pub subject-row : {k end : ℕ} {ts : Terms} → position-count ≤ k → RowDenotes nodes-after lengths-after Value-after k end ts → RowDenotes nodes lengths Value k end ts
+    subject-row h (none e) = none e
+    subject-row {k} h (more s r) =
+        let q = subject-row (omega arith) r in
+        more (subject-denotes h s) (rw (l .same k h) at q)
+
+-- Between two matches of a run: once the rows of the equation's nodes are not ready any more, the cells hold for any other equation and any other match.
+pub next-match : {nodes lengths values ready cells nodes-after lengths-after values-after ready-after : List ℕ} → SettledCells nodes lengths values ready cells
+    → SameFrom position-count nodes nodes-after → SameFrom position-count lengths lengths-after → length values-after ≡ variable-count
+    → Cleared ready 0 position-count ready-after
+    → SettledCells nodes-after lengths-after values-after ready-after cells
+next-match {nodes} {lengths} {values} {ready} {cells} {nodes-after} {lengths-after} {values-after} {ready-after} m n l v r = record {
+  nodes-length = n .same-length ∙ m .nodes-length;
+  sizes-length = l .same-length ∙ m .sizes-length;
+  values-length = v;
+  ready-length = r .same-length ∙ m .ready-length;
+  cells-length = m .cells-length;
+  symbols = λ i h. omega (arith, n .same i h, m .symbols i h);
+  settled = settled;
+}
+  where
+    settled : (i j : ℕ) (s t : Term) → 0 < getD ready-after i 0 → position-count ≤ j → TermAt nodes-after lengths-after values-after i s → TermAt nodes-after lengths-after values-after j t
+        → (getD cells (i * node-count + j) 0 ≡ 0) ⊎ (getD cells (i * node-count + j) 0 ≡ verdict-number (verdict s t) + 1)
+    settled i j s t h k a b = elim (decLt i position-count) [
+      | yes lt ↦ absurd (omega (arith, r .inside i (omega arith) lt))
+      | no ge ↦
+          let c : position-count ≤ i = omega arith in
+          m .settled i j s t (omega (arith, r .above i c)) k (subject-denotes (m .symbols) n l c a) (subject-denotes (m .symbols) n l k b)
+    ]
+
+-- Bytes without variables: the prefix forms of ground terms, and what is put together from such bytes.
+pub symbols-append : (xs ys : List ℕ) → AllSymbols xs → AllSymbols ys → AllSymbols (xs ++ ys)
+unfolding AllSymbols
+symbols-append [] ys h k i = k i
+symbols-append (x ∷ xs) ys h k zero = h 0
+symbols-append (x ∷ xs) ys h k (suc i) = symbols-append xs ys (λ j. h (suc j)) k i
+
+pub symbols-drop : (n : ℕ) (xs : List ℕ) → AllSymbols xs → AllSymbols (drop n xs)
+unfolding AllSymbols
+symbols-drop n xs h i = rw (getD-drop n xs i 0) (h (n + i))
+
+pub symbols-take : (n : ℕ) (xs : List ℕ) → AllSymbols xs → AllSymbols (take n xs)
+unfolding AllSymbols
+symbols-take zero xs h i = omega arith
+symbols-take (suc n) [] h i = omega arith
+symbols-take (suc n) (x ∷ xs) h zero = h 0
+symbols-take (suc n) (x ∷ xs) h (suc i) = symbols-take n xs (λ j. h (suc j)) i
+
+pub zero-bytes : (n i : ℕ) → getD {A = ℕ} (replicate n 0) i 0 ≡ 0
+zero-bytes zero i = refl
+zero-bytes (suc n) zero = refl
+zero-bytes (suc n) (suc i) = zero-bytes n i
+
+pub symbols-zero : (n : ℕ) → AllSymbols (replicate n 0)
+unfolding AllSymbols
+symbols-zero n i = omega (arith, zero-bytes n i)
+
+mutual
+  unfolding prefix AllSymbols
+
+  pub ground-symbols : (arities : List ℕ) → length arities ≤ max-symbols → (t : Term) → Ground arities t → AllSymbols (prefix t)
+  ground-symbols arities known (var v) g i = absurd g
+  ground-symbols arities known (app f ts) g zero = omega (arith, g .0)
+  ground-symbols arities known (app f ts) g (suc i) = grounds-symbols arities known ts (g .2) i
+
+  pub grounds-symbols : (arities : List ℕ) → length arities ≤ max-symbols → (ts : Terms) → Grounds arities ts → AllSymbols (prefixes ts)
+  grounds-symbols arities known nil g i = omega arith
+  grounds-symbols arities known (cons t ts) g i = symbols-append (prefix t) (prefixes ts) (λ j. ground-symbols arities known t (g .0) j) (λ j. grounds-symbols arities known ts (g .1) j) i

@@ -1,0 +1,11 @@
+pub mod Arguments
+pub mod Exceeding
+pub mod Lexicographic
+pub mod Marked
+pub mod Rebinding
+pub mod Shifting
+pub mod Sizes
+pub mod Widening
+pub mod Recording
+pub mod Removing
+pub mod Writing

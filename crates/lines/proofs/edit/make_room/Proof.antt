@@ -1,0 +1,35 @@
+-- `walking::record::make_room` makes room for some elements in the place of one, and counts them.
+use mathlib.Core.Path.{ap, _∙_}
+use lib.ListN.{set}
+use Rattle.lines.specs.Contracts.Layout.{reduced-place}
+use borrow.Author.Needs.{needs}
+use Rattle.lines.proofs.Widening.{widened}
+use Rattle.lines.proofs.edit.make_room.Statement.{statement}
+use Rattle.lines.proofs.edit.make_room.Tie as tie
+
+returns : tie.Need-returns
+returns c =
+    let a = c .before .before .before .before .before .before .before .before .before .before .before .before .before .before .before in
+    let count = c .before .before .before .before .before .before .before .before .before .before .before .before .wide in
+    widened (a .args .i) (a .args .n) (count .result) (a .args .line .now) _ _ (a .pre) (count .ensures .0) (c .before .before .before .before .before .before .before .before .before .before .shift .ensures) (c .before .before .put-if-new2 .ensures ∙ ap (λ l. set l reduced-place (a .args .i)) (c .before .before .before .before .before .before .put-if-new .ensures))
+
+pub make-room-spec : {M : Type 1} → statement M
+make-room-spec =
+    tie.close
+    (tie.spec
+    (λ c. search needs)
+    (λ c κs. search needs)
+    (λ c. search needs)
+    (λ c. search needs)
+    (λ c. search needs)
+    (λ c. search needs)
+    (λ c. search needs)
+    (λ c κs. search needs)
+    (λ c. search needs)
+    (λ c. search needs)
+    (λ c. search needs)
+    (λ c κs. search needs)
+    (λ c. search needs)
+    (λ c κs. search needs)
+    (λ c. search needs)
+    returns)

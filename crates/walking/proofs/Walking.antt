@@ -1,0 +1,277 @@
+-- The memory of the walk from turn to turn.
+use Prim.Native.Nat.{ℕ, zero, suc, _+_, _-_, _*_, _≤_, _<_}
+use mathlib.Core.Path.{_≡_, refl, sym, ap, ap₂, _∙_}
+use mathlib.Core.Bool.{Bool, true, false}
+use mathlib.Core.Option.{Option, none, some}
+use mathlib.Core.List.{List, [], _∷_, _++_, map, map-append, append-assoc, append-nil}
+use lib.ListN.{length, take, drop, length-append, length-map, length-drop, length-replicate}
+use lib.Seq.{slice, take-append-le, take-take, drop-at, take-at, drop-drop, drop-append-add, length-take-le, take-add}
+use borrow.Author.Tests.{le-ltb, lt-ltb}
+use lib.Dec.{ltb}
+use native.Mathlib.Omega.{arith}
+use Rattle.format.specs.Lists.{any}
+use Rattle.format.specs.Limits.{variable-count, max-elements, max-lines, max-turns, record-bytes}
+use Rattle.format.specs.declared.refusal.Refusal.{Refusal}
+use Rattle.format.specs.declared.refusal.Refusal.the-variants.{TooManyTurns as too-many-turns, TooManyElements as too-many-elements, TooManyLines as too-many-lines}
+use Rattle.solving.specs.Line.{Bindings, Element, equal, greater, Line, line, binding-byte, element-bytes, record-of, records}
+use Rattle.solving.specs.Walk.{enough, treat-line, turn, crowded, over-limit, Walked, solved, refused, walk-from, walk}
+use Rattle.walking.specs.declared.walk.Walk.{Walk}
+use Rattle.unifying.specs.Contracts.PrefixForm.{view-of, InPrefixForm}
+use Rattle.unifying.specs.Contracts.Bindings.{bindings-of}
+use Rattle.lines.specs.Contracts.Stored.{Stored, line-of, stored-bytes}
+use Rattle.lines.specs.Contracts.Layout.{line-bytes, placed}
+use Rattle.lines.specs.Contracts.Place.{lines-bytes}
+use Rattle.walking.specs.Contracts.Sound.{AllReduced, Sound}
+use Rattle.walking.specs.Contracts.Walking.{memory-bytes, AllSound, Memory, whole-walk, Walking, Further, GoesOn, Finished, AllFinished}
+use Rattle.unifying.specs.Theory.Bindings.{length-bindings, readable-slots}
+use Rattle.lines.specs.Theory.Place.{placed-length}
+use Rattle.lines.specs.Theory.Resting.{slice-is}
+use Rattle.lines.specs.Theory.Stored.{length-stored}
+use Rattle.walking.proofs.Turn.{Settled, leftmost-none, finished-append, turn-none, turn-some, short-append, finished-short, crowded-middle, over-elements, over-lines, within-limits, walk-ends, walk-too-long, walk-over, walk-on}
+
+-- 1. Parts of a buffer.
+pub placed-front : (k at : ℕ) (part buffer : List ℕ) → k ≤ at → at ≤ length buffer → take k (placed at part buffer) ≡ take k buffer
+unfolding placed
+placed-front k at part buffer h l =
+    let e = length-take-le at buffer l in
+    take-append-le k (take at buffer) (part ++ drop (at + length part) buffer) (omega arith) ∙ take-take k at buffer h
+
+pub placed-back : (at : ℕ) (part buffer : List ℕ) → at ≤ length buffer → drop at (placed at part buffer) ≡ part ++ drop (at + length part) buffer
+unfolding placed
+placed-back at part buffer l = drop-at (take at buffer) (part ++ drop (at + length part) buffer) at (length-take-le at buffer l)
+
+-- 2. The stack of unfinished lines.
+pub sound-length : {nodes sizes : List ℕ} (l : Stored) → Sound nodes sizes l → length (stored-bytes l) ≡ line-bytes
+sound-length l s = length-stored l (readable-slots (s .readable)) (s .few)
+
+pub length-lines : (nodes sizes : List ℕ) (ls : List Stored) → AllSound nodes sizes ls → length (lines-bytes ls) ≡ length ls * line-bytes
+unfolding lines-bytes
+length-lines nodes sizes [] h = refl
+length-lines nodes sizes (l ∷ ls) h = length-append (stored-bytes l) (lines-bytes ls) ∙ omega (arith, sound-length l (h .0), length-lines nodes sizes ls (h .1))
+
+pub lines-append : (xs ys : List Stored) → lines-bytes (xs ++ ys) ≡ lines-bytes xs ++ lines-bytes ys
+unfolding lines-bytes
+lines-append [] ys = refl
+lines-append (l ∷ xs) ys = ap (stored-bytes l ++_) (lines-append xs ys) ∙ sym (append-assoc (stored-bytes l) (lines-bytes xs) (lines-bytes ys))
+
+pub sound-append : (nodes sizes : List ℕ) (xs ys : List Stored) → AllSound nodes sizes xs → AllSound nodes sizes ys → AllSound nodes sizes (xs ++ ys)
+sound-append nodes sizes [] ys h k = k
+sound-append nodes sizes (l ∷ xs) ys h k = (h .0, sound-append nodes sizes xs ys (h .1) k)
+
+pub sound-short : (nodes sizes : List ℕ) (ls : List Stored) → AllSound nodes sizes ls → any crowded (map line-of ls) ≡ false
+unfolding any line-of crowded
+sound-short nodes sizes [] h = refl
+sound-short nodes sizes (l ∷ ls) h = rw (le-ltb max-elements (length (l .elements)) (h .0 .few), sound-short nodes sizes ls (h .1), any)
+
+module _ {nodes sizes memory : List ℕ} {done top : ℕ} {finished : List Line} {first : Stored} {others : List Stored} (m : Memory nodes sizes memory done top finished (first ∷ others)) where
+  -- The first unfinished line stands at its place, the others behind it.
+  place-within : top * line-bytes + line-bytes ≤ length memory
+  place-within = omega (arith, m .length-is, m .top-is)
+
+  pub first-there : slice (top * line-bytes) (top * line-bytes + line-bytes) memory ≡ stored-bytes first
+  unfolding lines-bytes
+  first-there =
+      slice-is (top * line-bytes) line-bytes memory (omega (arith, place-within))
+      ∙ (ap (take line-bytes) (m .lines-are) ∙ take-at (stored-bytes first) (lines-bytes others) line-bytes (sound-length first (m .all-sound .0)))
+
+  others-there : drop ((top + 1) * line-bytes) memory ≡ lines-bytes others
+  unfolding lines-bytes
+  others-there =
+      let e : (top + 1) * line-bytes ≡ top * line-bytes + line-bytes = omega arith in
+      ap (λ n. drop n memory) e
+      ∙ (sym (drop-drop line-bytes (top * line-bytes) memory)
+      ∙ (ap (drop line-bytes) (m .lines-are) ∙ drop-at (stored-bytes first) (lines-bytes others) line-bytes (sound-length first (m .all-sound .0))))
+
+  -- 3. The line is replaced by others.
+  pub replaced : (memory′ : List ℕ) (top′ : ℕ) (children : List Stored) → AllSound nodes sizes children → top′ + length children ≡ top + 1 → done ≤ top′
+      → memory′ ≡ placed (top′ * line-bytes) (lines-bytes children) memory → Memory nodes sizes memory′ done top′ finished (children ++ others)
+  replaced memory′ top′ children s t o e =
+      let k = length-lines nodes sizes children s in
+      let w = place-within in
+      let b : top′ * line-bytes + length (lines-bytes children) ≡ (top + 1) * line-bytes = omega arith in
+      record {
+        length-is = ap length e ∙ (placed-length (top′ * line-bytes) (lines-bytes children) memory (omega arith) ∙ m .length-is);
+        records-are = ap (take (done * record-bytes)) e ∙ (placed-front (done * record-bytes) (top′ * line-bytes) (lines-bytes children) memory (omega arith) (omega arith) ∙ m .records-are);
+        lines-are =
+            ap (drop (top′ * line-bytes)) e
+            ∙ (placed-back (top′ * line-bytes) (lines-bytes children) memory (omega arith)
+            ∙ (ap (λ n. lines-bytes children ++ drop n memory) b
+            ∙ (ap (lines-bytes children ++_) others-there ∙ sym (lines-append children others))));
+        done-is = m .done-is;
+        top-is = omega (arith, m .top-is, length-append children others);
+        ordered = o;
+        all-finished = m .all-finished;
+        all-sound = sound-append nodes sizes children others s (m .all-sound .1);
+      }
+
+-- 4. The walk goes on from the new table, or is refused.
+module _ (nodes sizes memory : List ℕ) (w : Walk) (finished : List Line) (first : Stored) (others : List Stored) (m : Memory nodes sizes memory (w .done) (w .top) finished (first ∷ others))
+    (leads : walk-from enough (view-of nodes sizes) (max-turns - w .turns) (w .turns) (finished ++ map line-of (first ∷ others)) ≡ whole-walk nodes sizes w) where
+  table-turns : (new : List Line) → treat-line enough (view-of nodes sizes) (line-of first) ≡ some new
+      → turn enough (view-of nodes sizes) (finished ++ map line-of (first ∷ others)) ≡ some (finished ++ (new ++ map line-of others))
+  table-turns new x = turn-some (view-of nodes sizes) finished (line-of first) (map line-of others) new (m .all-finished) x
+
+  pub refused-turns : (new : List Line) → treat-line enough (view-of nodes sizes) (line-of first) ≡ some new → max-turns ≤ w .turns → whole-walk nodes sizes w ≡ refused too-many-turns
+  refused-turns new x h =
+      let e : max-turns - w .turns ≡ 0 = omega arith in
+      sym leads
+      ∙ (ap (λ n. walk-from enough (view-of nodes sizes) n (w .turns) (finished ++ map line-of (first ∷ others))) e
+      ∙ walk-too-long (view-of nodes sizes) (finished ++ map line-of (first ∷ others)) (w .turns) (finished ++ (new ++ map line-of others)) (table-turns new x))
+
+  module _ (below : w .turns < max-turns) where
+    one-left : max-turns - w .turns ≡ suc (max-turns - (w .turns + 1))
+    one-left = omega arith
+
+    refused-over : (new : List Line) (r : Refusal) → treat-line enough (view-of nodes sizes) (line-of first) ≡ some new → over-limit (finished ++ (new ++ map line-of others)) ≡ some r
+        → whole-walk nodes sizes w ≡ refused r
+    refused-over new r x o =
+        sym leads
+        ∙ (ap (λ n. walk-from enough (view-of nodes sizes) n (w .turns) (finished ++ map line-of (first ∷ others))) one-left
+        ∙ walk-over (view-of nodes sizes) (finished ++ map line-of (first ∷ others)) (w .turns) (finished ++ (new ++ map line-of others)) (table-turns new x) (max-turns - (w .turns + 1)) r o)
+
+    pub refused-elements : (new : List Line) → treat-line enough (view-of nodes sizes) (line-of first) ≡ some new → any crowded new ≡ true → whole-walk nodes sizes w ≡ refused too-many-elements
+    refused-elements new x h = refused-over new too-many-elements x (over-elements (finished ++ (new ++ map line-of others)) (crowded-middle finished new (map line-of others) h))
+
+    length-table : (new : List Line) → length (finished ++ (new ++ map line-of others)) ≡ w .done + length new + (max-lines - (w .top + 1))
+    length-table new =
+        length-append finished (new ++ map line-of others)
+        ∙ omega (arith, length-append new (map line-of others), length-map others line-of, m .done-is, m .top-is)
+
+    short-table : (new : List Line) → any crowded new ≡ false → any crowded (finished ++ (new ++ map line-of others)) ≡ false
+    short-table new h =
+        short-append finished (new ++ map line-of others) (finished-short (view-of nodes sizes) finished (m .all-finished))
+        (short-append new (map line-of others) h (sound-short nodes sizes others (m .all-sound .1)))
+
+    pub refused-lines : (new : List Line) → treat-line enough (view-of nodes sizes) (line-of first) ≡ some new → any crowded new ≡ false → w .top + 1 < w .done + length new
+        → whole-walk nodes sizes w ≡ refused too-many-lines
+    refused-lines new x h l =
+        refused-over new too-many-lines x (over-lines (finished ++ (new ++ map line-of others)) (short-table new h) (omega (arith, length-table new, m .top-is)))
+
+    module _ (laid : InPrefixForm nodes sizes) (memory′ : List ℕ) (top′ : ℕ) (children : List Stored) (sound : AllSound nodes sizes children) (count : top′ + length children ≡ w .top + 1) (ordered : w .done ≤ top′)
+        (placed-there : memory′ ≡ placed (top′ * line-bytes) (lines-bytes children) memory)
+        (x : treat-line enough (view-of nodes sizes) (line-of first) ≡ some (map line-of children)) where
+      abbrev further-on : Walk
+      further-on = record { source = w .source; target = w .target; done = w .done; top = top′; turns = w .turns + 1 }
+
+      pub turned : GoesOn nodes sizes memory′ w further-on
+      turned =
+          let new = map line-of children in
+          let l = length-map children line-of in
+          let o = within-limits (finished ++ (new ++ map line-of others)) (short-table new (sound-short nodes sizes children sound)) (omega (arith, length-table new, m .top-is)) in
+          let e : suc (w .turns) ≡ w .turns + 1 = omega arith in
+          record {
+            walking = record {
+              laid = laid;
+              finished = finished;
+              unfinished = children ++ others;
+              holds = replaced m memory′ top′ children sound count ordered placed-there;
+              turns-within = omega arith;
+              leads =
+                  ap (λ t. walk-from enough (view-of nodes sizes) (max-turns - (w .turns + 1)) (w .turns + 1) (finished ++ t)) (map-append line-of children others)
+                  ∙ (ap (λ n. walk-from enough (view-of nodes sizes) (max-turns - (w .turns + 1)) n (finished ++ (new ++ map line-of others))) (sym e)
+                  ∙ (sym (walk-on (view-of nodes sizes) (finished ++ map line-of (first ∷ others)) (w .turns) (finished ++ (new ++ map line-of others)) (table-turns new x) (max-turns - (w .turns + 1)) o)
+                  ∙ (ap (λ n. walk-from enough (view-of nodes sizes) n (w .turns) (finished ++ map line-of (first ∷ others))) (sym one-left)
+                  ∙ leads)));
+            };
+            further = record { same-source = refl; same-target = refl; top-within = omega (arith, m .top-is); falls = omega (arith, m .top-is) };
+          }
+
+-- 5. The line is finished.
+length-record-of : (bs : List ℕ) (es : List Element) → length bs ≡ variable-count → length es ≤ max-elements → length (record-of (line (bindings-of bs) es)) ≡ record-bytes
+unfolding record-of
+length-record-of bs es h k = simp (length-append, length-map, length-replicate) (omega (arith, length-elements es, length-bindings bs))
+  where
+    length-elements : (es : List Element) → length (element-bytes es) ≡ 2 * length es
+    length-elements [] = refl
+    length-elements (equal p q ∷ es) = omega (arith, length-elements es)
+    length-elements (greater p q ∷ es) = omega (arith, length-elements es)
+
+pub settled : (nodes sizes bs : List ℕ) (es : List Element) → AllReduced nodes sizes bs es → Settled (view-of nodes sizes) (bindings-of bs) es
+settled nodes sizes bs [] h = tt
+settled nodes sizes bs (e ∷ es) h = (h .0, settled nodes sizes bs es (h .1))
+
+records-one-more : (fs : List Line) (l : Line) → records (fs ++ (l ∷ [])) ≡ records fs ++ record-of l
+unfolding records
+records-one-more [] l = append-nil (record-of l)
+records-one-more (f ∷ fs) l = ap (record-of f ++_) (records-one-more fs l) ∙ sym (append-assoc (record-of f) (records fs) (record-of l))
+
+placed-over : (k at : ℕ) (part buffer : List ℕ) → at ≤ length buffer → at + length part ≤ k → drop k (placed at part buffer) ≡ drop k buffer
+placed-over k at part buffer l h =
+    let j = k - (at + length part) in
+    let e : k ≡ at + (length part + j) = omega arith in
+    let d : k ≡ at + length part + j = omega arith in
+    ap (λ n. drop n (placed at part buffer)) e
+    ∙ (sym (drop-drop (length part + j) at (placed at part buffer))
+    ∙ (ap (drop (length part + j)) (placed-back at part buffer l)
+    ∙ (drop-append-add part (drop (at + length part) buffer) j
+    ∙ (drop-drop j (at + length part) buffer ∙ ap (λ n. drop n buffer) (sym d)))))
+
+placed-through : (at : ℕ) (part buffer : List ℕ) → at ≤ length buffer → take (at + length part) (placed at part buffer) ≡ take at buffer ++ part
+unfolding placed
+placed-through at part buffer l =
+    let e = length-take-le at buffer l in
+    ap (take (at + length part)) (sym (append-assoc (take at buffer) part (drop (at + length part) buffer)))
+    ∙ take-at (take at buffer ++ part) (drop (at + length part) buffer) (at + length part) (length-append (take at buffer) part ∙ ap (_+ length part) e)
+
+module _ (nodes sizes memory : List ℕ) (w : Walk) (finished : List Line) (first : Stored) (others : List Stored) (m : Memory nodes sizes memory (w .done) (w .top) finished (first ∷ others))
+    (leads : walk-from enough (view-of nodes sizes) (max-turns - w .turns) (w .turns) (finished ++ map line-of (first ∷ others)) ≡ whole-walk nodes sizes w) where
+  abbrev line-on : Walk
+  line-on = record { source = w .source; target = w .target; done = w .done + 1; top = w .top + 1; turns = w .turns }
+
+  pub finished-on : InPrefixForm nodes sizes → w .turns ≤ max-turns → (memory′ : List ℕ) → AllReduced nodes sizes (first .bindings) (first .elements)
+      → memory′ ≡ placed (w .done * record-bytes) (record-of (line-of first)) memory → GoesOn nodes sizes memory′ w line-on
+  unfolding line-of treat-line crowded
+  finished-on laid within memory′ r e =
+      let s = m .all-sound .0 in
+      let k : length (record-of (line-of first)) ≡ record-bytes = length-record-of (first .bindings) (first .elements) (readable-slots (s .readable)) (s .few) in
+      let p : (w .done + 1) * record-bytes ≡ w .done * record-bytes + length (record-of (line-of first)) = omega arith in
+      let room : w .done * record-bytes + record-bytes ≤ length memory = omega (arith, m .length-is, m .top-is, m .ordered) in
+      record {
+        walking = record {
+          laid = laid;
+          finished = finished ++ (line-of first ∷ []);
+          unfinished = others;
+          holds = record {
+            length-is = ap length e ∙ (placed-length (w .done * record-bytes) (record-of (line-of first)) memory (omega arith) ∙ m .length-is);
+            records-are =
+                ap (take ((w .done + 1) * record-bytes)) e
+                ∙ (ap (λ n. take n (placed (w .done * record-bytes) (record-of (line-of first)) memory)) p
+                ∙ (placed-through (w .done * record-bytes) (record-of (line-of first)) memory (omega arith)
+                ∙ (ap (_++ record-of (line-of first)) (m .records-are) ∙ sym (records-one-more finished (line-of first)))));
+            lines-are =
+                ap (drop ((w .top + 1) * line-bytes)) e
+                ∙ (placed-over ((w .top + 1) * line-bytes) (w .done * record-bytes) (record-of (line-of first)) memory (omega arith) (omega (arith, m .ordered)) ∙ others-there m);
+            done-is = length-append finished (line-of first ∷ []) ∙ omega (arith, m .done-is);
+            top-is = omega (arith, m .top-is);
+            ordered = omega (arith, m .ordered);
+            all-finished = finished-append (view-of nodes sizes) finished (line-of first ∷ []) (m .all-finished) (
+              record {
+                nothing-left = leftmost-none (view-of nodes sizes) (bindings-of (first .bindings)) (first .elements) (settled nodes sizes (first .bindings) (first .elements) r);
+                short = le-ltb max-elements (length (first .elements)) (s .few);
+              },
+              tt,
+            );
+            all-sound = m .all-sound .1;
+          };
+          turns-within = within;
+          leads = ap (walk-from enough (view-of nodes sizes) (max-turns - w .turns) (w .turns)) (append-assoc finished (line-of first ∷ []) (map line-of others)) ∙ leads;
+        };
+        further = record { same-source = refl; same-target = refl; top-within = omega (arith, m .top-is); falls = omega (arith, m .top-is) };
+      }
+
+-- 6. Where no line is left the walk has ended, and what it ended with stands in the memory.
+pub ended : (nodes sizes memory : List ℕ) (w : Walk) (k : Walking nodes sizes memory w) → max-lines ≤ w .top
+    → (whole-walk nodes sizes w ≡ solved (k .finished) (w .turns)) × (length (k .finished) ≡ w .done) × (take (w .done * record-bytes) memory ≡ records (k .finished))
+ended nodes sizes memory w k h = go (k .unfinished) refl
+  where
+    go : (ls : List Stored) → k .unfinished ≡ ls
+        → (whole-walk nodes sizes w ≡ solved (k .finished) (w .turns)) × (length (k .finished) ≡ w .done) × (take (w .done * record-bytes) memory ≡ records (k .finished))
+    go [] e =
+        let t : k .finished ++ map line-of (k .unfinished) ≡ k .finished = ap (λ l. k .finished ++ map line-of l) e ∙ append-nil (k .finished) in (
+          sym (k .leads)
+              ∙ (ap (walk-from enough (view-of nodes sizes) (max-turns - w .turns) (w .turns)) t
+              ∙ walk-ends (view-of nodes sizes) (k .finished) (w .turns) (max-turns - w .turns) (turn-none (view-of nodes sizes) (k .finished) (k .holds .all-finished))),
+          k .holds .done-is,
+          k .holds .records-are,
+        )
+    go (l ∷ ls) e = absurd (omega (arith, k .holds .top-is, ap length e))
