@@ -18,7 +18,7 @@ use Rattle.reading.specs.declared.seek.TaskHead.the-variants.{Run, Judgement, C
 use Rattle.sheet.specs.Sheet.{Task, run, judgement, comparison, Sheet}
 use Rattle.sheet.specs.Reading.{accepted, read}
 use Rattle.scanning.specs.Contracts.Scan.{known-arities}
-use Rattle.scanning.specs.Contracts.Body.{Roomy}
+use Rattle.scanning.specs.Contracts.Known.{Roomy}
 use Rattle.reading.specs.Contracts.Seek.{Accepts, TaskIn, TaskAt, task-terms}
 use Rattle.sheet.specs.Contracts.Valid.{ValidTask}
 use Rattle.sheet.specs.Theory.Accepted.{accepted-valid}

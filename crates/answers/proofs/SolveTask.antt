@@ -19,7 +19,7 @@ use Rattle.scanning.specs.declared.known.Known.{Known}
 use Rattle.sheet.specs.Sheet.{Sheet}
 use Rattle.sheet.specs.Reading.{accepted, read}
 use Rattle.scanning.specs.Contracts.Scan.{known-arities}
-use Rattle.scanning.specs.Contracts.Body.{Roomy}
+use Rattle.scanning.specs.Contracts.Known.{Roomy}
 use Rattle.reading.specs.Contracts.Seek.{Accepts, EquationIn, Decoded}
 use Rattle.sheet.specs.Contracts.Valid.{ValidEquation}
 use Rattle.sheet.specs.Theory.Accepted.{accepted-valid}
@@ -27,13 +27,13 @@ use Rattle.reading.specs.Theory.Found.{equation-few, equation-asked}
 use Rattle.solving.specs.Line.{records}
 use Rattle.solving.specs.Walk.{Walked, solve}
 use Rattle.solving.specs.Theory.Solve.{solved-line-count, solved-turn-count}
-use Rattle.walking.specs.declared.solve.Ending.the-variants.{Solved, Refused}
-use Rattle.walking.specs.declared.solve.Walked.{Walked as Told}
+use Rattle.walking.specs.declared.solve.WalkEnd.the-variants.{Solved, Refused}
+use Rattle.walking.specs.declared.solve.WalkResult.{WalkResult as Reported}
 use Rattle.outcomes.specs.Buffer.{field-limit, fields, refusal-number, filled, cleared, blanked}
 use Rattle.outcomes.specs.Asked.{found, find, asked, directed-in, solve-directed, equation-line}
 use Rattle.outcomes.specs.Outcome.{TableOutcome, table-unsolved, solve-walked, solve-answer}
 use Rattle.solver.specs.Contracts.Equation.{EquationIs, HasEquation, walk-bytes}
-use Rattle.walking.specs.Contracts.Solve.{Ends, Tells}
+use Rattle.walking.specs.Contracts.Solve.{ReportsEnd, Reports}
 use Rattle.answers.proofs.Fill.{filled-behind}
 use Rattle.answers.proofs.Arities.{arities-taken}
 
@@ -45,12 +45,12 @@ pub walk-cleared : (scratch worked last : List ℕ) → drop walk-bytes worked �
 unfolding cleared
 walk-cleared scratch worked last h e = e ∙ filled-behind scratch-bytes walk-bytes 0 worked scratch (omega arith) h
 
-module _ (equation : ℕ) (scratch : List ℕ) {w : Walked} {table after : List ℕ} {told : Told} (t : Tells w table after told) where
+module _ (equation : ℕ) (scratch : List ℕ) {w : Walked} {table after : List ℕ} {told : Reported} (t : Reports w table after told) where
   pub walk-solved : {n : ℕ} {last : List ℕ} → told .ending ≡ Solved → n ≡ fields (told .lines) (told .turns) 0 → last ≡ cleared scratch
       → solve-walked equation table scratch w ≡ outcome n after last
   unfolding solve-walked
   walk-solved {n} {last} x e c =
-      let (ls, y, l, a) = subst (λ e. Ends w table after e (told .lines) (told .turns)) x (t .ends) in
+      let (ls, y, l, a) = subst (λ e. ReportsEnd w table after e (told .lines) (told .turns)) x (t .ends) in
       ap (solve-walked equation table scratch) y
       ∙ ap (λ k. outcome (fields k (told .turns) 0) (written (records ls) table) (cleared scratch)) (sym l)
       ∙ ap (λ n. outcome n (written (records ls) table) (cleared scratch)) (sym e)
@@ -61,7 +61,7 @@ module _ (equation : ℕ) (scratch : List ℕ) {w : Walked} {table after : List 
       → solve-walked equation table scratch w ≡ outcome n blank last
   unfolding solve-walked table-unsolved equation-line blanked
   walk-refused {n} {why} {blank} {last} x e b c =
-      let (y, a) = subst (λ e. Ends w table after e (told .lines) (told .turns)) x (t .ends) in
+      let (y, a) = subst (λ e. ReportsEnd w table after e (told .lines) (told .turns)) x (t .ends) in
       ap (solve-walked equation table scratch) y
       ∙ ap (λ n. outcome n (filled table-bytes no-position table) (cleared scratch)) (sym e)
       ∙ ap (λ a. outcome n (filled table-bytes no-position a) (cleared scratch)) (sym a)
@@ -69,10 +69,10 @@ module _ (equation : ℕ) (scratch : List ℕ) {w : Walked} {table after : List 
       ∙ ap (outcome n blank) (sym c)
 
 -- The counts of a walk that solves fit their fields.
-pub counts-low : (d : Direction) {bytes arities table after : List ℕ} {e : Equation} {told : Told} → EquationIs bytes arities e → Tells (solve e d) table after told → told .ending ≡ Solved
+pub counts-low : (d : Direction) {bytes arities table after : List ℕ} {e : Equation} {told : Reported} → EquationIs bytes arities e → Reports (solve e d) table after told → told .ending ≡ Solved
     → (told .lines < field-limit) × (told .turns < field-limit)
 counts-low d {table = table} {after} {e} {told} is t x =
-    let (ls, y, l, a) = subst (λ f. Ends (solve e d) table after f (told .lines) (told .turns)) x (t .ends) in
+    let (ls, y, l, a) = subst (λ f. ReportsEnd (solve e d) table after f (told .lines) (told .turns)) x (t .ends) in
     (omega (arith, l, solved-line-count e (is .limits) d ls (told .turns) y), omega (arith, solved-turn-count e (is .limits) d ls (told .turns) y))
 
 pub some-direction : (n : ℕ) → n < 2 → (d : Direction) × (direction-of n ≡ some d)

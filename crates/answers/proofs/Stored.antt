@@ -10,7 +10,8 @@ use Rattle.format.specs.Buffer.{written}
 use Rattle.terms.specs.Term.{Term, nil, cons, size, sizes}
 use Rattle.terms.specs.Position.{subterms-of}
 use Rattle.terms.specs.Prefix.{prefix, prefixes, terms-of}
-use Rattle.terms.specs.Theory.Prefix.{AllFit, grounds-fit, length-prefix, terms-of-spelled}
+use Rattle.terms.specs.Contracts.Fits.{AllFit}
+use Rattle.terms.specs.Theory.Prefix.{grounds-fit, length-prefix, terms-of-spelled}
 use Rattle.comparing.specs.Contracts.Nodes.{TermAt, RowDenotes, more, AllSymbols}
 use Rattle.comparing.specs.Contracts.Cells.{SettledCells}
 use Rattle.terms.specs.Contracts.Sizes.{Whole, Measurable, node-sizes}
@@ -20,7 +21,7 @@ use Rattle.comparing.specs.Theory.Stored.{PartAt, ground-row-denotes}
 use Rattle.comparing.specs.Theory.Cells.{none-ready, symbols-append, symbols-drop, symbols-take, zero-bytes, ground-symbols}
 use Rattle.scanning.specs.declared.known.Known.{Known}
 use Rattle.scanning.specs.Contracts.Scan.{known-arities}
-use Rattle.scanning.specs.Contracts.Body.{Roomy}
+use Rattle.scanning.specs.Contracts.Known.{Roomy}
 use Rattle.outcomes.specs.Buffer.{filled, cleared}
 use Rattle.answers.proofs.Fill.{filled-behind, cleared-is}
 use Rattle.answers.specs.Contracts.Comparison.{PairIs, TwoAt}

@@ -24,7 +24,7 @@ ghost use Rattle.ordering.specs.Verdict.{verdict};
 ghost use Rattle.comparing.specs.Contracts.Nodes.{AllSymbols};
 ghost use Rattle.reading.specs.Contracts.Seek.{Accepts};
 ghost use Rattle.scanning.specs.Contracts.Scan.{known-arities};
-ghost use Rattle.scanning.specs.Contracts.Body.{Roomy};
+ghost use Rattle.scanning.specs.Contracts.Known.{Roomy};
 ghost use Rattle.outcomes.specs.Buffer.{cleared};
 ghost use Rattle.outcomes.specs.Asked.{asked, comparison-task};
 ghost use Rattle.outcomes.specs.Outcome.{compare-answer};

@@ -7,7 +7,7 @@ use format::refusal::Refusal;
 use reading::seek::equation_at;
 use scanning::known::Known;
 use solver::solve::solve_equation;
-use walking::solve::Ending;
+use walking::solve::WalkEnd;
 ghost use mathlib.Core.Path.{_≡_};
 ghost use mathlib.Core.Bool.{true};
 ghost use mathlib.Core.Option.{some};
@@ -38,8 +38,8 @@ fn solve_bytes(
     fill(scratch, Limits::SCRATCH, 0);
     let ending = walked.ending;
     match ending {
-        Ending::Solved => fields_number(walked.lines, walked.turns, 0),
-        Ending::Refused(why) => {
+        WalkEnd::Solved => fields_number(walked.lines, walked.turns, 0),
+        WalkEnd::Refused(why) => {
             fill(table, Limits::TABLE, Limits::NO_POSITION);
             refusal_number(why, equation + 2)
         }

@@ -17,3 +17,8 @@ unfoldable pub entry : {A : Type 0} → List A → ℕ → Option A
 entry [] i = none
 entry (x ∷ xs) zero = some x
 entry (x ∷ xs) (suc i) = entry xs i
+
+-- `P` holds of every entry of a list.
+abbrev pub Every : {A : Type 0} → (A → Type 0) → List A → Type 0
+Every P [] = Unit {0}
+Every P (x ∷ xs) = P x × Every P xs

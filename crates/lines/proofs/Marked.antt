@@ -6,11 +6,11 @@ use lib.ListN.{length, getD, set, length-set}
 use lib.Seq.{set-comm}
 use native.Mathlib.Omega.{arith}
 use Rattle.unifying.specs.Contracts.PrefixForm.{Row, none, more}
-use Rattle.lines.specs.Contracts.Stored.{equality-mark}
+use Rattle.lines.specs.Contracts.Resting.{equality-mark}
 use Rattle.lines.specs.Contracts.Layout.{placed}
 use Rattle.lines.specs.Contracts.Choices.{marked-equal, EqualFit, MarksEqual}
 use Rattle.unifying.specs.Theory.PrefixForm.{row-ordered, row-empty, row-next, row-first-some}
-use Rattle.lines.specs.Theory.Place.{set-placed}
+use Rattle.lines.specs.Theory.Placed.{set-placed}
 
 pub length-marked : (ss : List ℕ) (at : ℕ) (l : List ℕ) → length (marked-equal ss at l) ≡ length l
 unfolding marked-equal

@@ -6,7 +6,7 @@ use lib.ListN.{length, getD, set, take, drop}
 use lib.Seq.{slice, paste, length-slice, length-paste-head, getD-append-add, getD-drop, getD-take}
 use native.Mathlib.Omega.{arith}
 use Rattle.format.specs.Limits.{record-bytes}
-use Rattle.lines.specs.Theory.Place.{Storing, storing-start, storing-next}
+use Rattle.lines.specs.Theory.Placed.{Storing, storing-start, storing-next}
 
 -- What a run of stores has not reached yet.
 behind-paste : (d : List ℕ) (at : ℕ) (s : List ℕ) (n k : ℕ) → at ≤ length d → n ≤ length s → at + n ≤ k → getD (paste d at s n) k 0 ≡ getD d k 0

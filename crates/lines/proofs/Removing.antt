@@ -1,34 +1,34 @@
 -- An element is deleted from a line that rests in the memory.
-use Prim.Native.Nat.{ℕ, suc, _+_, _-_, _*_, _≤_, _<_}
+use Prim.Native.Nat.{ℕ, suc, _+_, _-_, _*_, _≤_}
 use mathlib.Core.Path.{_≡_, refl, sym, ap, ap₂, _∙_}
 use mathlib.Core.List.{List, [], _∷_, _++_, append-assoc}
 use lib.ListN.{length, getD, set, take, drop, length-append, length-drop, length-set}
-use lib.Seq.{slice, length-take-le, split-at}
+use lib.Seq.{length-take-le, split-at}
 use native.Mathlib.Numerals.{add-one}
 use native.Mathlib.Omega.{arith}
 use Rattle.format.specs.Limits.{variable-count, max-elements, no-position}
 use Rattle.solving.specs.Line.{Element, greater}
-use Rattle.lines.specs.declared.line.Line.{Line as Named}
+use Rattle.lines.specs.declared.line.Line.{Line as LineValue}
 use Rattle.lines.specs.Contracts.Layout.{count-place, first-element, reduced-place, line-bytes, placed}
-use Rattle.lines.specs.Contracts.Stored.{marks, padding, Stored, stored-bytes}
-use Rattle.lines.specs.Contracts.Place.{rest-after}
-use Rattle.lines.specs.Contracts.Named.{elements-from, ElementsFit, Holds, without, RemovalFits, Removes}
-use Rattle.lines.specs.Theory.Stored.{length-marks, marks-append, length-stored}
-use Rattle.lines.specs.Theory.Place.{placed-length, set-placed}
-use Rattle.lines.specs.Theory.Resting.{placed-same, placed-inside, counts-set}
+use Rattle.lines.specs.Contracts.Resting.{marks, padding, resting-bytes}
+use Rattle.lines.specs.Contracts.Room.{rest-after}
+use Rattle.lines.specs.Contracts.Line.{elements-from, ElementsFit, RemovalFits, Removes}
+use Rattle.lines.specs.Theory.Resting.{length-marks, marks-append, length-resting}
+use Rattle.lines.specs.Theory.Placed.{placed-length, set-placed}
+use Rattle.lines.specs.Theory.InPlace.{placed-same, placed-inside, counts-set}
 use Rattle.lines.proofs.Shifting.{part-cut, shifted-left}
-use Rattle.lines.proofs.Widening.{stored-cut, padding-after, length-padding}
+use Rattle.lines.proofs.Widening.{resting-cut, padding-after, length-padding}
 
 -- The line's own bytes.
 module _ (bs : List ℕ) (pre post : List Element) (e : Element) (r : ℕ) (slots : length bs ≡ variable-count) (few : length (pre ++ (e ∷ post)) ≤ max-elements) where
   abbrev whole-line : List ℕ
-  whole-line = stored-bytes (record { bindings = bs; elements = pre ++ (e ∷ post); reduced = r })
+  whole-line = resting-bytes (record { bindings = bs; elements = pre ++ (e ∷ post); reduced = r })
 
   removed-there : (shifted cleared after : List ℕ) (end : ℕ) → shifted ≡ placed (first-element + 2 * length pre) (marks post) whole-line → end ≡ first-element + 2 * (length pre + length post)
       → cleared ≡ set (set shifted end no-position) (end + 1) no-position
       → after ≡ set (set cleared count-place (length pre + length post)) reduced-place (length pre)
-      → after ≡ stored-bytes (record { bindings = bs; elements = pre ++ post; reduced = length pre })
-  unfolding stored-bytes rest-after
+      → after ≡ resting-bytes (record { bindings = bs; elements = pre ++ post; reduced = length pre })
+  unfolding resting-bytes rest-after
   removed-there shifted cleared after end s x y z =
       let c = length (pre ++ (e ∷ post)) in
       let total = length pre + length post in
@@ -40,7 +40,7 @@ module _ (bs : List ℕ) (pre post : List Element) (e : Element) (r : ℕ) (slot
       let rest = padding c ++ (r ∷ []) in
       let from = first-element + 2 * length pre + 2 in
       let stop = from + length (marks post) in
-      let cut = stored-cut bs pre post e r in
+      let cut = resting-cut bs pre post e r in
       let h : length front + 2 ≡ from = omega arith in
       let part = part-cut from stop whole-line front (marks (e ∷ [])) (marks post) rest h (length-marks (e ∷ [])) refl cut in
       let start : first-element + 2 * length pre ≡ from - 2 = omega arith in
@@ -63,10 +63,7 @@ module _ (bs : List ℕ) (pre post : List Element) (e : Element) (r : ℕ) (slot
       joined d = ap (_++ (padding (length pre + length post) ++ (length pre ∷ []))) d ∙ simp append-assoc
 
 -- What the code may put.
-module _ {l : Named} {place at : ℕ} {memory : List ℕ} (f : RemovalFits l place at memory) where
-  pub removal-count : l .count ≡ length (f .resting .elements)
-  removal-count = f .holds .count-is
-
+module _ {l : LineValue} {place at : ℕ} {memory : List ℕ} (f : RemovalFits l place at memory) where
   pub removal-elements : (to : ℕ) → to ≡ place + first-element + 2 * at → ElementsFit l (at + 1) to memory
   removal-elements to e = record {
     few = omega (arith, f .holds .count-is, f .few);
@@ -76,7 +73,7 @@ module _ {l : Named} {place at : ℕ} {memory : List ℕ} (f : RemovalFits l pla
   }
 
 -- What stands in the memory then.
-pub removed : {l : Named} {place at : ℕ} {memory : List ℕ} → RemovalFits l place at memory → (m₁ m₂ m₃ m₄ : List ℕ) (to end : ℕ) → to ≡ place + first-element + 2 * at
+pub removed : {l : LineValue} {place at : ℕ} {memory : List ℕ} → RemovalFits l place at memory → (m₁ m₂ m₃ m₄ : List ℕ) (to end : ℕ) → to ≡ place + first-element + 2 * at
     → end ≡ place + first-element + 2 * (l .count - 1) → m₁ ≡ placed to (marks (elements-from l (at + 1))) memory → m₂ ≡ set (set m₁ end no-position) (end + 1) no-position
     → m₃ ≡ set m₂ (place + count-place) (l .count - 1) → m₄ ≡ set m₃ (place + reduced-place) at → Removes l place at memory m₄
 removed {l = l} {place = place} {at = at} {memory = memory} f m₁ m₂ m₃ m₄ to end x y a b c d = record {
@@ -87,11 +84,11 @@ removed {l = l} {place = place} {at = at} {memory = memory} f m₁ m₂ m₃ m�
       let post = drop (at + 1) es in
       let whole = f .whole in
       let count = h .count-is in
-      let ln = length-stored s slots few in
+      let ln = length-resting s slots few in
       let cut : es ≡ pre ++ (e ∷ post) = split-at es at (greater 0 0) inside ∙ ap (λ n. pre ++ (e ∷ drop n es)) (sym (add-one at)) in
       let lpre : length pre ≡ at = length-take-le at es (omega arith) in
       let lpost : length post ≡ length es - (at + 1) = length-drop (at + 1) es in
-      let line = stored-bytes s in
+      let line = resting-bytes s in
       let i = first-element + 2 * at in
       let j = first-element + 2 * (l .count - 1) in
       let lmarks : length (marks post) ≡ 2 * (length es - (at + 1)) = omega (arith, length-marks post) in
@@ -121,14 +118,14 @@ removed {l = l} {place = place} {at = at} {memory = memory} f m₁ m₂ m₃ m�
       let line₄ = set line₃ reduced-place at in
       let four : m₄ ≡ placed place line₄ memory =
       d ∙ (ap (λ m. set m (place + reduced-place) at) three ∙ set-placed place line₃ memory reduced-place at (omega arith) (omega arith)) in
-      let line-is : line ≡ stored-bytes (record { bindings = s .bindings; elements = pre ++ (e ∷ post); reduced = s .reduced }) =
-      ap (λ x. stored-bytes (record { bindings = s .bindings; elements = x; reduced = s .reduced })) cut in
+      let line-is : line ≡ resting-bytes (record { bindings = s .bindings; elements = pre ++ (e ∷ post); reduced = s .reduced }) =
+      ap (λ x. resting-bytes (record { bindings = s .bindings; elements = x; reduced = s .reduced })) cut in
       let fewer : length (pre ++ (e ∷ post)) ≤ max-elements = omega (arith, ap length cut) in
       let total : l .count - 1 ≡ length pre + length post = omega arith in
       let start : i ≡ first-element + 2 * length pre = omega arith in
       let stop : j ≡ first-element + 2 * (length pre + length post) = omega arith in
-      let last : line₄ ≡ stored-bytes (record { bindings = s .bindings; elements = pre ++ post; reduced = length pre }) =
+      let last : line₄ ≡ resting-bytes (record { bindings = s .bindings; elements = pre ++ post; reduced = length pre }) =
       removed-there (s .bindings) pre post e (s .reduced) slots fewer line₁ line₂ line₄ j (ap₂ (λ n x. placed n (marks post) x) start line-is) stop refl
       (ap₂ (λ n r. set (set line₂ count-place n) reduced-place r) total (sym lpre)) in
-      four ∙ ap (λ part. placed place part memory) (last ∙ ap (λ n. stored-bytes (record { bindings = s .bindings; elements = pre ++ post; reduced = n })) lpre);
+      four ∙ ap (λ part. placed place part memory) (last ∙ ap (λ n. resting-bytes (record { bindings = s .bindings; elements = pre ++ post; reduced = n })) lpre);
 }

@@ -7,8 +7,8 @@ use lib.Seq.{slice, slice-empty, slice-cons, length-slice, length-take-le, take-
 use native.Mathlib.Omega.{arith}
 use Rattle.format.specs.Limits.{no-position}
 use Rattle.lines.specs.Contracts.Layout.{placed}
-use Rattle.lines.specs.Contracts.Place.{Gap, rest-after, Shifted}
-use Rattle.lines.specs.Theory.Place.{placed-none, set-pair, slice-suc, two-bytes, no-bytes}
+use Rattle.lines.specs.Contracts.Room.{Gap, rest-after, Shifted}
+use Rattle.lines.specs.Theory.Placed.{placed-none, set-pair, slice-suc, two-bytes, no-bytes}
 
 -- The first byte of a part is put first, or the last one last.
 pub placed-first : (t a : ℕ) (part l : List ℕ) → t < length l → placed (suc t) part (set l t a) ≡ placed t (a ∷ part) l

@@ -1,5 +1,4 @@
 -- How many places and bindings a line has: from what is known of a parameter, `c .good`.
-use Prim.Native.Nat.{ℕ}
 use mathlib.Core.Path.{_≡_}
 use mathlib.Core.List.{[], _∷_}
 use Rattle.format.specs.Limits.{variable-count, max-elements}

@@ -1,18 +1,18 @@
 -- The laws of room in a line for some elements in the place of one.
 use Prim.Native.Nat.{ℕ, zero, suc, _+_, _-_, _*_, _≤_}
-use mathlib.Core.Path.{_≡_, refl, sym, ap, _∙_}
+use mathlib.Core.Path.{_≡_, sym, ap, _∙_}
 use mathlib.Core.List.{List, [], _∷_, _++_, append-assoc}
 use lib.ListN.{length, getD, set, drop, replicate, length-append, length-replicate}
 use lib.Seq.{drop-append-le, getD-at}
 use native.Mathlib.Nat.{zero-add, suc-add}
 use native.Mathlib.Omega.{arith}
-use Rattle.format.specs.Limits.{variable-count, max-elements, no-position}
+use Rattle.format.specs.Limits.{max-elements, no-position}
 use Rattle.solving.specs.Line.{Element}
 use Rattle.lines.specs.Contracts.Layout.{count-place, first-element, reduced-place}
-use Rattle.lines.specs.Contracts.Stored.{marks, padding, stored-bytes}
-use Rattle.lines.specs.Contracts.Place.{front-bytes, back-bytes, rest-after, Shifted, WideningFits, Widened}
-use Rattle.lines.specs.Theory.Stored.{length-marks, marks-append}
-use Rattle.lines.specs.Theory.Resting.{counts-set}
+use Rattle.lines.specs.Contracts.Resting.{marks, padding, resting-bytes}
+use Rattle.lines.specs.Contracts.Room.{front-bytes, back-bytes, rest-after, Shifted, WideningFits, Widened}
+use Rattle.lines.specs.Theory.Resting.{length-marks, marks-append}
+use Rattle.lines.specs.Theory.InPlace.{counts-set}
 
 drop-replicate : (k j a : ℕ) → drop k (replicate (k + j) a) ≡ replicate j a
 drop-replicate zero j a = ap (λ n. replicate n a) (zero-add j)
@@ -35,11 +35,11 @@ unfolding padding
 length-padding count = length-replicate (2 * (max-elements - count)) no-position
 
 -- A line's bytes, cut around one of its elements.
-pub stored-cut : (bindings : List ℕ) (pre post : List Element) (e : Element) (r : ℕ)
-    → stored-bytes (record { bindings = bindings; elements = pre ++ e ∷ post; reduced = r })
+pub resting-cut : (bindings : List ℕ) (pre post : List Element) (e : Element) (r : ℕ)
+    → resting-bytes (record { bindings = bindings; elements = pre ++ e ∷ post; reduced = r })
     ≡ (bindings ++ (length (pre ++ e ∷ post) ∷ marks pre)) ++ (marks (e ∷ []) ++ (marks post ++ (padding (length (pre ++ e ∷ post)) ++ (r ∷ []))))
-unfolding stored-bytes
-stored-cut bindings pre post e r =
+unfolding resting-bytes
+resting-cut bindings pre post e r =
     let count = length (pre ++ e ∷ post) in
     let rest = padding count ++ (r ∷ []) in
     let one : marks (pre ++ e ∷ post) ++ rest ≡ marks pre ++ (marks (e ∷ []) ++ (marks post ++ rest)) =
@@ -55,7 +55,7 @@ widened i n count before shifted after w x s y = record {
   opens = λ bindings pre post e r bound place is.
       let c = length (pre ++ e ∷ post) in
       let long : c ≡ length pre + suc (length post) = length-append pre (e ∷ post) in
-      let cut = is ∙ stored-cut bindings pre post e r in
+      let cut = is ∙ resting-cut bindings pre post e r in
       let behind = marks (e ∷ []) ++ (marks post ++ (padding c ++ (r ∷ []))) in
       let front = bindings ++ (c ∷ marks pre) in
       let j : count ≡ c =

@@ -9,17 +9,16 @@ use native.Mathlib.Numerals.{add-one}
 use native.Mathlib.Omega.{arith}
 use Rattle.format.specs.Limits.{variable-count, max-elements, no-position, record-bytes}
 use Rattle.solving.specs.Line.{Element, equal, greater}
-use Rattle.lines.specs.declared.element.Relation.{Relation}
 use Rattle.lines.specs.declared.element.Relation.the-variants.{Equal, Greater}
 use Rattle.lines.specs.declared.element.Element.{Element as Held}
-use Rattle.lines.specs.declared.line.Line.{Line as Named}
+use Rattle.lines.specs.declared.line.Line.{Line as LineValue}
 use Rattle.lines.specs.Contracts.Layout.{count-place, first-element, reduced-place, line-bytes, placed}
-use Rattle.lines.specs.Contracts.Stored.{meaning, equality-mark, marks, padding, Markable, Stored, stored-bytes}
-use Rattle.lines.specs.Contracts.Named.{stored-of, elements-from, Writable, ElementsFit}
+use Rattle.lines.specs.Contracts.Resting.{meaning, equality-mark, marks, padding, Markable, resting-bytes}
+use Rattle.lines.specs.Contracts.Line.{resting-of, elements-from, Writable, ElementsFit}
 use Rattle.lines.specs.Theory.Element.{says-equal, says-greater}
-use Rattle.lines.specs.Theory.Stored.{length-marks, marks-append}
-use Rattle.lines.specs.Theory.Place.{placed-none, placed-behind, placed-length, set-pair}
-use Rattle.lines.specs.Theory.Resting.{placed-over, counts-set}
+use Rattle.lines.specs.Theory.Resting.{length-marks, marks-append}
+use Rattle.lines.specs.Theory.Placed.{placed-none, placed-behind, placed-length, set-pair}
+use Rattle.lines.specs.Theory.InPlace.{placed-over, counts-set}
 
 -- A store, and two of them, seen as bytes placed.
 pub set-placed-one : (l : List ℕ) (at a : ℕ) → at < length l → set l at a ≡ placed at (a ∷ []) l
@@ -114,7 +113,7 @@ slice-more f t l d h k =
     ap (λ n. slice f n l) (add-one t) ∙ (ap (drop f) (take-suc l t d k) ∙ drop-append-le f (take t l) (getD l t d ∷ []) (omega arith))
 
 -- The elements from `from` up to `i` stand from `to` up to `at`.
-pub record Putting (l : Named) (from to : ℕ) (before after : List ℕ) (i at : ℕ) : Type 0 where
+pub record Putting (l : LineValue) (from to : ℕ) (before after : List ℕ) (i at : ℕ) : Type 0 where
   pub started : from ≤ i
   pub within : i ≤ l .count
   pub fits : ElementsFit l from to before
@@ -122,10 +121,10 @@ pub record Putting (l : Named) (from to : ℕ) (before after : List ℕ) (i at :
   pub at-is : at ≡ to + 2 * (i - from)
   pub stand : after ≡ placed to (marks (map meaning (slice from i (l .elements)))) before
 
-length-first : (l : Named) (from i : ℕ) → i ≤ length (l .elements) → length (marks (map meaning (slice from i (l .elements)))) ≡ 2 * (i - from)
+length-first : (l : LineValue) (from i : ℕ) → i ≤ length (l .elements) → length (marks (map meaning (slice from i (l .elements)))) ≡ 2 * (i - from)
 length-first l from i h = omega (arith, length-marks (map meaning (slice from i (l .elements))), length-map (slice from i (l .elements)) meaning, length-slice from i (l .elements) h)
 
-pub putting-start : (l : Named) (from to : ℕ) (before : List ℕ) → ElementsFit l from to before → length (l .elements) ≡ max-elements → Putting l from to before before from to
+pub putting-start : (l : LineValue) (from to : ℕ) (before : List ℕ) → ElementsFit l from to before → length (l .elements) ≡ max-elements → Putting l from to before before from to
 unfolding marks
 putting-start l from to before f p = record {
   started = omega arith;
@@ -136,7 +135,7 @@ putting-start l from to before f p = record {
   stand = sym (placed-none to before) ∙ ap (λ es. placed to (marks (map meaning es)) before) (sym (slice-empty from (l .elements)));
 }
 
-module _ {l : Named} {from to : ℕ} {before after : List ℕ} {i at : ℕ} (p : Putting l from to before after i at) where
+module _ {l : LineValue} {from to : ℕ} {before after : List ℕ} {i at : ℕ} (p : Putting l from to before after i at) where
   pub putting-length : length after ≡ length before
   putting-length =
       let a = p .within in
@@ -210,20 +209,20 @@ line-cut l h =
     (getD l variable-count 0, mid, getD l reduced-place 0, e ∙ ap (getD l variable-count 0 ∷_) (sym (take-append-drop (2 * max-elements) behind) ∙ ap (mid ++_) (d ∙ (last ∙ ap (getD l reduced-place 0 ∷_) none))), m)
 
 -- All its elements can be put.
-pub written-elements : (l : Named) → Writable l → (bytes : List ℕ) → length bytes ≡ line-bytes → ElementsFit l 0 first-element bytes
-unfolding stored-of elements-from
+pub written-elements : (l : LineValue) → Writable l → (bytes : List ℕ) → length bytes ≡ line-bytes → ElementsFit l 0 first-element bytes
+unfolding resting-of elements-from
 written-elements l w bytes h = record { few = w .few; within = omega arith; markable = w .markable; room = omega (arith, w .few) }
 
 -- The whole line, from what its parts' writing gives.
-module _ (l : Named) (slots : length (l .bindings) ≡ variable-count) (places : length (l .elements) ≡ max-elements) (few : l .count ≤ max-elements) (fresh : l .reduced ≡ 0) where
+module _ (l : LineValue) (slots : length (l .bindings) ≡ variable-count) (places : length (l .elements) ≡ max-elements) (few : l .count ≤ max-elements) (fresh : l .reduced ≡ 0) where
   pub line-written : (before bound counted marked after : List ℕ) (from : ℕ) → length before ≡ line-bytes → bound ≡ set (placed 0 (l .bindings) before) (0 + reduced-place) 0
       → counted ≡ set bound count-place (l .count) → marked ≡ placed first-element (marks (elements-from l 0)) counted → from ≡ first-element + 2 * l .count
-      → after ≡ placed from (replicate (record-bytes - from) no-position) marked → after ≡ stored-bytes (stored-of l)
-  unfolding stored-of elements-from stored-bytes padding placed
+      → after ≡ placed from (replicate (record-bytes - from) no-position) marked → after ≡ resting-bytes (resting-of l)
+  unfolding resting-of elements-from resting-bytes padding placed
   line-written before bound counted marked after from w b c m f a =
       let bs = l .bindings in
       let n = l .count in
-      let es = stored-of l .elements in
+      let es = resting-of l .elements in
       let k : length es ≡ n = length-map (take n (l .elements)) meaning ∙ length-take-le n (l .elements) (omega arith) in
       let (c₀, mid, r₀, cut, long) = line-cut before w in
       let opened : placed 0 bs before ≡ bs ++ (c₀ ∷ (mid ++ (r₀ ∷ []))) = ap (bs ++_) (ap (λ i. drop i before) (zero-add (length bs) ∙ slots) ∙ cut) in

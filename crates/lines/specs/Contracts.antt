@@ -1,7 +1,7 @@
 -- What the contracts of the code cite.
-pub mod Named
-pub mod Place
 pub mod Rebind
-pub mod Stored
 pub mod Choices
 pub mod Layout
+pub mod Line
+pub mod Resting
+pub mod Room

@@ -1,7 +1,7 @@
 -- Laws.
 pub mod Element
-pub mod Named
-pub mod Place
 pub mod Record
-pub mod Stored
+pub mod InPlace
+pub mod Line
+pub mod Placed
 pub mod Resting

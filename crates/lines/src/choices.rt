@@ -6,12 +6,20 @@ use crate::layout::LINE;
 use format::byte::wide;
 ghost use Rattle.lines.specs.Contracts.Choices.{ExceedingFit, FillsExceeding, ArgumentsFit, PushesArguments, EqualFit, MarksEqual, LexicographicFit, PushesLexicographic};
 
-// Puts p > t, for each term t from `k` to `end`, one behind the other from `at` on.
-pub fn fill_exceeding(sizes: &[u8], line: &mut [u8], at: usize, p: u8, k: usize, end: usize)
-    requires { ⌜ ExceedingFit (now sizes) at k end (now line) ⌝ }
-    ensures { λ _. ⌜ FillsExceeding (now (sizes .entry)) at p k end (now (line .entry)) (now (line .exit)) ⌝ }
+// The arguments of a term: `count` terms, which stand one behind the other from `from` to `end`.
+pub struct CountedArguments {
+    pub from: usize,
+    pub end: usize,
+    pub count: usize,
+}
+
+// Puts p > t, for each argument t, one behind the other from `at` on.
+pub fn fill_exceeding(sizes: &[u8], line: &mut [u8], at: usize, p: u8, arguments: CountedArguments)
+    requires { ⌜ ExceedingFit (now sizes) at (arguments .from) (arguments .end) (now line) ⌝ }
+    ensures { λ _. ⌜ FillsExceeding (now (sizes .entry)) at p (arguments .from) (arguments .end) (now (line .entry)) (now (line .exit)) ⌝ }
 {
-    let mut t = k;
+    let end = arguments.end;
+    let mut t = arguments.from;
     let mut place = at;
     while t < end {
         put(line, place, p, t as u8);
@@ -20,21 +28,21 @@ pub fn fill_exceeding(sizes: &[u8], line: &mut [u8], at: usize, p: u8, k: usize,
     }
 }
 
-// Puts the lines of the choices of each argument s, from `k` to `end`: s > q and s = q in the place at `at`. Returns where the next line goes.
+// Puts the lines of the choices of each argument s: s > q and s = q in the place at `at`. Returns where the next line goes.
 pub fn push_arguments(
     sizes: &[u8],
     line: &[u8],
     at: usize,
     q: u8,
-    k: usize,
-    end: usize,
+    arguments: CountedArguments,
     records: &mut [u8],
     to: usize,
 ) -> usize
-    requires { ⌜ ArgumentsFit (now sizes) at q k end to (now line) (now records) ⌝ }
-    ensures { λ r. ⌜ PushesArguments (now (sizes .entry)) at q k end to (now (line .entry)) (now (records .entry)) (now (records .exit)) r ⌝ }
+    requires { ⌜ ArgumentsFit (now sizes) at q (arguments .from) (arguments .end) to (now line) (now records) ⌝ }
+    ensures { λ r. ⌜ PushesArguments (now (sizes .entry)) at q (arguments .from) (arguments .end) to (now (line .entry)) (now (records .entry)) (now (records .exit)) r ⌝ }
 {
-    let mut s = k;
+    let end = arguments.end;
+    let mut s = arguments.from;
     let mut next = to;
     while s < end {
         store_with(line, at, s as u8, q, records, next);
@@ -59,24 +67,25 @@ fn mark_equal(sizes: &[u8], bytes: &mut [u8], at: usize, k: usize, end: usize)
     }
 }
 
-// Puts the lines of the choices of each pair of arguments s and t, from `k` to `m` and from `l` to `n`: s > t in the place of t's element,
+// Puts the lines of the choices of each pair of arguments s and t of the two terms: s > t in the place of t's element,
 // behind the equalities of the pairs before it. The line is copied as it is: a byte that was just changed would delay the copy.
 pub fn push_lexicographic(
     sizes: &[u8],
     line: &[u8],
     at: usize,
-    k: usize,
-    m: usize,
-    l: usize,
-    n: usize,
+    left: CountedArguments,
+    right: CountedArguments,
     records: &mut [u8],
     to: usize,
 ) -> usize
-    requires { ⌜ LexicographicFit (now sizes) at k m l n to (now line) (now records) ⌝ }
-    ensures { λ r. ⌜ PushesLexicographic (now (sizes .entry)) at k m l n to (now (line .entry)) (now (records .entry)) (now (records .exit)) r ⌝ }
+    requires { ⌜ LexicographicFit (now sizes) at (left .from) (left .end) (right .from) (right .end) to (now line) (now records) ⌝ }
+    ensures { λ r. ⌜ PushesLexicographic (now (sizes .entry)) at (left .from) (left .end) (right .from) (right .end) to (now (line .entry)) (now (records .entry)) (now (records .exit)) r ⌝ }
 {
+    let k = left.from;
+    let m = left.end;
+    let n = right.end;
     let mut s = k;
-    let mut t = l;
+    let mut t = right.from;
     let mut place = at;
     let mut next = to;
     while s < m {

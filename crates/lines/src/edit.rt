@@ -10,7 +10,7 @@ ghost use Prim.Native.Nat.{_+_, _-_, _*_, _≤_, _<_};
 ghost use lib.ListN.{length, set};
 ghost use lib.Seq.{slice};
 ghost use Rattle.lines.specs.Contracts.Layout.{line-bytes, placed};
-ghost use Rattle.lines.specs.Contracts.Place.{Shifted, WideningFits, Widened};
+ghost use Rattle.lines.specs.Contracts.Room.{Shifted, WideningFits, Widened};
 
 // Copies the line that stands at `at`.
 pub fn load(records: &[u8], at: usize, line: &mut [u8])

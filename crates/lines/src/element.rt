@@ -5,7 +5,7 @@ ghost use mathlib.Core.List.{[], _∷_};
 ghost use Prim.Native.Nat.{_+_, _≤_, _<_};
 ghost use lib.ListN.{length, getD};
 ghost use Rattle.lines.specs.Contracts.Layout.{placed};
-ghost use Rattle.lines.specs.Contracts.Stored.{meaning, marked, marks, Markable};
+ghost use Rattle.lines.specs.Contracts.Resting.{meaning, marked, marks, Markable};
 
 // An inequality or an equality, each between two positions.
 pub enum Relation {

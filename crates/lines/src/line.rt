@@ -14,8 +14,8 @@ ghost use Prim.Native.Nat.{_+_, _-_, _≤_};
 ghost use lib.ListN.{length, replicate};
 ghost use Rattle.format.specs.Limits.{record-bytes, no-position};
 ghost use Rattle.lines.specs.Contracts.Layout.{line-bytes, placed};
-ghost use Rattle.lines.specs.Contracts.Stored.{marks, stored-bytes};
-ghost use Rattle.lines.specs.Contracts.Named.{stored-of, opening-line, elements-from, Writable, HasHead, ElementsFit, RemovalFits, Removes};
+ghost use Rattle.lines.specs.Contracts.Resting.{marks, resting-bytes};
+ghost use Rattle.lines.specs.Contracts.Line.{resting-of, opening-line, elements-from, Writable, HasHead, ElementsFit, RemovalFits, Removes};
 
 // The first `count` elements count. The first `reduced` of them are known to be fully reduced: they are not looked at again, and need not be filled in.
 pub struct Line {
@@ -28,7 +28,7 @@ pub struct Line {
 impl Line {
     // The walk's first line: source > target, and no binding.
     pub fn opening(source: u8, target: u8) -> Line
-        ensures { λ r. ⌜ stored-of r ≡ opening-line source target ⌝ }
+        ensures { λ r. ⌜ resting-of r ≡ opening-line source target ⌝ }
         ensures { λ r. ⌜ Writable r ⌝ }
     {
         let relation = Relation::Greater(source, target);
@@ -63,7 +63,7 @@ impl Line {
     // Writes the line's bytes.
     pub fn write(self, line: &mut [u8])
         requires { ⌜ Writable self × (length (now line) ≡ line-bytes) ⌝ }
-        ensures { λ _. ⌜ now (line .exit) ≡ stored-bytes (stored-of self) ⌝ }
+        ensures { λ _. ⌜ now (line .exit) ≡ resting-bytes (resting-of self) ⌝ }
     {
         let bindings = self.bindings;
         let count = self.count;

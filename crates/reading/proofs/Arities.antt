@@ -13,14 +13,15 @@ use Rattle.format.specs.Limits.{max-symbols, max-arity}
 use Rattle.format.specs.Lists.{any, all}
 use Rattle.format.specs.Refusal.{Result, refuse, give}
 use Rattle.format.specs.declared.refusal.Refusal.the-variants.{SymbolFrame}
-use Rattle.format.specs.Theory.Lists.{Every, every-append}
+use Rattle.format.specs.Lists.{Every}
+use Rattle.format.specs.Theory.Lists.{every-append}
 use Rattle.scanning.specs.declared.known.Known.{Known}
 use Rattle.scanning.specs.declared.scan.ReadStatus.{ReadStatus}
 use Rattle.scanning.specs.declared.scan.ReadStatus.the-variants.{Done, Refused}
 use Rattle.sheet.specs.Frame.{State, symbols-right, symbols-body}
-use Rattle.scanning.specs.Contracts.Cursor.{pair-at, bytes-between, BodyReady}
+use Rattle.scanning.specs.Contracts.Digits.{pair-at, bytes-between, BodyReady}
 use Rattle.scanning.specs.Contracts.Scan.{listed, known-arities}
-use Rattle.scanning.specs.Contracts.Body.{Roomy}
+use Rattle.scanning.specs.Contracts.Known.{Roomy}
 use Rattle.reading.specs.Contracts.Symbols.{AritiesReady, symbols-only, SymbolsRead, ArityBytes}
 use Rattle.scanning.specs.Theory.Listed.{length-listed, getD-listed, listed-more, listed-set}
 use Rattle.scanning.specs.Theory.Between.{between-end, between-cons, two-more, first-byte}
@@ -106,7 +107,7 @@ module _ (text : List ℕ) (from n : ℕ) where
   body = bytes-between text from (from + 2 * n)
 
   -- The first `i` arities are known, and low.
-  pub record Filled (k : Known) (i : ℕ) : Type 0 where
+  pub record AritiesFilled (k : Known) (i : ℕ) : Type 0 where
     pub inside : i ≤ n
     pub symbols-are : k .symbols ≡ n
     pub no-equations : k .equations ≡ 0
@@ -115,7 +116,7 @@ module _ (text : List ℕ) (from n : ℕ) where
     pub same : listed i (k .arities) ≡ take i body
     pub low : Every (λ a. leb a max-arity ≡ true) (take i body)
 
-  pub filled-start : (k : Known) → k .symbols ≡ n → k .equations ≡ 0 → k .tasks ≡ 0 → Roomy k → Filled k 0
+  pub filled-start : (k : Known) → k .symbols ≡ n → k .equations ≡ 0 → k .tasks ≡ 0 → Roomy k → AritiesFilled k 0
   unfolding listed
   filled-start k a b c d = record { inside = omega arith; symbols-are = a; no-equations = b; no-tasks = c; roomy = d; same = refl; low = tt }
 
@@ -124,12 +125,15 @@ module _ (text : List ℕ) (from n : ℕ) (r : AritiesReady text from n) where
   unfolding body
   length-body = length-between text n from (r .inside)
 
-  pub filled-next : (k : Known) (i a : ℕ) → Filled text from n k i → i < n → a ≡ pair-at text (from + 2 * i) → a ≤ max-arity
-      → Filled text from n (record { symbols = k .symbols; arities = set (k .arities) i a; equations = k .equations; widths = k .widths; tasks = k .tasks }) (i + 1)
+  pub filled-next : (k : Known) (i a : ℕ) → AritiesFilled text from n k i → i < n → a ≡ pair-at text (from + 2 * i) → a ≤ max-arity
+      → AritiesFilled text from n (record { symbols = k .symbols; arities = set (k .arities) i a; equations = k .equations; widths = k .widths; tasks = k .tasks }) (i + 1)
   unfolding body
   filled-next k i a g h e s =
       let at-i : getD (body text from n) i 0 ≡ a = getD-between text n from i (r .inside) h ∙ sym e in
-      let more : take (i + 1) (body text from n) ≡ take i (body text from n) ++ (a ∷ []) = ap (λ m. take m (body text from n)) (add-one i) ∙ take-suc (body text from n) i 0 (omega (arith, length-body)) ∙ ap (λ x. take i (body text from n) ++ (x ∷ [])) at-i in
+      let more : take (i + 1) (body text from n) ≡ take i (body text from n) ++ (a ∷ []) =
+      ap (λ m. take m (body text from n)) (add-one i)
+      ∙ take-suc (body text from n) i 0 (omega (arith, length-body))
+      ∙ ap (λ x. take i (body text from n) ++ (x ∷ [])) at-i in
       record {
         inside = omega arith;
         symbols-are = g .symbols-are;
@@ -164,21 +168,23 @@ module _ (text : List ℕ) (from n : ℕ) (r : AritiesReady text from n) where
       right-tests ∙ ap (_&& any (λ a. eqb a 0) (body text from n)) (all-at (λ a. leb a max-arity) (body text from n) i (omega (arith, length-body)) (ap (λ x. leb x max-arity) at-i ∙ lt-leb a max-arity s))
 
   -- All of them, with or without a constant.
-  pub all-filled : (k : Known) (i : ℕ) → Filled text from n k i → n ≤ i → known-arities k ≡ bytes-between text from (from + 2 * n)
+  pub all-filled : (k : Known) (i : ℕ) → AritiesFilled text from n k i → n ≤ i → known-arities k ≡ bytes-between text from (from + 2 * n)
   unfolding body
   all-filled k i g h = let e : i ≡ n = omega (arith, g .inside) in cc (g .same, g .symbols-are, e, take-all n (body text from n) (omega (arith, length-body)))
 
-  filled-right : (k : Known) (i : ℕ) → Filled text from n k i → n ≤ i → symbols-right n (body text from n) ≡ any (λ a. eqb a 0) (body text from n)
+  filled-right : (k : Known) (i : ℕ) → AritiesFilled text from n k i → n ≤ i → symbols-right n (body text from n) ≡ any (λ a. eqb a 0) (body text from n)
   filled-right k i g h =
       let e : i ≡ n = omega (arith, g .inside) in
       let w : take i (body text from n) ≡ (body text from n) = take-all i (body text from n) (omega (arith, length-body)) in
       right-tests ∙ ap (_&& any (λ a. eqb a 0) (body text from n)) (all-every (λ a. leb a max-arity) (body text from n) (subst (Every (λ a. leb a max-arity ≡ true)) w (g .low)))
 
-  pub with-constant : (k : Known) (i : ℕ) → Filled text from n k i → n ≤ i → any (λ a. eqb a 0) (known-arities k) ≡ true → ArityBytes (bytes-between text from (from + 2 * n)) n k Done
+  pub with-constant : (k : Known) (i : ℕ) → AritiesFilled text from n k i → n ≤ i → any (λ a. eqb a 0) (known-arities k) ≡ true
+      → ArityBytes (bytes-between text from (from + 2 * n)) n k Done
   unfolding body
   with-constant k i g h e = (filled-right k i g h ∙ ap (any (λ a. eqb a 0)) (sym (all-filled k i g h)) ∙ e, all-filled k i g h, g .no-equations, g .no-tasks, g .roomy)
 
-  pub without-constant : (k : Known) (i : ℕ) → Filled text from n k i → n ≤ i → any (λ a. eqb a 0) (known-arities k) ≡ false → symbols-right n (bytes-between text from (from + 2 * n)) ≡ false
+  pub without-constant : (k : Known) (i : ℕ) → AritiesFilled text from n k i → n ≤ i → any (λ a. eqb a 0) (known-arities k) ≡ false
+      → symbols-right n (bytes-between text from (from + 2 * n)) ≡ false
   unfolding body
   without-constant k i g h e = filled-right k i g h ∙ ap (any (λ a. eqb a 0)) (sym (all-filled k i g h)) ∙ e
 
@@ -195,7 +201,8 @@ count-right : (n : ℕ) (arities : List ℕ) → symbols-right n arities ≡ tru
 unfolding symbols-body
 count-right n arities e = go (symbols-right n arities) e
   where
-    go : (t : Bool) → t ≡ true → _≡_ {A = Result State} (elim t [ true ↦ give (symbols-only arities) | false ↦ refuse SymbolFrame ]) (give (symbols-only arities))
+    go : (t : Bool) → t ≡ true
+        → _≡_ {A = Result State} (elim t [ true ↦ give (symbols-only arities) | false ↦ refuse SymbolFrame ]) (give (symbols-only arities))
     go true e = refl
     go false e = let z : _≡_ {A = ℕ} 0 1 = cc in absurd (omega arith)
 
@@ -259,7 +266,8 @@ module _ (text : List ℕ) (from end : ℕ) (r : BodyReady text from end) (some-
   pub arities-behind : (n : ℕ) → n ≡ pair-at text from → (n ≡ 0 → ⊥) → n ≤ max-symbols → end - (from + 2) ≡ 2 * n → AritiesReady text (from + 2) n
   arities-behind n e z l c = record { some-symbol = omega arith; few-symbols = l; inside = omega (arith, two-more text from end r some-byte, r .inside) }
 
-  pub body-read : (n : ℕ) → n ≡ pair-at text from → end - (from + 2) ≡ 2 * n → (k : Known) (o : ReadStatus) → ArityBytes (bytes-between text (from + 2) (from + 2 + 2 * n)) n k o → SymbolsRead (bytes-between text from end) k o
+  pub body-read : (n : ℕ) → n ≡ pair-at text from → end - (from + 2) ≡ 2 * n → (k : Known) (o : ReadStatus)
+      → ArityBytes (bytes-between text (from + 2) (from + 2 + 2 * n)) n k o → SymbolsRead (bytes-between text from end) k o
   body-read n e c k o h = go o (subst (λ m. ArityBytes (bytes-between text (from + 2) m) n k o) (omega (arith, two-more text from end r some-byte)) h)
     where
       whole : bytes-between text from end ≡ n ∷ bytes-between text (from + 2) end

@@ -7,7 +7,7 @@ use lib.Seq.{drop-cons, set-at}
 use native.Mathlib.Numerals.{add-one}
 use native.Mathlib.Omega.{arith}
 use Rattle.format.specs.Buffer.{written}
-use Rattle.scanning.specs.Contracts.Cursor.{BodyReady, pair-at, bytes-between}
+use Rattle.scanning.specs.Contracts.Digits.{BodyReady, pair-at, bytes-between}
 use Rattle.reading.specs.Contracts.Seek.{Spans, Decoded}
 use Rattle.sheet.specs.Contracts.Bytes.{max-byte}
 use Rattle.scanning.specs.Theory.Between.{between-end, two-more, first-byte, byte-small, body-behind}
@@ -43,7 +43,8 @@ pub record Decoding (text : List ℕ) (from end : ℕ) (before after : List ℕ)
   pub stands : after ≡ done ++ drop n before
   pub room : length (bytes-between text from end) ≤ length before
 
-pub decoding-start : (text : List ℕ) (from end : ℕ) (before : List ℕ) → (bs : List ℕ) × Spans text from end bs × (length bs ≤ length before) → Decoding text from end before before from 0
+pub decoding-start : (text : List ℕ) (from end : ℕ) (before : List ℕ) → (bs : List ℕ) × Spans text from end bs × (length bs ≤ length before)
+    → Decoding text from end before before from 0
 decoding-start text from end before h = record {
   done = [];
   ready = h .1 .ready;
@@ -87,7 +88,10 @@ module _ (text : List ℕ) (from end : ℕ) (before after : List ℕ) (at n : �
     decoding-next {b} e = record {
       done = g .done ++ (b ∷ []);
       ready = body-behind text at end (g .ready) more;
-      split = g .split ∙ ap (g .done ++_) (next ∙ ap (_∷ bytes-between text (at + 2) end) (sym e)) ∙ sym (append-assoc (g .done) (b ∷ []) (bytes-between text (at + 2) end));
+      split =
+          g .split
+          ∙ ap (g .done ++_) (next ∙ ap (_∷ bytes-between text (at + 2) end) (sym e))
+          ∙ sym (append-assoc (g .done) (b ∷ []) (bytes-between text (at + 2) end));
       counted = omega (arith, length-append (g .done) (b ∷ []), g .counted);
       stands =
           ap (λ l. set l n b) (g .stands ∙ ap (g .done ++_) (drop-cons before n 0 below))

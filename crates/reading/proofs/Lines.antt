@@ -21,8 +21,8 @@ use Rattle.sheet.specs.Text.{TextLine, ended, lines-of, frame-of}
 use Rattle.sheet.specs.Sheet.{Sheet}
 use Rattle.sheet.specs.Frame.{State, start, within, read-frame}
 use Rattle.sheet.specs.Reading.{Reading, refused-at, accepted, read-line, finish, read-lines, read}
-use Rattle.scanning.specs.Contracts.Cursor.{BodyReady, bytes-between, LineTo, NoFrame}
-use Rattle.scanning.specs.Contracts.Body.{none-known}
+use Rattle.scanning.specs.Contracts.Digits.{BodyReady, bytes-between, LineTo, NoFrame}
+use Rattle.scanning.specs.Contracts.Known.{none-known}
 use Rattle.reading.specs.Contracts.Reader.{Knows, FrameRead, SheetRead}
 use Rattle.sheet.specs.Theory.Text.{frame-bytes-small}
 
@@ -63,7 +63,8 @@ passing-start text k n h g = record { state = start; knows = g; inside = omega a
 after-line : (line : ℕ) (more : List TextLine) → Result State → Reading Sheet
 after-line line more r = elim r [ refuse x ↦ refused-at x (suc line) | give next ↦ read-lines next (suc line) more ]
 
-lines-step : (state : State) (line : ℕ) (text-line : TextLine) (more : List TextLine) (r : Result State) → read-line state text-line ≡ r → read-lines state line (text-line ∷ more) ≡ after-line line more r
+lines-step : (state : State) (line : ℕ) (text-line : TextLine) (more : List TextLine) (r : Result State) → read-line state text-line ≡ r
+    → read-lines state line (text-line ∷ more) ≡ after-line line more r
 unfolding read-lines after-line
 lines-step state line text-line more r e = ap (after-line line more) e
 
@@ -98,13 +99,16 @@ module _ (text : List ℕ) (k : Known) (at line : ℕ) (p : Passing text k at li
     unfolding text-line
     text-line-is = line-framed (p .state) text-line (bytes-between text at end) (l .is-frame)
 
-    pub line-refused : (k′ : Known) (o : ReadStatus) {x : Refusal} → ((state : State) → Knows k state → FrameRead (read-frame state (bytes-between text at end)) k′ o) → o ≡ Refused x → read text ≡ refused-at x (line + 1)
+    pub line-refused : (k′ : Known) (o : ReadStatus) {x : Refusal}
+        → ((state : State) → Knows k state → FrameRead (read-frame state (bytes-between text at end)) k′ o) → o ≡ Refused x
+        → read text ≡ refused-at x (line + 1)
     unfolding text-line after-line
     line-refused k′ o {x} h d =
         let r : read-frame (p .state) (bytes-between text at end) ≡ refuse x = subst (FrameRead (read-frame (p .state) (bytes-between text at end)) k′) d (h (p .state) (p .knows)) in
         p .same ∙ ap (read-lines (p .state) line) (l .is-first) ∙ lines-step (p .state) line text-line (lines-of (drop (end + 1) text)) (refuse x) (text-line-is ∙ r) ∙ ap (refused-at x) (sym (add-one line))
 
-    pub line-next : (k′ : Known) (o : ReadStatus) → ((state : State) → Knows k state → FrameRead (read-frame state (bytes-between text at end)) k′ o) → o ≡ Done → Passing text k′ (end + 1) (line + 1)
+    pub line-next : (k′ : Known) (o : ReadStatus) → ((state : State) → Knows k state → FrameRead (read-frame state (bytes-between text at end)) k′ o) → o ≡ Done
+        → Passing text k′ (end + 1) (line + 1)
     unfolding text-line after-line
     line-next k′ o h d =
         let (next, r, g) = subst (FrameRead (read-frame (p .state) (bytes-between text at end)) k′) d (h (p .state) (p .knows)) in
@@ -133,7 +137,8 @@ module _ (text : List ℕ) (k : Known) (at line : ℕ) (p : Passing text k at li
       go start g = refl
       go (within s) g = pick (leb 1 (length (s .equations))) (lt-leb 1 (length (s .equations)) (omega (arith, g .equations-are)))
         where
-          pick : (t : Bool) → t ≡ false → _≡_ {A = Reading Sheet} (elim t [ true ↦ accepted s | false ↦ refused-at FrameOrder line ]) (refused-at FrameOrder line)
+          pick : (t : Bool) → t ≡ false
+              → _≡_ {A = Reading Sheet} (elim t [ true ↦ accepted s | false ↦ refused-at FrameOrder line ]) (refused-at FrameOrder line)
           pick true d = let z : _≡_ {A = ℕ} 0 1 = cc in absurd (omega arith)
           pick false d = refl
 
@@ -150,5 +155,6 @@ module _ (text : List ℕ) (k : Known) (at line : ℕ) (p : Passing text k at li
           pick false d = let z : _≡_ {A = ℕ} 0 1 = cc in absurd (omega arith)
 
 -- A refused reading.
-pub by-refused-at : (text : List ℕ) (k : Known) {r : Rattle.reading.specs.declared.read.SheetStatus.SheetStatus} {x : Refusal} (line : ℕ) → r ≡ Refused-at x line → read text ≡ refused-at x line → line ≤ max-text → SheetRead text k r
+pub by-refused-at : (text : List ℕ) (k : Known) {r : Rattle.reading.specs.declared.read.SheetStatus.SheetStatus} {x : Refusal} (line : ℕ)
+    → r ≡ Refused-at x line → read text ≡ refused-at x line → line ≤ max-text → SheetRead text k r
 by-refused-at text k line e h l = subst (SheetRead text k) (sym e) (h, l)

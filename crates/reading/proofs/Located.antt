@@ -17,7 +17,7 @@ use Rattle.reading.specs.declared.seek.TaskHead.the-variants.{Run, Judge
 use Rattle.sheet.specs.Sheet.{Task, run, judgement, comparison}
 use Rattle.sheet.specs.Frames.{equation-frame, task-frame}
 use Rattle.sheet.specs.Reading.{accepted}
-use Rattle.scanning.specs.Contracts.Cursor.{pair-at}
+use Rattle.scanning.specs.Contracts.Digits.{pair-at}
 use Rattle.reading.specs.Contracts.Seek.{Accepts, FrameIn, EquationIn, TaskIn, Spans, TaskAt, task-terms}
 use Rattle.reading.proofs.Seeking.{equation-line-is, task-line-is}
 use Rattle.reading.proofs.Decode.{spans-inside, spans-byte, spans-first, spans-behind}
@@ -98,7 +98,8 @@ module _ (text : List ℕ) (from end : ℕ) where
     run-inside d (judgement n o ts) h = let x = sym d ∙ kind-is (judgement n o ts) h e in let z : _≡_ {A = ℕ} 0 1 = cc in absurd (omega arith)
     run-inside d (comparison u v) h = let x = sym d ∙ kind-is (comparison u v) h e in let z : _≡_ {A = ℕ} 0 1 = cc in absurd (omega arith)
 
-    pub run-found : kind ≡ run-kind → {b : ℕ} → b ≡ pair-at text (from + 2) → (t : Task) → Spans text from end (task-frame t) → TaskAt text t (record { head = Run b; from = from + 4; end = end })
+    pub run-found : kind ≡ run-kind → {b : ℕ} → b ≡ pair-at text (from + 2) → (t : Task) → Spans text from end (task-frame t)
+        → TaskAt text t (record { head = Run b; from = from + 4; end = end })
     unfolding task-frame task-terms
     run-found d x (run k u) h = let (y, z) = behind-two h in (ap Run (x ∙ y), z)
     run-found d x (judgement n o ts) h = let y = sym d ∙ kind-is (judgement n o ts) h e in let z : _≡_ {A = ℕ} 0 1 = cc in absurd (omega arith)
@@ -110,7 +111,8 @@ module _ (text : List ℕ) (from end : ℕ) where
     judgement-inside d (judgement n o ts) h = omega (arith, spans-inside text (from + 4) end (direction-number o) (prefixes ts) (behind-two h .1))
     judgement-inside d (comparison u v) h = let x = sym d ∙ kind-is (comparison u v) h e in let z : _≡_ {A = ℕ} 0 1 = cc in absurd (omega arith)
 
-    pub judgement-found : kind ≡ judgement-kind → {b c : ℕ} → b ≡ pair-at text (from + 2) → c ≡ pair-at text (from + 4) → (t : Task) → Spans text from end (task-frame t)
+    pub judgement-found : kind ≡ judgement-kind → {b c : ℕ} → b ≡ pair-at text (from + 2) → c ≡ pair-at text (from + 4) → (t : Task)
+        → Spans text from end (task-frame t)
         → TaskAt text t (record { head = Judgement b c; from = from + 6; end = end })
     unfolding task-frame task-terms
     judgement-found d x y (run k u) h = let w = sym d ∙ kind-is (run k u) h e in let z : _≡_ {A = ℕ} 0 1 = cc in absurd (omega arith)

@@ -11,21 +11,24 @@ use Rattle.format.specs.declared.kind.FrameKind.the-variants.{Symbols as symbol
 abbrev pub number : FrameKind → ℕ
 number = tagOf the-type
 
-pub not-symbols : (kind : FrameKind) → (number kind ≡ 1) ⊎ (number kind ≡ 2) ⊎ (number kind ≡ 3) ⊎ (number kind ≡ 4) ⊎ (number kind ≡ 5) → kind ≡ symbols-kind → ⊥
+pub not-symbols : (kind : FrameKind) → (number kind ≡ 1) ⊎ (number kind ≡ 2) ⊎ (number kind ≡ 3) ⊎ (number kind ≡ 4) ⊎ (number kind ≡ 5) → kind ≡ symbols-kind
+    → ⊥
 not-symbols kind (inl a) e = omega (arith, ap number e)
 not-symbols kind (inr (inl a)) e = omega (arith, ap number e)
 not-symbols kind (inr (inr (inl a))) e = omega (arith, ap number e)
 not-symbols kind (inr (inr (inr (inl a)))) e = omega (arith, ap number e)
 not-symbols kind (inr (inr (inr (inr a)))) e = omega (arith, ap number e)
 
-pub not-equation : (kind : FrameKind) → (number kind ≡ 0) ⊎ (number kind ≡ 2) ⊎ (number kind ≡ 3) ⊎ (number kind ≡ 4) ⊎ (number kind ≡ 5) → kind ≡ equation-kind → ⊥
+pub not-equation : (kind : FrameKind) → (number kind ≡ 0) ⊎ (number kind ≡ 2) ⊎ (number kind ≡ 3) ⊎ (number kind ≡ 4) ⊎ (number kind ≡ 5) → kind ≡ equation-kind
+    → ⊥
 not-equation kind (inl a) e = omega (arith, ap number e)
 not-equation kind (inr (inl a)) e = omega (arith, ap number e)
 not-equation kind (inr (inr (inl a))) e = omega (arith, ap number e)
 not-equation kind (inr (inr (inr (inl a)))) e = omega (arith, ap number e)
 not-equation kind (inr (inr (inr (inr a)))) e = omega (arith, ap number e)
 
-pub not-first-tasks : (kind : FrameKind) → (number kind ≡ 0) ⊎ (number kind ≡ 1) ⊎ (number kind ≡ 4) ⊎ (number kind ≡ 5) → (kind ≡ run-kind → ⊥) × (kind ≡ judgement-kind → ⊥)
+pub not-first-tasks : (kind : FrameKind) → (number kind ≡ 0) ⊎ (number kind ≡ 1) ⊎ (number kind ≡ 4) ⊎ (number kind ≡ 5)
+    → (kind ≡ run-kind → ⊥) × (kind ≡ judgement-kind → ⊥)
 not-first-tasks kind h = (λ e. neither h (ap number e) (omega arith) (omega arith), λ e. neither h (ap number e) (omega arith) (omega arith))
   where
     neither : {n m : ℕ} → (n ≡ 0) ⊎ (n ≡ 1) ⊎ (n ≡ 4) ⊎ (n ≡ 5) → n ≡ m → 2 ≤ m → m ≤ 3 → ⊥

@@ -23,9 +23,9 @@ use Rattle.scanning.specs.declared.scan.ReadStatus.{ReadStatus}
 use Rattle.scanning.specs.declared.scan.ReadStatus.the-variants.{Done, Refused}
 use Rattle.sheet.specs.Sheet.{Sheet, equation-width}
 use Rattle.sheet.specs.Frame.{State, start, within, takes-equation, takes-task, in-order, equation-body, with-equation, with-task, read-body, read-kind, read-frame}
-use Rattle.scanning.specs.Contracts.Cursor.{pair-at, bytes-between, span-bytes, BodyReady, SpanReady}
-use Rattle.scanning.specs.Contracts.Scan.{listed, known-arities, Matches, EquationGiven}
-use Rattle.scanning.specs.Contracts.Body.{KnowsSheet, task-result}
+use Rattle.scanning.specs.Contracts.Digits.{pair-at, bytes-between, span-bytes, BodyReady, SpanReady}
+use Rattle.scanning.specs.Contracts.Scan.{listed, known-arities, Matches, EquationGiven, task-result}
+use Rattle.scanning.specs.Contracts.Known.{KnowsSheet}
 use Rattle.reading.specs.Contracts.Symbols.{symbols-only, SymbolsRead}
 use Rattle.reading.specs.Contracts.Reader.{Knows, FrameRead}
 use Rattle.sheet.specs.Contracts.Bytes.{Bytes, max-byte}
@@ -215,7 +215,8 @@ symbols-first bs small k Done h =
     )
 symbols-first bs small k (Refused x) h = ordered start symbols-kind bs refl ∙ h
 
-pub first-symbols : {kind : FrameKind} → kind ≡ symbols-kind → (bs : List ℕ) → Bytes bs → (k : Known) (o : ReadStatus) → SymbolsRead bs k o → FrameRead (read-kind start kind bs) k o
+pub first-symbols : {kind : FrameKind} → kind ≡ symbols-kind → (bs : List ℕ) → Bytes bs → (k : Known) (o : ReadStatus) → SymbolsRead bs k o
+    → FrameRead (read-kind start kind bs) k o
 first-symbols e bs small k o h = subst (λ kind. FrameRead (read-kind start kind bs) k o) (sym e) (symbols-first bs small k o h)
 
 -- 4. A frame of digits.
@@ -234,21 +235,23 @@ module _ (text : List ℕ) (d : Span) (b : SpanReady text d) (some : d .from < d
 
   -- The kind that the first byte says, and the state that is known.
   module _ (k₀ : Known) {kind : FrameKind} (e : kind ≡ kind-of (pair-at text (d .from))) where
-    abbrev behind : List ℕ
-    behind = bytes-between text (d .from + 2) (d .end)
+    abbrev body-bytes : List ℕ
+    body-bytes = bytes-between text (d .from + 2) (d .end)
 
-    by-kind : (state : State) → read-kind state kind behind ≡ read-frame state (span-bytes text d)
+    by-kind : (state : State) → read-kind state kind body-bytes ≡ read-frame state (span-bytes text d)
     unfolding read-frame
-    by-kind state = ap (λ k. read-kind state k behind) e ∙ ap (read-frame state) (sym (first-byte text (d .from) (d .end) b more))
+    by-kind state = ap (λ k. read-kind state k body-bytes) e ∙ ap (read-frame state) (sym (first-byte text (d .from) (d .end) b more))
 
-    pub read-first : k₀ .symbols ≡ 0 → (k : Known) (o : ReadStatus) → FrameRead (read-kind start kind behind) k o → (state : State) → Knows k₀ state → FrameRead (read-frame state (span-bytes text d)) k o
+    pub read-first : k₀ .symbols ≡ 0 → (k : Known) (o : ReadStatus) → FrameRead (read-kind start kind body-bytes) k o → (state : State) → Knows k₀ state
+        → FrameRead (read-frame state (span-bytes text d)) k o
     read-first z k o h start g = subst (λ r. FrameRead r k o) (by-kind start) h
     read-first z k o h (within s) g = absurd (some-symbols k₀ s g z)
 
-    pub read-later : (k₀ .symbols ≡ 0 → ⊥) → {n : FrameKind} → kind ≡ n → (k : Known) (o : ReadStatus) → ((s : Sheet) → KnowsSheet k₀ s → FrameRead (read-kind (within s) n behind) k o)
+    pub read-later : (k₀ .symbols ≡ 0 → ⊥) → {n : FrameKind} → kind ≡ n → (k : Known) (o : ReadStatus)
+        → ((s : Sheet) → KnowsSheet k₀ s → FrameRead (read-kind (within s) n body-bytes) k o)
         → (state : State) → Knows k₀ state → FrameRead (read-frame state (span-bytes text d)) k o
     read-later z x k o h start g = absurd (z (g .0))
-    read-later z x k o h (within s) g = subst (λ r. FrameRead r k o) (ap (λ n. read-kind (within s) n behind) (sym x) ∙ by-kind (within s)) (h s g)
+    read-later z x k o h (within s) g = subst (λ r. FrameRead r k o) (ap (λ n. read-kind (within s) n body-bytes) (sym x) ∙ by-kind (within s)) (h s g)
 
 -- The sheet so far, where symbols are known.
 pub known-sheet : (k : Known) → (k .symbols ≡ 0 → ⊥) → (state : State) × Knows k state → (s : Sheet) × KnowsSheet k s

@@ -13,7 +13,7 @@ use Rattle.sheet.specs.Text.{LF, TextLine, ended, unended, put-byte, lines-of, 
 use Rattle.sheet.specs.Sheet.{Task, Sheet}
 use Rattle.sheet.specs.Frames.{equation-frame, task-frame, frames-of}
 use Rattle.sheet.specs.Reading.{accepted, read}
-use Rattle.scanning.specs.Contracts.Cursor.{bytes-between, LineTo, NoFrame}
+use Rattle.scanning.specs.Contracts.Digits.{bytes-between, LineTo, NoFrame}
 use Rattle.reading.specs.Contracts.Seek.{FrameIn, Spans}
 use Rattle.sheet.specs.Theory.Text.{frame-bytes-small}
 use Rattle.sheet.specs.Theory.Lines.{lines-byte, lines-LF}
@@ -110,7 +110,8 @@ entry-behind [] ys n i e = let z : n + i ≡ i = omega arith in ap (entry ys) z
 entry-behind (x ∷ xs) ys zero i e = absurd (omega arith)
 entry-behind (x ∷ xs) ys (suc n) i e = let z : suc n + i ≡ suc (n + i) = omega arith in ap (entry (x ∷ xs ++ ys)) z ∙ entry-behind xs ys n i (omega arith)
 
-framed-line : (rs : List TextLine) (fs : List (List ℕ)) → Framed rs fs → (n : ℕ) {frame : List ℕ} → entry fs n ≡ some frame → (line : TextLine) × (entry rs n ≡ some line) × (frame-of line ≡ some frame)
+framed-line : (rs : List TextLine) (fs : List (List ℕ)) → Framed rs fs → (n : ℕ) {frame : List ℕ} → entry fs n ≡ some frame
+    → (line : TextLine) × (entry rs n ≡ some line) × (frame-of line ≡ some frame)
 unfolding entry
 framed-line rs [] e n h = let z : _≡_ {A = ℕ} 0 1 = cc in absurd (omega arith)
 framed-line [] (f ∷ fs) e n h = let z : _≡_ {A = ℕ} 0 1 = cc in absurd (omega arith)

@@ -20,9 +20,9 @@ ghost use lib.ListN.{length, set};
 ghost use Rattle.format.specs.Limits.{max-text, variable-count, max-equations, max-tasks};
 ghost use Rattle.sheet.specs.Sheet.{Sheet};
 ghost use Rattle.sheet.specs.Frame.{State, start, within, read-kind, read-frame};
-ghost use Rattle.scanning.specs.Contracts.Cursor.{span-bytes, SpanReady};
+ghost use Rattle.scanning.specs.Contracts.Digits.{span-bytes, SpanReady};
 ghost use Rattle.scanning.specs.Contracts.Scan.{FrameReady};
-ghost use Rattle.scanning.specs.Contracts.Body.{KnowsSheet};
+ghost use Rattle.scanning.specs.Contracts.Known.{KnowsSheet};
 ghost use Rattle.reading.specs.Contracts.Reader.{Knows, FrameRead, SheetRead};
 
 // One more equation, with as many variables up to its highest.

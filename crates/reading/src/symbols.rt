@@ -8,7 +8,7 @@ use scanning::text::byte_at;
 ghost use mathlib.Core.Path.{_≡_};
 ghost use Prim.Native.Nat.{_+_, _*_, _≤_};
 ghost use Rattle.format.specs.Limits.{max-symbols};
-ghost use Rattle.scanning.specs.Contracts.Cursor.{bytes-between, span-bytes, SpanReady};
+ghost use Rattle.scanning.specs.Contracts.Digits.{bytes-between, span-bytes, SpanReady};
 ghost use Rattle.reading.specs.Contracts.Symbols.{AritiesReady, SymbolsRead, ArityBytes, HasConstant};
 
 // A frame's status, and what is known after it.

@@ -13,7 +13,7 @@ use Rattle.format.specs.Theory.Byte.{symbol-class, variable-class}
 use Rattle.terms.specs.Term.{Term, Terms, var, app, nil, cons}
 use Rattle.terms.specs.Equation.{Equation}
 use Rattle.terms.specs.Prefix.{prefix, prefixes, terms-of}
-use Rattle.terms.specs.Theory.Prefix.{Fits, AllFit}
+use Rattle.terms.specs.Contracts.Fits.{AllFit, Fits}
 use Rattle.scanning.specs.declared.scan.ReadStatus.{ReadStatus}
 use Rattle.scanning.specs.declared.scan.ReadStatus.the-variants.{Done, Refused}
 use Rattle.scanning.specs.declared.scan.Scanned.{Scanned}
@@ -23,7 +23,7 @@ use Rattle.scanning.specs.declared.known.Known.{Known}
 use Rattle.scanning.specs.declared.frame.EquationReading.{EquationReading}
 use Rattle.sheet.specs.Sheet.{width, widths, equation-width}
 use Rattle.sheet.specs.Frame.{scan, all-read, scan-sides, first-term, second-term, equation-body}
-use Rattle.scanning.specs.Contracts.Cursor.{bytes-between, span-bytes}
+use Rattle.scanning.specs.Contracts.Digits.{bytes-between, span-bytes}
 use Rattle.scanning.specs.Contracts.Scan.{known-arities, widest, FrameReady, status-result, ScanRead, LastSide, EquationGiven}
 use Rattle.scanning.specs.Theory.Listed.{length-listed}
 use Rattle.scanning.specs.Theory.Between.{between-end, first-byte}
@@ -70,16 +70,19 @@ pub sides-refused : (arities bs : List ℕ) {x : Refusal} → scan arities false
 unfolding equation-body scan-sides all-read Result·map after-left
 sides-refused arities bs e = ap (λ r. Result·map (λ ts. let q : Equation = record { left = first-term ts; right = second-term ts } in q) (all-read (terms-of arities bs) (after-left arities r))) e
 
-sides-second : (arities bs rest : List ℕ) → scan arities false bs 1 max-side-nodes ≡ give rest → scan-sides arities bs ≡ scan arities false rest 1 max-side-nodes
+sides-second : (arities bs rest : List ℕ) → scan arities false bs 1 max-side-nodes ≡ give rest
+    → scan-sides arities bs ≡ scan arities false rest 1 max-side-nodes
 unfolding scan-sides after-left
 sides-second arities bs rest e = ap (after-left arities) e
 
-pub second-refused : (arities bs rest : List ℕ) {x : Refusal} → scan arities false bs 1 max-side-nodes ≡ give rest → ((ts : Terms) → all-read ts (scan arities false rest 1 max-side-nodes) ≡ refuse x)
+pub second-refused : (arities bs rest : List ℕ) {x : Refusal} → scan arities false bs 1 max-side-nodes ≡ give rest
+    → ((ts : Terms) → all-read ts (scan arities false rest 1 max-side-nodes) ≡ refuse x)
     → equation-body arities bs ≡ refuse x
 unfolding equation-body Result·map
 second-refused arities bs rest e h = rw (sides-second arities bs rest e, h (terms-of arities bs))
 
-second-read : (arities bs rest : List ℕ) → scan arities false bs 1 max-side-nodes ≡ give rest → scan arities false rest 1 max-side-nodes ≡ give [] → (e : Equation) × (equation-body arities bs ≡ give e)
+second-read : (arities bs rest : List ℕ) → scan arities false bs 1 max-side-nodes ≡ give rest → scan arities false rest 1 max-side-nodes ≡ give []
+    → (e : Equation) × (equation-body arities bs ≡ give e)
 unfolding equation-body Result·map all-read
 second-read arities bs rest d e = (record { left = first-term (terms-of arities bs); right = second-term (terms-of arities bs) }, rw (sides-second arities bs rest d, e))
 
@@ -108,7 +111,8 @@ module _ (arities : List ℕ) (known : length arities ≤ max-symbols) where
       omega (arith, ap widest (r .spelled), widest-append (prefix (e .left)) (prefix (e .right)), width-spelled (e .left) (r .valid .left-fits), width-spelled (e .right) (r .valid .right-fits))
 
   -- Both sides are done.
-  pub sides-done : (text : List ℕ) (from at end w highest : ℕ) → scan arities false (bytes-between text from end) 1 max-side-nodes ≡ give (bytes-between text at end)
+  pub sides-done : (text : List ℕ) (from at end w highest : ℕ)
+      → scan arities false (bytes-between text from end) 1 max-side-nodes ≡ give (bytes-between text at end)
       → scan arities false (bytes-between text at end) 1 max-side-nodes ≡ give [] → max 0 (widest (bytes-between text from end)) ≡ max w (widest (bytes-between text at end))
       → max w (widest (bytes-between text at end)) ≡ highest → EquationGiven arities (bytes-between text from end) highest Done
   sides-done text from at end w highest d e i j =
@@ -119,7 +123,8 @@ module _ (arities : List ℕ) (known : length arities ≤ max-symbols) where
 abbrev pub left-side : Wanted
 left-side = record { terms = 1; nodes = max-side-nodes; ground = false; width = 0 }
 
-pub equation-status : (text : List ℕ) (d : Span) (k : Known) → FrameReady text d k → (l : Scanned) → ScanRead text d (known-arities k) left-side l → l .status ≡ Done
+pub equation-status : (text : List ℕ) (d : Span) (k : Known) → FrameReady text d k → (l : Scanned) → ScanRead text d (known-arities k) left-side l
+    → l .status ≡ Done
     → (r : EquationReading) → LastSide (known-arities k) (bytes-between text (l .at) (d .end)) (l .width) (r .width) (r .status)
     → EquationGiven (known-arities k) (span-bytes text d) (r .width) (r .status)
 equation-status text d k f l g e r h = go (r .status) (r .width) h
@@ -130,6 +135,7 @@ equation-status text d k f l g e r h = go (r .status) (r .width) h
     left : scan (known-arities k) false (span-bytes text d) 1 max-side-nodes ≡ give (bytes-between text (l .at) (d .end))
     left = scan-done text d (known-arities k) left-side l g e
 
-    go : (o : ReadStatus) (w : ℕ) → LastSide (known-arities k) (bytes-between text (l .at) (d .end)) (l .width) w o → EquationGiven (known-arities k) (span-bytes text d) w o
+    go : (o : ReadStatus) (w : ℕ) → LastSide (known-arities k) (bytes-between text (l .at) (d .end)) (l .width) w o
+        → EquationGiven (known-arities k) (span-bytes text d) w o
     go Done w h = sides-done (known-arities k) few text (d .from) (l .at) (d .end) (l .width) w left (h .0) (g .widths) (h .1)
     go (Refused x) w h = second-refused (known-arities k) (span-bytes text d) (bytes-between text (l .at) (d .end)) left h

@@ -1,4 +1,4 @@
 pub mod Body
-pub mod Cursor
 pub mod Scanning
 pub mod Tasks
+pub mod Digits

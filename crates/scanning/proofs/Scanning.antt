@@ -6,6 +6,7 @@ use mathlib.Core.List.{List, [], _∷_}
 use lib.ListN.{length, getD}
 use lib.Dec.{ltb}
 use borrow.Author.Tests.{lt-ltb, le-ltb}
+use native.Mathlib.Numerals.{add-one}
 use native.Mathlib.Omega.{arith}
 use Rattle.format.specs.Limits.{max-symbols, variable-count}
 use Rattle.format.specs.Refusal.{Result, refuse, give}
@@ -14,16 +15,17 @@ use Rattle.format.specs.declared.refusal.Refusal.the-variants.{FrameBytes, NotG
 use Rattle.format.specs.declared.byte.Class.{Class}
 use Rattle.format.specs.Byte.{class-of}
 use Rattle.format.specs.declared.byte.Class.the-variants.{Symbol as symbol, Variable as variable, Foreign as foreign}
-use Rattle.format.specs.Theory.Byte.{symbol-class, class-variable}
+use Rattle.format.specs.Theory.Byte.{symbol-class, class-symbol, class-variable}
 use Rattle.sheet.specs.Contracts.Bytes.{max-byte}
-use Rattle.scanning.specs.declared.scan.NeedAfter.{NeedAfter}
+use Rattle.scanning.specs.declared.scan.OtherNode.{OtherNode}
+use Rattle.scanning.specs.declared.scan.OtherNode.the-variants.{Variable, Refused as Node-Refused}
 use Rattle.scanning.specs.declared.scan.ReadStatus.{ReadStatus}
 use Rattle.scanning.specs.declared.scan.ReadStatus.the-variants.{Done, Refused}
 use Rattle.scanning.specs.declared.scan.Wanted.{Wanted}
 use Rattle.scanning.specs.declared.text.Span.{Span}
 use Rattle.sheet.specs.Frame.{after-node, scan}
-use Rattle.scanning.specs.Contracts.Cursor.{pair-at, bytes-between, span-bytes, BodyReady}
-use Rattle.scanning.specs.Contracts.Scan.{max-need, after-result, listed, node-width, widest, ScanReady, status-result, ScanRead}
+use Rattle.scanning.specs.Contracts.Digits.{pair-at, bytes-between, span-bytes, BodyReady}
+use Rattle.scanning.specs.Contracts.Scan.{max-need, OtherRead, listed, node-width, widest, ScanReady, status-result, ScanRead}
 use Rattle.scanning.specs.Theory.Listed.{length-listed, getD-listed}
 use Rattle.scanning.specs.Theory.Between.{between-end, two-more, first-byte, byte-small, body-behind}
 use Rattle.terms.specs.Term.{arity}
@@ -33,29 +35,40 @@ pub after-known : (n : ℕ) (xs : List ℕ) (ground : Bool) (f need : ℕ) → f
 unfolding after-node arity
 after-known n xs ground f need h = go (ltb f (length (listed n xs))) (lt-ltb f (length (listed n xs)) (omega (arith, length-listed n xs)))
   where
-    go : (t : Bool) → t ≡ true → _≡_ {A = Result ℕ} (elim t [ true ↦ give (getD (listed n xs) f 0 + need) | false ↦ refuse FrameBytes ]) (give (getD xs f 0 + need))
+    go : (t : Bool) → t ≡ true
+        → _≡_ {A = Result ℕ} (elim t [ true ↦ give (getD (listed n xs) f 0 + need) | false ↦ refuse FrameBytes ]) (give (getD xs f 0 + need))
     go true e = ap (λ a. give (a + need)) (getD-listed n xs f h)
     go false e = let z : _≡_ {A = ℕ} 0 1 = cc in absurd (omega arith)
 
-pub after-unknown : (n : ℕ) (xs : List ℕ) (ground : Bool) (f need : ℕ) → n ≤ f → after-node (listed n xs) ground (symbol f) need ≡ refuse FrameBytes
+after-unknown : (arities : List ℕ) (ground : Bool) (f need : ℕ) → length arities ≤ f → after-node arities ground (symbol f) need ≡ refuse FrameBytes
 unfolding after-node arity
-after-unknown n xs ground f need h = go (ltb f (length (listed n xs))) (le-ltb f (length (listed n xs)) (omega (arith, length-listed n xs)))
+after-unknown arities ground f need h = go (ltb f (length arities)) (le-ltb f (length arities) h)
   where
-    go : (t : Bool) → t ≡ false → _≡_ {A = Result ℕ} (elim t [ true ↦ give (getD (listed n xs) f 0 + need) | false ↦ refuse FrameBytes ]) (refuse FrameBytes)
+    go : (t : Bool) → t ≡ false → _≡_ {A = Result ℕ} (elim t [ true ↦ give (getD arities f 0 + need) | false ↦ refuse FrameBytes ]) (refuse FrameBytes)
     go true e = let z : _≡_ {A = ℕ} 0 1 = cc in absurd (omega arith)
     go false e = refl
 
-pub after-variable : (arities : List ℕ) (v need : ℕ) → after-node arities false (variable v) need ≡ give need
-unfolding after-node
-after-variable arities v need = refl
+-- A byte by its class, as the code tells it.
+module _ (b : ℕ) {c : Class} (told : c ≡ class-of b) (arities : List ℕ) (need : ℕ) where
+  by-class : {k : Class} → c ≡ k → (ground : Bool) → after-node arities ground (class-of b) need ≡ after-node arities ground k need
+  by-class e ground = ap (λ k. after-node arities ground k need) (sym told ∙ e)
 
-pub after-not-ground : (arities : List ℕ) (v need : ℕ) → after-node arities true (variable v) need ≡ refuse NotGround
-unfolding after-node
-after-not-ground arities v need = refl
+  pub other-symbol : {f : ℕ} → c ≡ symbol f → (ground : Bool) → length arities ≤ b → after-node arities ground (class-of b) need ≡ refuse FrameBytes
+  other-symbol {f} e ground h = by-class e ground ∙ after-unknown arities ground f need (omega (arith, class-symbol b f (sym told ∙ e) .0))
 
-pub after-foreign : (arities : List ℕ) (ground : Bool) (need : ℕ) → after-node arities ground foreign need ≡ refuse FrameBytes
-unfolding after-node
-after-foreign arities ground need = refl
+  pub other-variable : {v : ℕ} → c ≡ variable v → {ground : Bool} → ground ≡ false → {w : ℕ} → w ≡ v
+      → (after-node arities ground (class-of b) need ≡ give need) × (node-width (class-of b) ≡ w + 1)
+  unfolding after-node
+  other-variable {v} e {ground} g {w} x =
+      (by-class e ground ∙ ap (λ t. after-node arities t (variable v) need) g, ap node-width (sym told ∙ e) ∙ sym (add-one w ∙ ap suc x))
+
+  pub other-not-ground : {v : ℕ} → c ≡ variable v → {ground : Bool} → ground ≡ true → after-node arities ground (class-of b) need ≡ refuse NotGround
+  unfolding after-node
+  other-not-ground {v} e {ground} g = by-class e ground ∙ ap (λ t. after-node arities t (variable v) need) g
+
+  pub other-foreign : c ≡ foreign → (ground : Bool) → after-node arities ground (class-of b) need ≡ refuse FrameBytes
+  unfolding after-node
+  other-foreign e ground = by-class e ground
 
 -- 2. A scan of one node more.
 pub scan-none : (arities : List ℕ) (ground : Bool) (bs : List ℕ) (room : ℕ) → scan arities ground bs 0 room ≡ give bs
@@ -76,7 +89,8 @@ scan-full arities ground b bs (suc need) h = refl
 pub after-scan : (arities : List ℕ) (ground : Bool) (bs : List ℕ) (room : ℕ) → Result ℕ → Result (List ℕ)
 after-scan arities ground bs room r = elim r [ refuse x ↦ refuse x | give n ↦ scan arities ground bs n room ]
 
-pub scan-node : (arities : List ℕ) (ground : Bool) (b : ℕ) (bs : List ℕ) (need room : ℕ) (r : Result ℕ) → 0 < need → 0 < room → after-node arities ground (class-of b) (need - 1) ≡ r
+pub scan-node : (arities : List ℕ) (ground : Bool) (b : ℕ) (bs : List ℕ) (need room : ℕ) (r : Result ℕ) → 0 < need → 0 < room
+    → after-node arities ground (class-of b) (need - 1) ≡ r
     → scan arities ground (b ∷ bs) need room ≡ after-scan arities ground bs (room - 1) r
 unfolding scan after-scan
 scan-node arities ground b bs zero room r h i e = absurd (omega arith)
@@ -87,12 +101,14 @@ scan-node arities ground b bs (suc need) (suc room) r h i e =
     let f : after-node arities ground (class-of b) need ≡ r = ap (after-node arities ground (class-of b)) (sym a) ∙ e in
     ap (after-scan arities ground bs room) f ∙ ap (λ m. after-scan arities ground bs m r) (sym d)
 
-pub scan-refused : (arities : List ℕ) (ground : Bool) (b : ℕ) (bs : List ℕ) (need room : ℕ) (x : Refusal) → 0 < need → 0 < room → after-node arities ground (class-of b) (need - 1) ≡ refuse x
+pub scan-refused : (arities : List ℕ) (ground : Bool) (b : ℕ) (bs : List ℕ) (need room : ℕ) (x : Refusal) → 0 < need → 0 < room
+    → after-node arities ground (class-of b) (need - 1) ≡ refuse x
     → scan arities ground (b ∷ bs) need room ≡ refuse x
 unfolding after-scan
 scan-refused arities ground b bs need room x h i e = scan-node arities ground b bs need room (refuse x) h i e
 
-pub scan-more : (arities : List ℕ) (ground : Bool) (b : ℕ) (bs : List ℕ) (need room n : ℕ) → 0 < need → 0 < room → after-node arities ground (class-of b) (need - 1) ≡ give n
+pub scan-more : (arities : List ℕ) (ground : Bool) (b : ℕ) (bs : List ℕ) (need room n : ℕ) → 0 < need → 0 < room
+    → after-node arities ground (class-of b) (need - 1) ≡ give n
     → scan arities ground (b ∷ bs) need room ≡ scan arities ground bs n (room - 1)
 unfolding after-scan
 scan-more arities ground b bs need room n h i e = scan-node arities ground b bs need room (give n) h i e
@@ -175,7 +191,8 @@ module _ (text : List ℕ) (d : Span) (arities : List ℕ) (w : Wanted) where
           }
 
 -- A declared symbol, told without its class.
-pub scanning-declared : (text : List ℕ) (d : Span) (symbols : ℕ) (xs : List ℕ) (w : Wanted) (at need room highest : ℕ) → Scanning text d (listed symbols xs) w at need room highest
+pub scanning-declared : (text : List ℕ) (d : Span) (symbols : ℕ) (xs : List ℕ) (w : Wanted) (at need room highest : ℕ)
+    → Scanning text d (listed symbols xs) w at need room highest
     → (at ≡ d .end → ⊥) → 0 < need → (room ≡ 0 → ⊥) → symbols ≤ max-symbols → {b a : ℕ} → b ≡ pair-at text at → b < symbols → a ≡ getD xs b 0 → a ≤ max-byte
     → Scanning text d (listed symbols xs) w (at + 2) (a + (need - 1)) (room - 1) highest
 scanning-declared text d symbols xs w at need room highest g n h m l {b} {a} x i e k =
@@ -189,10 +206,19 @@ scanning-declared text d symbols xs w at need room highest g n h m l {b} {a} x i
     subst (Scanning text d (listed symbols xs) w (at + 2) (a + (need - 1)) (room - 1)) same-width
     (scanning-next text d (listed symbols xs) w at need room highest g n h m (a + (need - 1)) given (omega arith))
 
--- What the calls of one round say, put together.
-pub told-after : (arities : List ℕ) (ground : Bool) (need : ℕ) {b₀ b : ℕ} {c : Class} {a a′ : NeedAfter} → b ≡ b₀ → c ≡ class-of b → after-result a ≡ after-node arities ground c need → a ≡ a′
-    → after-node arities ground (class-of b₀) need ≡ after-result a′
-told-after arities ground need x y z w = cc
+-- A node that is no declared symbol.
+module _ (text : List ℕ) (d : Span) (symbols : ℕ) (xs : List ℕ) (w : Wanted) (at need room highest : ℕ) (g : Scanning text d (listed symbols xs) w at need room highest)
+    (more : at ≡ d .end → ⊥) (some-need : 0 < need) (some-room : room ≡ 0 → ⊥) {b : ℕ} (is-byte : b ≡ pair-at text at) (undeclared : symbols ≤ b) (r : OtherNode)
+    (read : (arities : List ℕ) (n : ℕ) → length arities ≤ b → OtherRead arities (w .ground) b n r) where
+  node-read : OtherRead (listed symbols xs) (w .ground) (pair-at text at) (need - 1) r
+  node-read = subst (λ x. OtherRead (listed symbols xs) (w .ground) x (need - 1) r) is-byte (read (listed symbols xs) (need - 1) (omega (arith, length-listed symbols xs)))
 
-pub told-width : (w : ℕ) {w′ n b₀ b : ℕ} {c : Class} → b ≡ b₀ → c ≡ class-of b → n ≡ node-width c → w′ ≡ max w n → max w (node-width (class-of b₀)) ≡ w′
-told-width w x y z e = sym (e ∙ ap (max w) (z ∙ ap node-width (y ∙ ap class-of x)))
+  pub stop-other : {x : Refusal} → r ≡ Node-Refused x → ScanRead text d (listed symbols xs) w (record { status = Refused x; at = at; width = highest })
+  stop-other {x} e =
+      stop-refused text d (listed symbols xs) w at need room highest g more some-need some-room x (subst (OtherRead (listed symbols xs) (w .ground) (pair-at text at) (need - 1)) e node-read)
+
+  pub scanning-variable : {v : ℕ} → r ≡ Variable v → {u : ℕ} → u ≡ max highest v → Scanning text d (listed symbols xs) w (at + 2) (need - 1) (room - 1) u
+  scanning-variable {v} e x =
+      let (given, width) = subst (OtherRead (listed symbols xs) (w .ground) (pair-at text at) (need - 1)) e node-read in
+      subst (Scanning text d (listed symbols xs) w (at + 2) (need - 1) (room - 1)) (ap (max highest) width ∙ sym x)
+      (scanning-next text d (listed symbols xs) w at need room highest g more some-need some-room (need - 1) given (omega arith))

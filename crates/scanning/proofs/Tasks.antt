@@ -20,9 +20,9 @@ use Rattle.scanning.specs.declared.known.Known.{Known}
 use Rattle.scanning.specs.declared.scan.ReadStatus.{ReadStatus}
 use Rattle.sheet.specs.Sheet.{run, judgement, comparison, Sheet, widths, equation-width}
 use Rattle.sheet.specs.Frame.{ground-terms, first-term, second-term, run-body, values-body, judgement-body, comparison-body}
-use Rattle.scanning.specs.Contracts.Cursor.{pair-at, bytes-between, BodyReady}
-use Rattle.scanning.specs.Contracts.Scan.{known-arities, Matches}
-use Rattle.scanning.specs.Contracts.Body.{KnowsSheet, task-result}
+use Rattle.scanning.specs.Contracts.Digits.{pair-at, bytes-between, BodyReady}
+use Rattle.scanning.specs.Contracts.Scan.{known-arities, Matches, task-result}
+use Rattle.scanning.specs.Contracts.Known.{KnowsSheet}
 use Rattle.sheet.specs.Contracts.Valid.{ValidEquation}
 use Rattle.sheet.specs.Theory.Width.{equation-width-low}
 use Rattle.scanning.specs.Theory.Status.{matches-map}
@@ -66,7 +66,8 @@ module _ (k : Known) (s : Sheet) (knows : KnowsSheet k s) where
   unfolding run-body
   run-early text from end e = ap (run-body s) (between-end text from end (omega arith))
 
-  pub run-read : (text : List ℕ) (from end : ℕ) → BodyReady text from end → (from ≡ end → ⊥) → (o : ReadStatus) → Matches (ground-terms (known-arities k) 1 (bytes-between text (from + 2) end)) o
+  pub run-read : (text : List ℕ) (from end : ℕ) → BodyReady text from end → (from ≡ end → ⊥) → (o : ReadStatus)
+      → Matches (ground-terms (known-arities k) 1 (bytes-between text (from + 2) end)) o
       → Matches (run-body s (bytes-between text from end)) o
   unfolding run-body
   run-read text from end f n o h =
@@ -80,7 +81,8 @@ module _ (k : Known) (s : Sheet) (knows : KnowsSheet k s) where
   comparison-read bs o h = matches-map (λ ts. comparison (first-term ts) (second-term ts)) (ground-terms (s .arities) 2 bs) o (same-arities (λ as′. ground-terms as′ 2 bs) o h)
 
   -- 4. A judgement.
-  pub judgement-short : (text : List ℕ) (from end : ℕ) → BodyReady text from end → end - from < 4 → judgement-body s (bytes-between text from end) ≡ refuse FrameBytes
+  pub judgement-short : (text : List ℕ) (from end : ℕ) → BodyReady text from end → end - from < 4
+      → judgement-body s (bytes-between text from end) ≡ refuse FrameBytes
   unfolding judgement-body
   judgement-short text from end f h = go (f .pairs) (f .even)
     where
@@ -108,7 +110,9 @@ module _ (k : Known) (s : Sheet) (knows : KnowsSheet k s) where
 
     pub equation-absent : {e : ℕ} → e ≡ pair-at text from → k .equations ≤ e → judgement-body s (bytes-between text from end) ≡ refuse AbsentDirection
     unfolding values-body
-    equation-absent d l = body-is ∙ ap (λ q. values-body s (pair-at text from) q (direction-of (pair-at text (from + 2))) (bytes-between text (from + 4) end)) (no-entry (s .equations) (pair-at text from) (omega (arith, knows .equations-are)))
+    equation-absent d l =
+        body-is
+        ∙ ap (λ q. values-body s (pair-at text from) q (direction-of (pair-at text (from + 2))) (bytes-between text (from + 4) end)) (no-entry (s .equations) (pair-at text from) (omega (arith, knows .equations-are)))
 
     module _ (e : ℕ) (at-e : e ≡ pair-at text from) (there : e < k .equations) where
       named : (q : Equation) × (entry (s .equations) e ≡ some q)
@@ -130,7 +134,8 @@ module _ (k : Known) (s : Sheet) (knows : KnowsSheet k s) where
       pub width-few : getD (k .widths) e 0 ≤ variable-count
       width-few = let (q, i) = named in omega (arith, width-known q i, equation-width-low q (every-entry (ValidEquation (s .arities)) (s .equations) e (knows .valid .equations) i .limits))
 
-      pub judgement-read : {d : ℕ} → d ≡ pair-at text (from + 2) → d ≤ 1 → {w : ℕ} → w ≡ getD (k .widths) e 0 → (o : ReadStatus) → Matches (ground-terms (known-arities k) w (bytes-between text (from + 4) end)) o
+      pub judgement-read : {d : ℕ} → d ≡ pair-at text (from + 2) → d ≤ 1 → {w : ℕ} → w ≡ getD (k .widths) e 0 → (o : ReadStatus)
+          → Matches (ground-terms (known-arities k) w (bytes-between text (from + 4) end)) o
           → Matches (judgement-body s (bytes-between text from end)) o
       unfolding values-body
       judgement-read {d} x l {w} y o h =
@@ -146,7 +151,8 @@ module _ (k : Known) (s : Sheet) (knows : KnowsSheet k s) where
 
 -- 5. A task by its kind.
 -- The kinds that are no task's, by their numbers in the code.
-pub other-kind : (s : Sheet) (kind : FrameKind) (bs : List ℕ) → (tagOf the-type kind ≡ 0) ⊎ (tagOf the-type kind ≡ 1) ⊎ (tagOf the-type kind ≡ 5) → task-result s kind bs ≡ refuse FrameOrder
+pub other-kind : (s : Sheet) (kind : FrameKind) (bs : List ℕ) → (tagOf the-type kind ≡ 0) ⊎ (tagOf the-type kind ≡ 1) ⊎ (tagOf the-type kind ≡ 5)
+    → task-result s kind bs ≡ refuse FrameOrder
 unfolding task-result
 other-kind s symbols-kind bs h = refl
 other-kind s equation-kind bs h = refl
@@ -155,14 +161,17 @@ other-kind s judgement-kind bs h = absurd (⊎-elim (λ e. omega arith) (λ e. �
 other-kind s comparison-kind bs h = absurd (⊎-elim (λ e. omega arith) (λ e. ⊎-elim (λ e. omega arith) (λ e. omega arith) e) h)
 other-kind s unknown-kind bs h = refl
 
-pub run-kind-is : (s : Sheet) {kind : FrameKind} (bs : List ℕ) (o : ReadStatus) → kind ≡ run-kind → Matches (run-body s bs) o → Matches (task-result s kind bs) o
+pub run-kind-is : (s : Sheet) {kind : FrameKind} (bs : List ℕ) (o : ReadStatus) → kind ≡ run-kind → Matches (run-body s bs) o
+    → Matches (task-result s kind bs) o
 unfolding task-result
 run-kind-is s bs o e h = subst (λ kind. Matches (task-result s kind bs) o) (sym e) h
 
-pub judgement-kind-is : (s : Sheet) {kind : FrameKind} (bs : List ℕ) (o : ReadStatus) → kind ≡ judgement-kind → Matches (judgement-body s bs) o → Matches (task-result s kind bs) o
+pub judgement-kind-is : (s : Sheet) {kind : FrameKind} (bs : List ℕ) (o : ReadStatus) → kind ≡ judgement-kind → Matches (judgement-body s bs) o
+    → Matches (task-result s kind bs) o
 unfolding task-result
 judgement-kind-is s bs o e h = subst (λ kind. Matches (task-result s kind bs) o) (sym e) h
 
-pub comparison-kind-is : (s : Sheet) {kind : FrameKind} (bs : List ℕ) (o : ReadStatus) → kind ≡ comparison-kind → Matches (comparison-body s bs) o → Matches (task-result s kind bs) o
+pub comparison-kind-is : (s : Sheet) {kind : FrameKind} (bs : List ℕ) (o : ReadStatus) → kind ≡ comparison-kind → Matches (comparison-body s bs) o
+    → Matches (task-result s kind bs) o
 unfolding task-result
 comparison-kind-is s bs o e h = subst (λ kind. Matches (task-result s kind bs) o) (sym e) h

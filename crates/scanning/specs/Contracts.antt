@@ -1,4 +1,4 @@
 -- What the contracts of the code cite.
-pub mod Body
-pub mod Cursor
 pub mod Scan
+pub mod Digits
+pub mod Known

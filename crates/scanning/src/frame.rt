@@ -11,7 +11,7 @@ ghost use mathlib.Core.Bool.{false};
 ghost use Prim.Native.Nat.{_≤_};
 ghost use Rattle.format.specs.Limits.{variable-count, max-side-nodes};
 ghost use Rattle.sheet.specs.Frame.{ground-terms};
-ghost use Rattle.scanning.specs.Contracts.Cursor.{span-bytes};
+ghost use Rattle.scanning.specs.Contracts.Digits.{span-bytes};
 ghost use Rattle.scanning.specs.Contracts.Scan.{known-arities, FrameReady, Matches, LastSide, EquationGiven};
 
 // Ground terms and nothing behind them.

@@ -1,6 +1,6 @@
 // What the reader remembers of the lines it has passed.
 use format::limits::Limits;
-ghost use Rattle.scanning.specs.Contracts.Body.{none-known};
+ghost use Rattle.scanning.specs.Contracts.Known.{none-known};
 
 // The symbols' arities and their count; for each equation how many variables there are up to its highest; how many equations and tasks.
 // No symbols: no line is passed yet.

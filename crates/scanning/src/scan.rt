@@ -5,60 +5,33 @@ use crate::text::byte_at;
 use format::byte::Class;
 use format::byte::classify;
 use format::byte::wide;
-use format::limits::Limits;
 use format::refusal::Refusal;
 ghost use mathlib.Core.Path.{_≡_};
-ghost use Prim.Native.Nat.{_+_, _≤_, max};
-ghost use Rattle.format.specs.Limits.{max-symbols};
-ghost use Rattle.sheet.specs.Contracts.Bytes.{max-byte};
-ghost use Rattle.sheet.specs.Frame.{after-node};
-ghost use Rattle.scanning.specs.Contracts.Scan.{after-result, max-need, NeedAtMost, listed, known-arities, node-width, ScanReady, ScanRead};
+ghost use mathlib.Core.List.{List};
+ghost use Prim.Native.Nat.{ℕ, _≤_, max};
+ghost use lib.ListN.{length};
+ghost use Rattle.scanning.specs.Contracts.Scan.{known-arities, OtherRead, ScanReady, ScanRead};
 
-// How many terms are still to come after a node, or a refusal.
-pub enum NeedAfter {
-    Need(usize),
+// A node that is no declared symbol: a variable, with how many variables there are up to it, or a refusal.
+pub enum OtherNode {
+    Variable(usize),
     Refused(Refusal),
 }
 
-fn terms_after(
-    symbols: usize,
-    arities: &[u8; Limits::SYMBOLS],
-    ground: bool,
-    class: Class,
-    need: usize,
-) -> NeedAfter
-    requires { ⌜ (symbols ≤ max-symbols) × (need ≤ max-need) ⌝ }
-    ensures { λ r. ⌜ after-result r ≡ after-node (listed symbols (now (arities .entry))) ground class need ⌝ }
-    ensures { λ r. ⌜ NeedAtMost (max-byte + need) r ⌝ }
+fn other_node(b: u8, ground: bool) -> OtherNode
+    ensures { λ r. ⌜ ((arities : List ℕ) (need : ℕ) → length arities ≤ b → OtherRead arities ground b need r) ⌝ }
 {
+    let class = classify(b);
     match class {
-        Class::Symbol(f) => {
-            let i = wide(f);
-            if i < symbols {
-                NeedAfter::Need(wide(arities[i]) + need)
-            } else {
-                NeedAfter::Refused(Refusal::FrameBytes)
-            }
-        }
-        Class::Variable(_) => {
+        Class::Symbol(_) => OtherNode::Refused(Refusal::FrameBytes),
+        Class::Variable(v) => {
             if ground {
-                NeedAfter::Refused(Refusal::NotGround)
+                OtherNode::Refused(Refusal::NotGround)
             } else {
-                NeedAfter::Need(need)
+                OtherNode::Variable(wide(v) + 1)
             }
         }
-        Class::Foreign => NeedAfter::Refused(Refusal::FrameBytes),
-    }
-}
-
-// How many variables there are up to that of a node.
-fn node_width(class: Class) -> usize
-    ensures { λ r. ⌜ (r ≡ node-width class) ⌝ }
-{
-    match class {
-        Class::Symbol(_) => 0,
-        Class::Variable(v) => wide(v) + 1,
-        Class::Foreign => 0,
+        Class::Foreign => OtherNode::Refused(Refusal::FrameBytes),
     }
 }
 
@@ -124,20 +97,19 @@ pub fn scan(known: Known, s: &[u8], span: Span, wanted: Wanted) -> Scanned
             at = at + 2;
             continue;
         }
-        let class = classify(b as u8);
-        match terms_after(symbols, &arities, ground, class, need - 1) {
-            NeedAfter::Refused(r) => {
+        match other_node(b as u8, ground) {
+            OtherNode::Refused(r) => {
                 return Scanned {
                     status: ReadStatus::Refused(r),
                     at: at,
                     width: widest,
                 };
             }
-            NeedAfter::Need(n) => {
-                need = n;
+            OtherNode::Variable(w) => {
+                need = need - 1;
                 room = room - 1;
                 at = at + 2;
-                widest = greater(widest, node_width(class));
+                widest = greater(widest, w);
             }
         }
     }

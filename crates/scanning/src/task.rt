@@ -9,9 +9,9 @@ use format::kind::FrameKind;
 use format::refusal::Refusal;
 ghost use Rattle.sheet.specs.Sheet.{Sheet};
 ghost use Rattle.sheet.specs.Frame.{run-body, judgement-body};
-ghost use Rattle.scanning.specs.Contracts.Cursor.{span-bytes};
-ghost use Rattle.scanning.specs.Contracts.Scan.{FrameReady, Matches};
-ghost use Rattle.scanning.specs.Contracts.Body.{KnowsSheet, task-result};
+ghost use Rattle.scanning.specs.Contracts.Digits.{span-bytes};
+ghost use Rattle.scanning.specs.Contracts.Scan.{FrameReady, Matches, task-result};
+ghost use Rattle.scanning.specs.Contracts.Known.{KnowsSheet};
 
 // A step limit, and a ground term.
 fn run_task(known: Known, s: &[u8], span: Span) -> ReadStatus

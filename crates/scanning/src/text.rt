@@ -7,7 +7,7 @@ ghost use Prim.Native.Nat.{_+_, _≤_, _<_};
 ghost use lib.ListN.{length, take, drop};
 ghost use lib.Dec.{ltb};
 ghost use Rattle.sheet.specs.Text.{base};
-ghost use Rattle.scanning.specs.Contracts.Cursor.{digit-number, pair-at, block, Digits, DigitsTo, LineRead, CountRead};
+ghost use Rattle.scanning.specs.Contracts.Digits.{digit-number, pair-at, block, Digits, DigitsTo, LineRead, CountRead};
 
 // The base of the digits.
 const BASE: usize = 16;

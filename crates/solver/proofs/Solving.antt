@@ -9,7 +9,8 @@ use native.Mathlib.Omega.{arith}
 use Rattle.format.specs.Limits.{position-count}
 use Rattle.terms.specs.Term.{size}
 use Rattle.terms.specs.Equation.{Equation, Direction, left-right, right-left, direction-of, source-position, target-position}
-use Rattle.terms.specs.Theory.Limits.{positions, positions-few}
+use Rattle.terms.specs.Contracts.Limits.{positions}
+use Rattle.terms.specs.Theory.Limits.{positions-few}
 use Rattle.terms.specs.Theory.Position.{size-pos}
 use Rattle.terms.specs.Theory.Positions.{left-at}
 use Rattle.terms.specs.Contracts.Sizes.{Whole, Measurable, node-sizes}
@@ -17,8 +18,8 @@ use Rattle.solving.specs.Walk.{enough, walk, solve}
 use Rattle.unifying.specs.Contracts.PrefixForm.{view-of, InPrefixForm}
 use Rattle.unifying.specs.Contracts.Equation.{equation-sizes}
 use Rattle.unifying.specs.Theory.Equation.{length-nodes, length-sizes, size-at, equation-walk, equation-form}
-use Rattle.walking.specs.declared.solve.Walked.{Walked as Told}
-use Rattle.walking.specs.Contracts.Solve.{Tells}
+use Rattle.walking.specs.declared.solve.WalkResult.{WalkResult as Reported}
+use Rattle.walking.specs.Contracts.Solve.{Reports}
 use Rattle.solver.specs.Contracts.Equation.{EquationIs, walk-bytes}
 use Rattle.solver.specs.Theory.Equation.{equation-whole, equation-measured}
 
@@ -83,18 +84,18 @@ module _ {bytes arities : List ℕ} {e : Equation} (is : EquationIs bytes aritie
       walk-is : (d : Direction) (s t : ℕ) → s ≡ source-position e d → t ≡ target-position e d → walk enough (view-of bytes (take (length bytes) after)) s t ≡ solve e d
       walk-is d s t x y = rw (x, y, sizes-taken, is .spelled) (equation-walk e arities (is .few-symbols) (is .left-fits) (is .right-fits) d)
 
-      module _ (n : ℕ) (d : Direction) (is-direction : direction-of n ≡ some d) (b a : List ℕ) (told : Told) where
-        pub tells-left : n ≡ 0 → Tells (walk enough (view-of bytes (take (length bytes) after)) 0 right) b a told → Tells (solve e d) b a told
+      module _ (n : ℕ) (d : Direction) (is-direction : direction-of n ≡ some d) (b a : List ℕ) (told : Reported) where
+        pub tells-left : n ≡ 0 → Reports (walk enough (view-of bytes (take (length bytes) after)) 0 right) b a told → Reports (solve e d) b a told
         unfolding source-position target-position
         tells-left h t =
             let x = first-direction h is-direction in
-            subst (λ d. Tells (solve e d) b a told) (sym x) (subst (λ w. Tells w b a told) (walk-is left-right 0 right refl right-start) t)
+            subst (λ d. Reports (solve e d) b a told) (sym x) (subst (λ w. Reports w b a told) (walk-is left-right 0 right refl right-start) t)
 
-        pub tells-right : n ≡ 1 → Tells (walk enough (view-of bytes (take (length bytes) after)) right 0) b a told → Tells (solve e d) b a told
+        pub tells-right : n ≡ 1 → Reports (walk enough (view-of bytes (take (length bytes) after)) right 0) b a told → Reports (solve e d) b a told
         unfolding source-position target-position
         tells-right h t =
             let x = second-direction h is-direction in
-            subst (λ d. Tells (solve e d) b a told) (sym x) (subst (λ w. Tells w b a told) (walk-is right-left right 0 right-start refl) t)
+            subst (λ d. Reports (solve e d) b a told) (sym x) (subst (λ w. Reports w b a told) (walk-is right-left right 0 right-start refl) t)
 
 -- Behind the bytes that the walk works in scratch is as it was.
 pub behind-kept : (scratch front : List ℕ) → walk-bytes ≤ length scratch → length front ≡ length (take walk-bytes scratch) → drop walk-bytes (front ++ drop walk-bytes scratch) ≡ drop walk-bytes scratch

@@ -3,7 +3,7 @@ use format::byte::wide;
 use format::limits::Limits;
 use terms::measure::measure;
 use walking::solve::MEMORY;
-use walking::solve::Walked;
+use walking::solve::WalkResult;
 use walking::solve::solve_positions;
 ghost use mathlib.Core.Path.{_≡_};
 ghost use mathlib.Core.Option.{some};
@@ -13,7 +13,7 @@ ghost use Rattle.format.specs.Limits.{table-bytes};
 ghost use Rattle.terms.specs.Equation.{Equation, Direction, direction-of};
 ghost use Rattle.solving.specs.Walk.{solve};
 ghost use Rattle.solver.specs.Contracts.Equation.{EquationIs, HasEquation, walk-bytes};
-ghost use Rattle.walking.specs.Contracts.Solve.{Tells};
+ghost use Rattle.walking.specs.Contracts.Solve.{Reports};
 
 // The walk of one direction of the equation with these bytes. Scratch holds anything in the bytes that the walk works in.
 pub fn solve_equation(
@@ -22,10 +22,10 @@ pub fn solve_equation(
     direction: usize,
     table: &mut [u8],
     scratch: &mut [u8],
-) -> Walked
+) -> WalkResult
     requires { ⌜ HasEquation (now bytes) (now arities) × (direction < 2) ⌝ }
     requires { ⌜ (table-bytes ≤ length (now table)) × (walk-bytes ≤ length (now scratch)) ⌝ }
-    ensures { λ r. ⌜ ((e : Equation) (d : Direction) → EquationIs (now (bytes .entry)) (now (arities .entry)) e → direction-of direction ≡ some d → Tells (solve e d) (now (table .entry)) (now (table .exit)) r) ⌝ }
+    ensures { λ r. ⌜ ((e : Equation) (d : Direction) → EquationIs (now (bytes .entry)) (now (arities .entry)) e → direction-of direction ≡ some d → Reports (solve e d) (now (table .entry)) (now (table .exit)) r) ⌝ }
     ensures { λ _. ⌜ drop walk-bytes (now (scratch .exit)) ≡ drop walk-bytes (now (scratch .entry)) ⌝ }
 {
     let mut sizes = [0u8; Limits::POSITIONS];

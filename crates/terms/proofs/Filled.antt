@@ -33,7 +33,7 @@ middle a b c i end x y h =
     let l : length (a ++ b) ≡ end = length-append a b ∙ omega arith in
     rw (← append-assoc a b c, take-at (a ++ b) c end l, drop-at a b i x)
 
-pub record Filled (arities nodes before : List ℕ) (from end : ℕ) (lengths : List ℕ) (i : ℕ) : Type 0 where
+pub record SizesFilled (arities nodes before : List ℕ) (from end : ℕ) (lengths : List ℕ) (i : ℕ) : Type 0 where
   pub low : from ≤ i
   pub high : i ≤ end
   pub is : lengths ≡ take i before ++ (node-sizes arities (slice i end nodes) ++ drop end before)
@@ -50,11 +50,11 @@ module _ {arities nodes before : List ℕ} {from end : ℕ} (m : Measurable arit
   filled-length : (i : ℕ) → from ≤ i → i ≤ end → length (node-sizes arities (slice i end nodes)) ≡ end - i
   filled-length i h k = length-node-sizes arities (slice i end nodes) ∙ (whole-length arities (slice i end nodes) (whole-from i h k) ∙ length-slice i end nodes (m .nodes-room))
 
-  pub filled-none : Filled arities nodes before from end before end
+  pub filled-none : SizesFilled arities nodes before from end before end
   unfolding node-sizes
   filled-none = record { low = m .ordered; high = omega arith; is = rw (slice-empty end nodes) (sym (take-append-drop end before)) }
 
-  module _ {lengths : List ℕ} {i : ℕ} (f : Filled arities nodes before from end lengths i) where
+  module _ {lengths : List ℕ} {i : ℕ} (f : SizesFilled arities nodes before from end lengths i) where
     taken : length (take i before) ≡ i
     taken = length-take-le i before (omega (arith, m .sizes-room, f .high))
 
@@ -76,7 +76,7 @@ module _ {arities nodes before : List ℕ} {from end : ℕ} (m : Measurable arit
         (whole-from (i - 1) (omega arith) (omega (arith, f .high)), (omega (arith, l, f .high), omega (arith, l, m .few)), rw (slice-rest (i - 1) end nodes, d) filled-part)
 
     pub filled-more : {r : ℕ} → from < i → node-sizes arities (take (end - (i - 1)) (drop (i - 1) nodes)) ≡ r ∷ take (end - i) (drop i lengths)
-        → Filled arities nodes before from end (set lengths (i - 1) r) (i - 1)
+        → SizesFilled arities nodes before from end (set lengths (i - 1) r) (i - 1)
     filled-more {r} h d = record { low = omega arith; high = omega (arith, f .high); is = stored }
       where
         j : ℕ

@@ -1,3 +1,5 @@
 -- What the contracts of the code cite.
 pub mod Arguments
 pub mod Sizes
+pub mod Fits
+pub mod Limits

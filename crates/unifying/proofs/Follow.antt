@@ -32,7 +32,7 @@ module _ (view : ℕ → Node) (θ : Bindings) where
   follow-goes k p q e = rw (e, follow)
 
 module _ {nodes sizes bindings : List ℕ} where
-  pub following-start : {p : ℕ} → p < length nodes → Following nodes sizes bindings p p 8
+  pub following-start : {p : ℕ} → p < length nodes → Following nodes sizes bindings p p variable-count
   unfolding reach
   following-start h = record { within = h; few = omega arith; leads = refl }
 

@@ -9,7 +9,7 @@ use lib.Seq.{getD-set-same, getD-set-other}
 use native.Mathlib.Omega.{arith}
 use native.Mathlib.Decide.{ℕ-discrete, decLt}
 use Rattle.format.specs.Limits.{first-variable, no-position}
-use Rattle.unifying.specs.Contracts.Marks.{OccursAmong, OnlySymbols, Covered, Scanned}
+use Rattle.unifying.specs.Contracts.Marks.{OccursAmong, Covered, SearchedNodes}
 
 -- A variable that was met stays so.
 pub set-keeps : (xs : List ℕ) (u m : ℕ) → 0 < m → (w : ℕ) → 0 < getD xs w 0 → 0 < getD (set xs u m) w 0
@@ -36,7 +36,7 @@ module _ {nodes bs : List ℕ} {v : ℕ} where
   pub covered-more : {a b : List ℕ} {from end : ℕ} → ((w : ℕ) → 0 < getD a w 0 → 0 < getD b w 0) → Covered nodes bs v a from end → Covered nodes bs v b from end
   covered-more f k = record { absent = k .absent; marked = λ w s l. f w (k .marked w s l) }
 
-  pub scanned-start : (end : ℕ) (met : List ℕ) → Scanned nodes bs v end end met met
+  pub scanned-start : (end : ℕ) (met : List ℕ) → SearchedNodes nodes bs v end end met met
   scanned-start end met = record {
     started = omega arith;
     same-length = refl;
@@ -45,9 +45,9 @@ module _ {nodes bs : List ℕ} {v : ℕ} where
     new = λ w e l. absurd (omega arith);
   }
 
-  module _ {i j end : ℕ} (e : i ≡ j + 1) {before after : List ℕ} (k : Scanned nodes bs v i end before after) where
+  module _ {i j end : ℕ} (e : i ≡ j + 1) {before after : List ℕ} (k : SearchedNodes nodes bs v i end before after) where
     -- No variable has to be marked there.
-    scanned-next : ((u : ℕ) → getD nodes j 0 ≡ first-variable + u → (u ≡ v → ⊥) × (getD bs u 0 < no-position → 0 < getD after u 0)) → Scanned nodes bs v j end before after
+    scanned-next : ((u : ℕ) → getD nodes j 0 ≡ first-variable + u → (u ≡ v → ⊥) × (getD bs u 0 < no-position → 0 < getD after u 0)) → SearchedNodes nodes bs v j end before after
     scanned-next f = record {
       started = omega (arith, k .started);
       same-length = k .same-length;
@@ -59,16 +59,16 @@ module _ {nodes bs : List ℕ} {v : ℕ} where
       new = λ w d l. let (a, b, s) = k .new w d l in (a, b, among-more e s);
     }
 
-    pub scanned-symbol : getD nodes j 0 < first-variable → Scanned nodes bs v j end before after
+    pub scanned-symbol : getD nodes j 0 < first-variable → SearchedNodes nodes bs v j end before after
     scanned-symbol h = scanned-next (λ u d. absurd (omega arith))
 
     -- A variable that is free, or that was met before.
-    pub scanned-variable : (w : ℕ) → getD nodes j 0 ≡ first-variable + w → (w ≡ v → ⊥) → (getD bs w 0 < no-position → 0 < getD after w 0) → Scanned nodes bs v j end before after
+    pub scanned-variable : (w : ℕ) → getD nodes j 0 ≡ first-variable + w → (w ≡ v → ⊥) → (getD bs w 0 < no-position → 0 < getD after w 0) → SearchedNodes nodes bs v j end before after
     scanned-variable w d n f = scanned-next (λ u c. let x : u ≡ w = omega arith in rw x (n, f))
 
     -- A bound variable that was not met before.
     pub scanned-met : (u : ℕ) → getD nodes j 0 ≡ first-variable + u → (u ≡ v → ⊥) → getD bs u 0 < no-position → getD after u 0 ≡ 0 → u < length after
-        → Scanned nodes bs v j end before (set after u 1)
+        → SearchedNodes nodes bs v j end before (set after u 1)
     scanned-met u d n b z l = record {
       started = omega (arith, k .started);
       same-length = length-set after u 1 ∙ k .same-length;
@@ -93,34 +93,12 @@ module _ {nodes bs : List ℕ} {v : ℕ} where
             (ap (λ (y : ℕ). getD (set after u 1) y 0) x ∙ getD-set-same after u 1 0 l, rw x b, s)
         new w c m (no x) = let y = getD-set-other after u w 1 0 x in let (a, f, s) = k .new w c (omega arith) in (y ∙ a, f, among-more e s)
 
-  -- Symbols that are passed over.
-  pub scanned-symbols : {i j end : ℕ} {before after : List ℕ} → Scanned nodes bs v i end before after → j ≤ i → OnlySymbols nodes j i → Scanned nodes bs v j end before after
-  scanned-symbols {i} {j} {end} {before} {after} k l o = record {
-    started = omega (arith, k .started);
-    same-length = k .same-length;
-    closed = record { absent = λ s. k .closed .absent (later v s); marked = λ w s m. k .closed .marked w (later w s) m };
-    kept = k .kept;
-    new = λ w d m. let (a, b, s) = k .new w d m in (a, b, record { position = s .position; behind = omega (arith, s .behind); ahead = s .ahead; byte = s .byte });
-  }
-    where
-      later : (w : ℕ) → OccursAmong nodes j end w → OccursAmong nodes i end w
-      later w s = elim (decLt (s .position) i) [
-        | yes h ↦ absurd (omega (arith, o .all (s .position) (s .behind) h, s .byte))
-        | no h ↦ record { position = s .position; behind = omega arith; ahead = s .ahead; byte = s .byte }
-      ]
-
-pub symbols-none : {nodes : List ℕ} (end : ℕ) → OnlySymbols nodes end end
-symbols-none end = record { all = λ q a b. absurd (omega arith) }
-
-pub symbols-more : {nodes : List ℕ} {i j end : ℕ} → i ≡ j + 1 → getD nodes j 0 < first-variable → OnlySymbols nodes i end → OnlySymbols nodes j end
-symbols-more {nodes} {i} {j} {end} e h o = record { all = λ q a b. elim (ℕ-discrete q j) [ yes d ↦ rw d h | no d ↦ o .all q (omega arith) b ] }
-
 -- What the code ensures of its answer.
 module _ {nodes bs : List ℕ} {v from end : ℕ} {before after : List ℕ} where
-  pub found : OccursAmong nodes from end v → (true ≡ true → OccursAmong nodes from end v) × (true ≡ false → Scanned nodes bs v from end before after)
+  pub found : OccursAmong nodes from end v → (true ≡ true → OccursAmong nodes from end v) × (true ≡ false → SearchedNodes nodes bs v from end before after)
   found s = (λ e. s, λ e. let z : _≡_ {A = ℕ} 0 1 = cc in absurd (omega arith))
 
-  pub not-found : Scanned nodes bs v from end before after → (false ≡ true → OccursAmong nodes from end v) × (false ≡ false → Scanned nodes bs v from end before after)
+  pub not-found : SearchedNodes nodes bs v from end before after → (false ≡ true → OccursAmong nodes from end v) × (false ≡ false → SearchedNodes nodes bs v from end before after)
   not-found k = (λ e. let z : _≡_ {A = ℕ} 0 1 = cc in absurd (omega arith), λ e. k)
 
 -- How far the variables are from being looked through, together.
@@ -141,7 +119,7 @@ weight-set [] w e = absurd (omega arith)
 weight-set (x ∷ a) zero e = omega arith
 weight-set (x ∷ a) (suc w) e = omega (arith, weight-set a w e)
 
-pub weight-next : {nodes bs : List ℕ} {v from end : ℕ} {before after : List ℕ} → Scanned nodes bs v from end before after → (w : ℕ) → getD after w 0 ≡ 1 → weight (set after w 2) < weight before
+pub weight-next : {nodes bs : List ℕ} {v from end : ℕ} {before after : List ℕ} → SearchedNodes nodes bs v from end before after → (w : ℕ) → getD after w 0 ≡ 1 → weight (set after w 2) < weight before
 weight-next {before} {after} k w e = omega (arith, weight-set after w e, weight-falls before after (sym (k .same-length)) (λ u. rise u (decLt 0 (getD before u 0))))
   where
     rise : (u : ℕ) → Dec (0 < getD before u 0) → getD before u 0 ≤ getD after u 0

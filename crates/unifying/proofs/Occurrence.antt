@@ -22,7 +22,7 @@ use Rattle.unifying.specs.Contracts.Bindings.{bindings-of}
 use Rattle.unifying.specs.Theory.PrefixForm.{getD-any, variable-seen, seen-variable, form-layout}
 use Rattle.unifying.specs.Theory.Bindings.{bound-byte, free-byte, lookup-byte, length-bindings, bound-there}
 use Rattle.unifying.proofs.Within.{Part, whole, inside as within, size-pos, part-at, part-start, part-end, part-argument}
-use Rattle.unifying.specs.Contracts.Marks.{OccursAmong, Covered, Scanned}
+use Rattle.unifying.specs.Contracts.Marks.{OccursAmong, Covered, SearchedNodes}
 use Rattle.unifying.proofs.Marks.{set-keeps, covered-more}
 
 -- A binding and its byte.
@@ -128,7 +128,7 @@ module _ {nodes sizes bs : List ℕ} {v : ℕ} (g : Sought nodes sizes bs v) whe
     pub search-found : {met : List ℕ} {next : ℕ} → Search nodes sizes bs v p met next → OccursAmong nodes next (next + getD sizes next 0) v → OccursAt nodes sizes bs v p
     search-found k s = k .leads (stands-occurs (k .within) s)
 
-    pub search-passed : {met after : List ℕ} {next : ℕ} → Search nodes sizes bs v p met next → Scanned nodes bs v next (next + getD sizes next 0) met after → Searched nodes sizes bs v p after
+    pub search-passed : {met after : List ℕ} {next : ℕ} → Search nodes sizes bs v p met next → SearchedNodes nodes bs v next (next + getD sizes next 0) met after → Searched nodes sizes bs v p after
     search-passed {met} {after} {next} k a = record {
       marks = record { each = a .same-length ∙ k .marks .each; bound = λ w h. bound-now w h (decLt 0 (getD met w 0)); leads = λ w h o. leads-now w h o (decLt 0 (getD met w 0)) };
       closed = closed;

@@ -6,13 +6,13 @@ ghost use mathlib.Core.Bool.{true, false};
 ghost use mathlib.Core.Option.{none};
 ghost use Prim.Native.Nat.{ℕ, _+_, _≤_, _<_};
 ghost use lib.ListN.{length, getD};
-ghost use Rattle.format.specs.Limits.{variable-count, position-count};
+ghost use Rattle.format.specs.Limits.{variable-count};
 ghost use Rattle.solving.specs.Line.{lookup};
 ghost use Rattle.solving.specs.Walk.{enough, occurs};
 ghost use Rattle.solving.specs.Contracts.Bindings.{Proper};
 ghost use Rattle.unifying.specs.Contracts.PrefixForm.{view-of, InPrefixForm};
 ghost use Rattle.unifying.specs.Contracts.Bindings.{bindings-of};
-ghost use Rattle.unifying.specs.Contracts.Marks.{OccursAmong, OnlySymbols, Scanned};
+ghost use Rattle.unifying.specs.Contracts.Marks.{OccursAmong, SearchedNodes};
 
 // The marks of a variable. Only bound variables are marked.
 const NOT_MET: u8 = 0;
@@ -55,16 +55,12 @@ fn search_term(
     requires { ⌜ InPrefixForm (now nodes) (now sizes) × (p < length (now nodes)) ⌝ }
     requires { ⌜ (length (now bindings) ≡ variable-count) × (length (now met) ≡ variable-count) ⌝ }
     ensures { λ r. ⌜ (r ≡ true → OccursAmong (now (nodes .entry)) p (p + getD (now (sizes .entry)) p 0) v) ⌝ }
-    ensures { λ r. ⌜ (r ≡ false → Scanned (now (nodes .entry)) (now (bindings .entry)) v p (p + getD (now (sizes .entry)) p 0) (now (met .entry)) (now (met .exit))) ⌝ }
+    ensures { λ r. ⌜ (r ≡ false → SearchedNodes (now (nodes .entry)) (now (bindings .entry)) v p (p + getD (now (sizes .entry)) p 0) (now (met .entry)) (now (met .exit))) ⌝ }
 {
     let end = p + wide(sizes[p]);
     // From the end: the last node of a term is a variable or a constant, and so variables are found there first.
     let mut i = end;
     while p < i {
-        i = skip_symbols(nodes, p, i);
-        if i == p {
-            return false;
-        }
         i = i - 1;
         let byte = nodes[i];
         if Limits::FIRST_VARIABLE <= byte {
@@ -80,30 +76,6 @@ fn search_term(
         }
     }
     false
-}
-
-// Goes back from `end` over symbols, four at a time, as far as none of the four is a variable.
-fn skip_symbols(nodes: &[u8], from: usize, end: usize) -> usize
-    requires { ⌜ (from ≤ end) × (end ≤ length (now nodes)) × (length (now nodes) ≤ position-count) ⌝ }
-    ensures { λ r. ⌜ (from ≤ r) × (r ≤ end) × OnlySymbols (now (nodes .entry)) r end ⌝ }
-{
-    let mut i = end;
-    while from + 4 <= i {
-        if Limits::FIRST_VARIABLE <= nodes[i - 1] {
-            return i;
-        }
-        if Limits::FIRST_VARIABLE <= nodes[i - 2] {
-            return i - 1;
-        }
-        if Limits::FIRST_VARIABLE <= nodes[i - 3] {
-            return i - 2;
-        }
-        if Limits::FIRST_VARIABLE <= nodes[i - 4] {
-            return i - 3;
-        }
-        i = i - 4;
-    }
-    i
 }
 
 // The first variable that is met and still to be looked through, or how many variables there are.

@@ -1,36 +1,35 @@
 -- The walk from its first line to its end.
-use Prim.Native.Nat.{ℕ, suc, _+_, _-_, _*_, _≤_, _<_}
+use Prim.Native.Nat.{ℕ, _+_, _-_, _*_, _≤_, _<_}
 use mathlib.Core.Path.{_≡_, refl, sym, ap, subst, _∙_}
-use mathlib.Core.List.{List, [], _∷_, _++_, map, append-nil}
-use lib.ListN.{length, getD, set, take, drop, replicate, length-append}
-use lib.Seq.{drop-length, getD-take, length-take-le}
+use mathlib.Core.List.{List, [], _∷_, _++_}
+use lib.ListN.{length, getD, set, take, drop, replicate}
+use lib.Seq.{drop-length, getD-take}
 use native.Mathlib.Omega.{arith}
 use Rattle.format.specs.Buffer.{written}
 use Rattle.format.specs.Limits.{variable-count, no-position, max-lines, max-turns, record-bytes}
 use Rattle.format.specs.declared.refusal.Refusal.{Refusal}
-use Rattle.solving.specs.Line.{no-bindings, greater, Line, line as line-with, records}
-use Rattle.solving.specs.Walk.{enough, solved, refused, walk-from, walk}
-use Rattle.solving.specs.Contracts.Bindings.{Proper}
+use Rattle.solving.specs.Line.{no-bindings, records}
+use Rattle.solving.specs.Walk.{enough, walk-from, walk}
 use Rattle.solving.specs.Theory.Whole.{no-bindings-proper}
 use Rattle.walking.specs.declared.walk.Walk.{Walk}
 use Rattle.walking.specs.declared.walk.Advanced.{Advanced}
 use Rattle.walking.specs.declared.walk.Progress.{Progress}
 use Rattle.walking.specs.declared.walk.Progress.the-variants.{Going, Refused}
-use Rattle.walking.specs.declared.solve.Ending.the-variants.{Solved, Refused as Unsolved}
-use Rattle.walking.specs.Contracts.Solve.{WalkedAs}
+use Rattle.walking.specs.declared.solve.WalkEnd.the-variants.{Solved, Refused as Unsolved}
+use Rattle.walking.specs.Contracts.Solve.{ReportsWalk}
 use Rattle.unifying.specs.Contracts.PrefixForm.{view-of, InPrefixForm}
 use Rattle.unifying.specs.Contracts.Bindings.{bindings-of, Readable}
-use Rattle.lines.specs.Contracts.Stored.{Stored, line-of, stored-bytes}
-use Rattle.lines.specs.Contracts.Named.{opening-line}
+use Rattle.lines.specs.Contracts.Resting.{resting-bytes}
+use Rattle.lines.specs.Contracts.Line.{opening-line}
 use Rattle.lines.specs.Contracts.Layout.{line-bytes, placed}
-use Rattle.lines.specs.Contracts.Place.{lines-bytes}
-use Rattle.walking.specs.Contracts.Sound.{Sound}
-use Rattle.walking.specs.Contracts.Walking.{memory-bytes, Memory, whole-walk, Walking, left-to-do, Further, GoesOn, Advances, Outcome, End, Comes}
+use Rattle.lines.specs.Contracts.Room.{lines-bytes}
+use Rattle.walking.specs.Contracts.WellFormed.{WellFormed}
+use Rattle.walking.specs.Contracts.Walking.{memory-bytes, whole-walk, Walking, left-to-do, GoesOn, Advances, AdvancesAs, EndsAs, WalkEnds}
 use Rattle.unifying.specs.Theory.Front.{Fronting, fronting-next, fronting-done}
 use Rattle.unifying.specs.Theory.PrefixForm.{form-layout}
-use Rattle.lines.specs.Theory.Place.{placed-length}
-use Rattle.lines.specs.Theory.Named.{opening-means}
-use Rattle.walking.proofs.Walking.{placed-back, sound-length, ended}
+use Rattle.lines.specs.Theory.Placed.{placed-length}
+use Rattle.lines.specs.Theory.Line.{opening-means}
+use Rattle.walking.proofs.Walking.{placed-back, well-formed-length, ended}
 
 -- 1. The opening line.
 module _ {nodes sizes : List ℕ} (laid : InPrefixForm nodes sizes) (s t : ℕ) (i : s < length nodes) (j : t < length nodes) where
@@ -38,9 +37,9 @@ module _ {nodes sizes : List ℕ} (laid : InPrefixForm nodes sizes) (s t : ℕ) 
   unfolding bindings-of no-bindings
   opening-readable = record { laid = laid; proper = no-bindings-proper (form-layout laid) }
 
-  opening-sound : Sound nodes sizes (opening-line s t)
+  opening-well-formed : WellFormed nodes sizes (opening-line s t)
   unfolding opening-line
-  opening-sound = record { readable = opening-readable; within = ((i, j), tt); few = omega arith; known = omega arith; reduced-known = tt }
+  opening-well-formed = record { readable = opening-readable; within = ((i, j), tt); few = omega arith; known = omega arith; reduced-known = tt }
 
   -- The last place of the memory.
   abbrev first-place : ℕ
@@ -49,11 +48,11 @@ module _ {nodes sizes : List ℕ} (laid : InPrefixForm nodes sizes) (s t : ℕ) 
   abbrev at-first : Walk
   at-first = record { source = s; target = t; done = 0; top = first-place; turns = 0 }
 
-  pub opening-walks : (memory memory′ line : List ℕ) → length memory ≡ memory-bytes → line ≡ stored-bytes (opening-line s t) → memory′ ≡ placed (first-place * line-bytes) line memory
+  pub opening-walks : (memory memory′ line : List ℕ) → length memory ≡ memory-bytes → line ≡ resting-bytes (opening-line s t) → memory′ ≡ placed (first-place * line-bytes) line memory
       → Walking nodes sizes memory′ at-first
   unfolding lines-bytes records walk
   opening-walks memory memory′ line l b e =
-      let k : length line ≡ line-bytes = ap length b ∙ sound-length (opening-line s t) opening-sound in
+      let k : length line ≡ line-bytes = ap length b ∙ well-formed-length (opening-line s t) opening-well-formed in
       let room : first-place * line-bytes + length line ≡ length memory = omega arith in
       record {
         laid = laid;
@@ -71,14 +70,14 @@ module _ {nodes sizes : List ℕ} (laid : InPrefixForm nodes sizes) (s t : ℕ) 
           top-is = refl;
           ordered = omega arith;
           all-finished = tt;
-          all-sound = (opening-sound, tt);
+          all-well-formed = (opening-well-formed, tt);
         };
         turns-within = omega arith;
         leads = ap (λ l. walk-from enough (view-of nodes sizes) max-turns 0 (l ∷ [])) (opening-means s t);
       }
 
 -- 2. From turn to turn.
-pub record Coming (nodes sizes memory : List ℕ) (w v : Walk) : Type 0 where
+pub record Underway (nodes sizes memory : List ℕ) (w v : Walk) : Type 0 where
   pub walking : Walking nodes sizes memory v
   pub same-source : v .source ≡ w .source
   pub same-target : v .target ≡ w .target
@@ -87,17 +86,17 @@ pub record Coming (nodes sizes memory : List ℕ) (w v : Walk) : Type 0 where
 same-walk : (nodes sizes : List ℕ) (w v : Walk) → v .source ≡ w .source → v .target ≡ w .target → whole-walk nodes sizes v ≡ whole-walk nodes sizes w
 same-walk nodes sizes w v a b = rw (a, b)
 
-pub coming-falls : {nodes sizes memory′ : List ℕ} {v : Walk} (a : Advanced) → Advances nodes sizes memory′ v a → a .progress ≡ Going
+pub underway-falls : {nodes sizes memory′ : List ℕ} {v : Walk} (a : Advanced) → Advances nodes sizes memory′ v a → a .progress ≡ Going
     → left-to-do (a .walk) < left-to-do v
-coming-falls {nodes = nodes} {sizes = sizes} {memory′ = memory′} {v = v} a s e =
-    let g : GoesOn nodes sizes memory′ v (a .walk) = subst (λ p. Outcome nodes sizes memory′ v (a .walk) p) e (s .outcome) in
+underway-falls {nodes = nodes} {sizes = sizes} {memory′ = memory′} {v = v} a s e =
+    let g : GoesOn nodes sizes memory′ v (a .walk) = subst (λ p. AdvancesAs nodes sizes memory′ v (a .walk) p) e (s .outcome) in
     g .further .falls
 
 module _ {nodes sizes : List ℕ} {w v : Walk} where
-  pub coming-on : {memory memory′ : List ℕ} → Coming nodes sizes memory w v → (a : Advanced) → Advances nodes sizes memory′ v a → a .progress ≡ Going
-      → Coming nodes sizes memory′ w (a .walk)
-  coming-on {memory′ = memory′} c a s e =
-      let g : GoesOn nodes sizes memory′ v (a .walk) = subst (λ p. Outcome nodes sizes memory′ v (a .walk) p) e (s .outcome) in
+  pub underway-on : {memory memory′ : List ℕ} → Underway nodes sizes memory w v → (a : Advanced) → Advances nodes sizes memory′ v a → a .progress ≡ Going
+      → Underway nodes sizes memory′ w (a .walk)
+  underway-on {memory′ = memory′} c a s e =
+      let g : GoesOn nodes sizes memory′ v (a .walk) = subst (λ p. AdvancesAs nodes sizes memory′ v (a .walk) p) e (s .outcome) in
       record {
         walking = g .walking;
         same-source = g .further .same-source ∙ c .same-source;
@@ -105,18 +104,18 @@ module _ {nodes sizes : List ℕ} {w v : Walk} where
         top-within = g .further .top-within;
       }
 
-  pub coming-refused : {memory memory′ : List ℕ} → Coming nodes sizes memory w v → (a : Advanced) → Advances nodes sizes memory′ v a → (a .progress ≡ Going → ⊥) → Comes nodes sizes memory′ w a
-  coming-refused {memory′ = memory′} c a s n = go (a .progress) refl (s .outcome)
+  pub underway-refused : {memory memory′ : List ℕ} → Underway nodes sizes memory w v → (a : Advanced) → Advances nodes sizes memory′ v a → (a .progress ≡ Going → ⊥) → WalkEnds nodes sizes memory′ w a
+  underway-refused {memory′ = memory′} c a s n = go (a .progress) refl (s .outcome)
     where
-      go : (p : Progress) → a .progress ≡ p → Outcome nodes sizes memory′ v (a .walk) p → Comes nodes sizes memory′ w a
+      go : (p : Progress) → a .progress ≡ p → AdvancesAs nodes sizes memory′ v (a .walk) p → WalkEnds nodes sizes memory′ w a
       go Going e o = absurd (n e)
-      go (Refused r) e o = record { end = subst (λ p. End nodes sizes memory′ w (a .walk) p) (sym e) (sym (same-walk nodes sizes w v (c .same-source) (c .same-target)) ∙ o) }
+      go (Refused r) e o = record { end = subst (λ p. EndsAs nodes sizes memory′ w (a .walk) p) (sym e) (sym (same-walk nodes sizes w v (c .same-source) (c .same-target)) ∙ o) }
 
-  pub coming-ends : {memory : List ℕ} → Coming nodes sizes memory w v → max-lines ≤ v .top → Comes nodes sizes memory w (record { progress = Going; walk = v })
-  coming-ends c h = record { end = (c .walking, h, same-walk nodes sizes w v (c .same-source) (c .same-target)) }
+  pub underway-ends : {memory : List ℕ} → Underway nodes sizes memory w v → max-lines ≤ v .top → WalkEnds nodes sizes memory w (record { progress = Going; walk = v })
+  underway-ends c h = record { end = (c .walking, h, same-walk nodes sizes w v (c .same-source) (c .same-target)) }
 
-pub coming-start : {nodes sizes memory : List ℕ} (w : Walk) → Walking nodes sizes memory w → Coming nodes sizes memory w w
-coming-start w k = record { walking = k; same-source = refl; same-target = refl; top-within = omega (arith, k .holds .top-is) }
+pub underway-start : {nodes sizes memory : List ℕ} (w : Walk) → Walking nodes sizes memory w → Underway nodes sizes memory w w
+underway-start w k = record { walking = k; same-source = refl; same-target = refl; top-within = omega (arith, k .holds .top-is) }
 
 -- 3. What the walk ended with is copied to the table.
 pub front-next : (n i : ℕ) (from before after : List ℕ) → Fronting n (take n from) before after i → i < n → Fronting n (take n from) before (set after i (getD from i 0)) (i + 1)
@@ -127,12 +126,12 @@ unfolding written
 front-done n i from before after f h = fronting-done f h ∙ ap (λ k. take n from ++ drop k before) (sym (f .whole))
 
 -- 4. The end of the walk, told.
-module _ {nodes sizes memory : List ℕ} {w : Walk} (source target : ℕ) (same-source : w .source ≡ source) (same-target : w .target ≡ target) (a : Advanced) (c : Comes nodes sizes memory w a) where
+module _ {nodes sizes memory : List ℕ} {w : Walk} (source target : ℕ) (same-source : w .source ≡ source) (same-target : w .target ≡ target) (a : Advanced) (c : WalkEnds nodes sizes memory w a) where
   comes-walk : whole-walk nodes sizes w ≡ walk enough (view-of nodes sizes) source target
   comes-walk = rw (same-source, same-target)
 
-  ended-as : a .progress ≡ Going → End nodes sizes memory w (a .walk) Going
-  ended-as e = subst (λ p. End nodes sizes memory w (a .walk) p) e (c .end)
+  ended-as : a .progress ≡ Going → EndsAs nodes sizes memory w (a .walk) Going
+  ended-as e = subst (λ p. EndsAs nodes sizes memory w (a .walk) p) e (c .end)
 
   pub places-within : a .progress ≡ Going → (a .walk .done ≤ a .walk .top) × (a .walk .top ≤ max-lines)
   places-within e =
@@ -140,11 +139,11 @@ module _ {nodes sizes memory : List ℕ} {w : Walk} (source target : ℕ) (same-
       (m .ordered, omega (arith, m .top-is))
 
   pub solved-tells : a .progress ≡ Going → (table table′ : List ℕ) → table′ ≡ written (take (a .walk .done * record-bytes) memory) table
-      → WalkedAs nodes sizes source target table table′ (record { ending = Solved; lines = a .walk .done; turns = a .walk .turns })
+      → ReportsWalk nodes sizes source target table table′ (record { ending = Solved; lines = a .walk .done; turns = a .walk .turns })
   solved-tells e table table′ t =
       let (k, h, s) = ended-as e in
       let (x, y, z) = ended nodes sizes memory (a .walk) k h in
       record { ends = (k .finished, sym comes-walk ∙ (sym s ∙ x), sym y, t ∙ ap (λ part. written part table) z) }
 
-  pub refused-tells : (why : Refusal) → a .progress ≡ Refused why → (table : List ℕ) → WalkedAs nodes sizes source target table table (record { ending = Unsolved why; lines = 0; turns = 0 })
-  refused-tells why e table = record { ends = (sym comes-walk ∙ subst (λ p. End nodes sizes memory w (a .walk) p) e (c .end), refl) }
+  pub refused-tells : (why : Refusal) → a .progress ≡ Refused why → (table : List ℕ) → ReportsWalk nodes sizes source target table table (record { ending = Unsolved why; lines = 0; turns = 0 })
+  refused-tells why e table = record { ends = (sym comes-walk ∙ subst (λ p. EndsAs nodes sizes memory w (a .walk) p) e (c .end), refl) }

@@ -1,38 +1,37 @@
 -- The lines that replace a line: what they say, that they are sound, and their bytes.
-use Prim.Native.Nat.{ℕ, zero, suc, _+_, _-_, _*_, _≤_, _<_}
-use mathlib.Core.Path.{_≡_, refl, sym, ap, ap₂, _∙_}
+use Prim.Native.Nat.{ℕ, zero, suc, _+_, _*_, _≤_, _<_}
+use mathlib.Core.Path.{_≡_, refl, ap, ap₂, _∙_}
 use mathlib.Core.Bool.{Bool, true, false, _||_}
-use mathlib.Core.Option.{none, some}
-use mathlib.Core.List.{List, [], _∷_, _++_, map, map-append, append-assoc, append-nil}
-use lib.ListN.{length, take, length-append, length-map}
+use mathlib.Core.Option.{some}
+use mathlib.Core.List.{List, [], _∷_, _++_, map, append-assoc, append-nil}
+use lib.ListN.{length, length-append, length-map}
 use lib.Seq.{take-append-seam}
-use lib.Dec.{ltb}
-use borrow.Author.Tests.{lt-ltb, le-ltb}
+use borrow.Author.Tests.{lt-ltb}
 use native.Mathlib.Decide.{ℕ-discrete, decLt}
 use native.Mathlib.Omega.{arith}
 use Rattle.format.specs.Lists.{any}
 use Rattle.format.specs.Limits.{variable-count, max-elements}
-use Rattle.solving.specs.Line.{Bindings, Element, equal, greater, Line, line}
+use Rattle.solving.specs.Line.{Bindings, Element, equal, Line, line}
 use Rattle.solving.specs.Walk.{enough, becomes, argument-choices, exceeds-each, lexicographic-choices, precedence-choices, same-symbol-choices, choices, treat, treat-line, crowded}
 use Rattle.solving.specs.Theory.Reach.{enough-suffices}
-use Rattle.solving.specs.Theory.Table.{ProperTable, treat-proper}
 use Rattle.solving.specs.Contracts.Within.{Within, AllWithin}
+use Rattle.solving.specs.Theory.Table.{ProperTable, treat-proper}
 use Rattle.unifying.specs.Contracts.PrefixForm.{view-of}
 use Rattle.unifying.specs.Contracts.Bindings.{bindings-of, Readable}
-use Rattle.lines.specs.Contracts.Stored.{marks, padding, Stored, line-of, stored-bytes}
-use Rattle.lines.specs.Contracts.Place.{lines-bytes, front-bytes, back-bytes}
+use Rattle.lines.specs.Contracts.Resting.{marks, padding, RestingLine, line-of, resting-bytes}
+use Rattle.lines.specs.Contracts.Room.{lines-bytes, front-bytes, back-bytes}
 use Rattle.lines.specs.Contracts.Choices.{choices-bytes}
-use Rattle.walking.specs.Contracts.Sound.{AllReduced, Sound}
-use Rattle.walking.specs.Contracts.Walking.{AllSound}
+use Rattle.walking.specs.Contracts.WellFormed.{AllReduced, WellFormed}
+use Rattle.walking.specs.Contracts.Walking.{AllWellFormed}
 use Rattle.walking.specs.Contracts.Children.{child}
 use Rattle.walking.specs.Contracts.Splitting.{AllLong, lesser}
 use Rattle.unifying.specs.Theory.PrefixForm.{form-layout}
-use Rattle.lines.specs.Theory.Stored.{marks-append}
+use Rattle.lines.specs.Theory.Resting.{marks-append}
 use Rattle.walking.proofs.Turn.{around, leftmost-some}
 use Rattle.walking.proofs.Walking.{settled}
 
 -- 1. What they say.
-pub first-treated : (nodes sizes : List ℕ) (l : Stored) (pre : List Element) (e : Element) (post : List Element) (ms : List Line) → l .elements ≡ pre ++ (e ∷ post)
+pub first-treated : (nodes sizes : List ℕ) (l : RestingLine) (pre : List Element) (e : Element) (post : List Element) (ms : List Line) → l .elements ≡ pre ++ (e ∷ post)
     → AllReduced nodes sizes (l .bindings) pre → treat enough (view-of nodes sizes) (bindings-of (l .bindings)) e ≡ becomes ms
     → treat-line enough (view-of nodes sizes) (line-of l) ≡ some (map (around pre post) ms)
 unfolding line-of treat-line
@@ -58,7 +57,7 @@ within-both : (n : ℕ) (es fs : List Element) → AllWithin n es → AllWithin 
 within-both n [] fs h k = k
 within-both n (e ∷ es) fs h k = (h .0, within-both n es fs (h .1) k)
 
-module _ {nodes sizes : List ℕ} (l : Stored) (s : Sound nodes sizes l) (pre : List Element) (e : Element) (post : List Element) (split : l .elements ≡ pre ++ (e ∷ post)) where
+module _ {nodes sizes : List ℕ} (l : RestingLine) (s : WellFormed nodes sizes l) (pre : List Element) (e : Element) (post : List Element) (split : l .elements ≡ pre ++ (e ∷ post)) where
   pre-within : AllWithin (length nodes) pre
   pre-within = within-left (length nodes) pre (e ∷ post) (rw split at (s .within))
 
@@ -72,9 +71,9 @@ module _ {nodes sizes : List ℕ} (l : Stored) (s : Sound nodes sizes l) (pre : 
   length-split = ap length split ∙ omega (arith, length-append pre (e ∷ post))
 
   -- With the bindings of the line.
-  pub child-sound : AllReduced nodes sizes (l .bindings) pre → (cs : List Element) → AllWithin (length nodes) cs → length pre + (length cs + length post) ≤ max-elements
-      → Sound nodes sizes (child (l .bindings) pre post cs)
-  child-sound r cs w k =
+  pub child-well-formed : AllReduced nodes sizes (l .bindings) pre → (cs : List Element) → AllWithin (length nodes) cs → length pre + (length cs + length post) ≤ max-elements
+      → WellFormed nodes sizes (child (l .bindings) pre post cs)
+  child-well-formed r cs w k =
       let a = length-append cs post in
       let b = length-append pre (cs ++ post) in
       record {
@@ -86,8 +85,8 @@ module _ {nodes sizes : List ℕ} (l : Stored) (s : Sound nodes sizes l) (pre : 
       }
 
   -- With other bindings, under which no element has been looked at.
-  pub rebound-sound : (bs : List ℕ) → Readable nodes sizes bs → Sound nodes sizes (record { bindings = bs; elements = pre ++ post; reduced = 0 })
-  rebound-sound bs r =
+  pub rebound-well-formed : (bs : List ℕ) → Readable nodes sizes bs → WellFormed nodes sizes (record { bindings = bs; elements = pre ++ post; reduced = 0 })
+  rebound-well-formed bs r =
       record {
         readable = r;
         within = within-both (length nodes) pre post pre-within post-within;
@@ -101,15 +100,15 @@ module _ {nodes sizes : List ℕ} (l : Stored) (s : Sound nodes sizes l) (pre : 
   Fitting [] = Unit {0}
   Fitting (cs ∷ css) = (length pre + (length cs + length post) ≤ max-elements) × Fitting css
 
-  lines-sound : AllReduced nodes sizes (l .bindings) pre → (css : List (List Element)) → ProperTable (view-of nodes sizes) variable-count (length nodes) (map (line (bindings-of (l .bindings))) css) → Fitting css
-      → AllSound nodes sizes (map (child (l .bindings) pre post) css)
-  lines-sound r [] p f = tt
-  lines-sound r (cs ∷ css) p f = (child-sound r cs (p .0 .1) (f .0), lines-sound r css (p .1) (f .1))
+  lines-well-formed : AllReduced nodes sizes (l .bindings) pre → (css : List (List Element)) → ProperTable (view-of nodes sizes) variable-count (length nodes) (map (line (bindings-of (l .bindings))) css) → Fitting css
+      → AllWellFormed nodes sizes (map (child (l .bindings) pre post) css)
+  lines-well-formed r [] p f = tt
+  lines-well-formed r (cs ∷ css) p f = (child-well-formed r cs (p .0 .1) (f .0), lines-well-formed r css (p .1) (f .1))
 
-  pub children-sound : AllReduced nodes sizes (l .bindings) pre → (css : List (List Element)) → treat enough (view-of nodes sizes) (bindings-of (l .bindings)) e ≡ becomes (map (line (bindings-of (l .bindings))) css)
-      → Fitting css → AllSound nodes sizes (map (child (l .bindings) pre post) css)
-  children-sound r css t f =
-      lines-sound r css
+  pub children-well-formed : AllReduced nodes sizes (l .bindings) pre → (css : List (List Element)) → treat enough (view-of nodes sizes) (bindings-of (l .bindings)) e ≡ becomes (map (line (bindings-of (l .bindings))) css)
+      → Fitting css → AllWellFormed nodes sizes (map (child (l .bindings) pre post) css)
+  children-well-formed r css t f =
+      lines-well-formed r css
       (treat-proper (form-layout (s .readable .laid)) (enough-suffices (s .readable .laid .few)) (bindings-of (l .bindings)) e (map (line (bindings-of (l .bindings))) css) (s .readable .proper) element-within t)
       f
 
@@ -123,9 +122,9 @@ module _ {nodes sizes : List ℕ} (l : Stored) (s : Sound nodes sizes l) (pre : 
   fitting-all n (cs ∷ css) h k = (omega (arith, h .0), fitting-all n css (h .1) k)
 
 -- 3. Their bytes, where all choices have `n` elements.
-pub child-bytes : (bs : List ℕ) (pre post cs : List Element) → stored-bytes (child bs pre post cs)
+pub child-bytes : (bs : List ℕ) (pre post cs : List Element) → resting-bytes (child bs pre post cs)
     ≡ front-bytes bs (length pre + length cs + length post) pre ++ (marks cs ++ back-bytes (length pre + length cs + length post) post (length pre))
-unfolding stored-bytes front-bytes back-bytes
+unfolding resting-bytes front-bytes back-bytes
 child-bytes bs pre post cs =
     let c : length (pre ++ (cs ++ post)) ≡ length pre + length cs + length post = length-append pre (cs ++ post) ∙ omega (arith, length-append cs post) in
     let m : marks (pre ++ (cs ++ post)) ≡ marks pre ++ (marks cs ++ marks post) = marks-append pre (cs ++ post) ∙ ap (marks pre ++_) (marks-append cs post) in

@@ -16,19 +16,19 @@ use Rattle.unifying.specs.Contracts.PrefixForm.{view-of}
 use Rattle.unifying.specs.Contracts.Bindings.{Readable}
 use Rattle.unifying.specs.Theory.Bindings.{readable-slots}
 use Rattle.lines.specs.declared.element.Element.{Element as Held}
-use Rattle.lines.specs.declared.line.Line.{Line as Named}
+use Rattle.lines.specs.declared.line.Line.{Line as LineValue}
 use Rattle.lines.specs.Contracts.Layout.{count-place, first-element, reduced-place, line-bytes}
-use Rattle.lines.specs.Contracts.Stored.{said, meaning, marked, Stored, line-of, stored-bytes}
-use Rattle.lines.specs.Contracts.Named.{HasHead, elements-from, Holds}
-use Rattle.lines.specs.Theory.Stored.{count-there, reduced-there, bindings-there, element-there}
-use Rattle.lines.specs.Theory.Resting.{slice-is}
-use Rattle.lines.specs.Theory.Named.{unfilled, elements-hold}
+use Rattle.lines.specs.Contracts.Resting.{said, meaning, marked, RestingLine, line-of, resting-bytes}
+use Rattle.lines.specs.Contracts.Line.{HasHead, elements-from, Holds}
+use Rattle.lines.specs.Theory.Resting.{count-there, reduced-there, bindings-there, element-there}
+use Rattle.lines.specs.Theory.InPlace.{slice-is}
+use Rattle.lines.specs.Theory.Line.{unfilled, elements-hold}
 use Rattle.walking.specs.declared.treat.Treatment.{Treatment}
 use Rattle.walking.specs.declared.treat.Treatment.the-variants.{Reduced}
 use Rattle.walking.specs.declared.walk.Walk.{Walk}
 use Rattle.walking.specs.Contracts.Treatment.{Treated}
-use Rattle.walking.specs.Contracts.Sound.{AllReduced, Sound}
-use Rattle.walking.specs.Contracts.Walking.{Memory, whole-walk, Walking, Finishing, Treating, TreatingLine}
+use Rattle.walking.specs.Contracts.WellFormed.{AllReduced, WellFormed}
+use Rattle.walking.specs.Contracts.Walking.{HoldsTable, whole-walk, Walking, Finishing, TreatingLine}
 use Rattle.walking.proofs.Walking.{first-there}
 
 pub below-limit : {n : ℕ} → n ≤ max-turns → (n ≡ max-turns → ⊥) → n < max-turns
@@ -50,13 +50,13 @@ within-at n (e ∷ es) (suc i) d w h = within-at n es i d (w .1) (omega arith)
 -- 1. The first unfinished line.
 pub record Open (nodes sizes memory : List ℕ) (w : Walk) : Type 0 where
   pub finished : List Line
-  pub first : Stored
-  pub others : List Stored
-  pub holds : Memory nodes sizes memory (w .done) (w .top) finished (first ∷ others)
+  pub first : RestingLine
+  pub others : List RestingLine
+  pub holds : HoldsTable nodes sizes memory (w .done) (w .top) finished (first ∷ others)
   pub leads : walk-from enough (view-of nodes sizes) (max-turns - w .turns) (w .turns) (finished ++ map line-of (first ∷ others)) ≡ whole-walk nodes sizes w
 
 -- 2. The elements from the first one that is not known to be reduced up to `i` are filled in.
-pub record Filling (memory : List ℕ) (place : ℕ) (start line : Named) (i : ℕ) : Type 0 where
+pub record Filling (memory : List ℕ) (place : ℕ) (start line : LineValue) (i : ℕ) : Type 0 where
   pub same-bindings : line .bindings ≡ start .bindings
   pub same-count : line .count ≡ start .count
   pub same-reduced : line .reduced ≡ start .reduced
@@ -65,11 +65,11 @@ pub record Filling (memory : List ℕ) (place : ℕ) (start line : Named) (i : �
   pub filled : (j : ℕ) → start .reduced ≤ j → j < i
       → meaning (getD (line .elements) j unfilled) ≡ marked (getD memory (place + first-element + 2 * j) 0) (getD memory (place + first-element + 2 * j + 1) 0)
 
-pub filling-start : (memory : List ℕ) (place : ℕ) (line : Named) → length (line .elements) ≡ max-elements → Filling memory place line line (line .reduced)
+pub filling-start : (memory : List ℕ) (place : ℕ) (line : LineValue) → length (line .elements) ≡ max-elements → Filling memory place line line (line .reduced)
 filling-start memory place line p =
     record { same-bindings = refl; same-count = refl; same-reduced = refl; places = p; started = omega arith; filled = λ j a b. absurd (omega arith) }
 
-pub filling-next : {memory : List ℕ} {place : ℕ} {start line : Named} {i : ℕ} → Filling memory place start line i → i < max-elements → (e : Held)
+pub filling-next : {memory : List ℕ} {place : ℕ} {start line : LineValue} {i : ℕ} → Filling memory place start line i → i < max-elements → (e : Held)
     → meaning e ≡ marked (getD memory (place + first-element + 2 * i) 0) (getD memory (place + first-element + 2 * i + 1) 0)
     → Filling memory place start (record { bindings = line .bindings; count = line .count; reduced = line .reduced; elements = set (line .elements) i e }) (i + 1)
 filling-next {memory = memory} {place = place} {start = start} {line = line} {i = i} f h e x = record {
@@ -96,7 +96,7 @@ module _ {nodes sizes memory : List ℕ} {w : Walk} (k : Walking nodes sizes mem
   pub opened : Open nodes sizes memory w
   opened = go (k .unfinished) (k .holds) (k .leads)
     where
-      go : (ls : List Stored) → Memory nodes sizes memory (w .done) (w .top) (k .finished) ls
+      go : (ls : List RestingLine) → HoldsTable nodes sizes memory (w .done) (w .top) (k .finished) ls
           → walk-from enough (view-of nodes sizes) (max-turns - w .turns) (w .turns) (k .finished ++ map line-of ls) ≡ whole-walk nodes sizes w → Open nodes sizes memory w
       go [] m l = absurd (omega (arith, m .top-is))
       go (first ∷ others) m l = record { finished = k .finished; first = first; others = others; holds = m; leads = l }
@@ -107,26 +107,26 @@ module _ {nodes sizes memory : List ℕ} {w : Walk} (k : Walking nodes sizes mem
   abbrev place : ℕ
   place = w .top * line-bytes
 
-  pub first-sound : Sound nodes sizes (opened .first)
-  first-sound = opened .holds .all-sound .0
+  pub first-well-formed : WellFormed nodes sizes (opened .first)
+  first-well-formed = opened .holds .all-well-formed .0
 
   slots : length (opened .first .bindings) ≡ variable-count
-  slots = readable-slots (first-sound .readable)
+  slots = readable-slots (first-well-formed .readable)
 
-  byte-there : (i : ℕ) → i < line-bytes → getD memory (place + i) 0 ≡ getD (stored-bytes (opened .first)) i 0
+  byte-there : (i : ℕ) → i < line-bytes → getD memory (place + i) 0 ≡ getD (resting-bytes (opened .first)) i 0
   byte-there i l =
       sym (getD-drop place (take (place + line-bytes) memory) i 0 ∙ getD-take (place + line-bytes) memory (place + i) 0 (omega arith))
       ∙ ap (λ b. getD b i 0) (first-there (opened .holds))
 
-  module _ {start : Named} (d : HasHead memory place start) where
+  module _ {start : LineValue} (d : HasHead memory place start) where
     pub head-count : start .count ≡ length (opened .first .elements)
     head-count = d .count-is ∙ (byte-there count-place (omega arith) ∙ count-there (opened .first) slots)
 
     pub head-few : start .count ≤ max-elements
-    head-few = omega (arith, head-count, first-sound .few)
+    head-few = omega (arith, head-count, first-well-formed .few)
 
     head-reduced : start .reduced ≡ opened .first .reduced
-    head-reduced = d .reduced-is ∙ (byte-there reduced-place (omega arith) ∙ reduced-there (opened .first) slots (first-sound .few))
+    head-reduced = d .reduced-is ∙ (byte-there reduced-place (omega arith) ∙ reduced-there (opened .first) slots (first-well-formed .few))
 
     pub head-bindings : start .bindings ≡ opened .first .bindings
     head-bindings =
@@ -137,11 +137,11 @@ module _ {nodes sizes memory : List ℕ} {w : Walk} (k : Walking nodes sizes mem
         ∙ (ap (take variable-count) (sym (slice-is place line-bytes memory (omega arith)) ∙ first-there (opened .holds)) ∙ bindings-there (opened .first) slots)))
 
     pub head-readable : Readable nodes sizes (start .bindings)
-    head-readable = rw head-bindings (first-sound .readable)
+    head-readable = rw head-bindings (first-well-formed .readable)
 
-    pub filled-holds : {line : Named} {i : ℕ} → Filling memory place start line i → start .count ≤ i → Holds line (opened .first)
+    pub filled-holds : {line : LineValue} {i : ℕ} → Filling memory place start line i → start .count ≤ i → Holds line (opened .first)
     filled-holds {line = line} {i = i} f l =
-        elements-hold line (opened .first) (f .places) (first-sound .few) (f .same-bindings ∙ head-bindings) (f .same-count ∙ head-count) (f .same-reduced ∙ head-reduced) (λ j a b.
+        elements-hold line (opened .first) (f .places) (first-well-formed .few) (f .same-bindings ∙ head-bindings) (f .same-count ∙ head-count) (f .same-reduced ∙ head-reduced) (λ j a b.
         let n = head-count in
         let m = head-few in
         let c = f .same-count in
@@ -150,20 +150,20 @@ module _ {nodes sizes memory : List ℕ} {w : Walk} (k : Walking nodes sizes mem
         let y : place + first-element + 2 * j + 1 ≡ place + (first-element + 2 * j + 1) = omega arith in
         f .filled j (omega arith) (omega arith)
         ∙ (ap₂ marked (ap (λ n. getD memory n 0) x ∙ byte-there (first-element + 2 * j) (omega arith)) (ap (λ n. getD memory n 0) y ∙ byte-there (first-element + 2 * j + 1) (omega arith))
-        ∙ element-there (opened .first) slots j (length nodes) (omega arith) (first-sound .within) (omega (arith, k .laid .few))))
+        ∙ element-there (opened .first) slots j (length nodes) (omega arith) (first-well-formed .within) (omega (arith, k .laid .few))))
 
 -- 3. The elements before `i` are fully reduced.
-pub record Searching (nodes sizes memory : List ℕ) (place : ℕ) (line : Named) (i : ℕ) : Type 0 where
-  pub so-far : (s : Stored) → Sound nodes sizes s → slice place (place + line-bytes) memory ≡ stored-bytes s → Holds line s
+pub record Searching (nodes sizes memory : List ℕ) (place : ℕ) (line : LineValue) (i : ℕ) : Type 0 where
+  pub so-far : (s : RestingLine) → WellFormed nodes sizes s → slice place (place + line-bytes) memory ≡ resting-bytes s → Holds line s
       → (i ≤ length (s .elements)) × (s .reduced ≤ i) × AllReduced nodes sizes (s .bindings) (take i (s .elements))
 
-pub searching-start : (nodes sizes memory : List ℕ) (place : ℕ) (line : Named) → Searching nodes sizes memory place line (line .reduced)
+pub searching-start : (nodes sizes memory : List ℕ) (place : ℕ) (line : LineValue) → Searching nodes sizes memory place line (line .reduced)
 searching-start nodes sizes memory place line = record {
   so-far = λ s d e h. let r = h .reduced-is in (omega (arith, d .known), omega arith, rw r (d .reduced-known));
 }
 
 -- The element that is looked at.
-looked-at : {l : Named} {s : Stored} {i : ℕ} → Holds l s → s .reduced ≤ i → i < l .count → meaning (getD (l .elements) i unfilled) ≡ getD (s .elements) i (greater 0 0)
+looked-at : {l : LineValue} {s : RestingLine} {i : ℕ} → Holds l s → s .reduced ≤ i → i < l .count → meaning (getD (l .elements) i unfilled) ≡ getD (s .elements) i (greater 0 0)
 unfolding elements-from meaning said
 looked-at {l = l} {s = s} {i = i} h a b =
     let part = slice i (l .count) (l .elements) in
@@ -173,8 +173,8 @@ looked-at {l = l} {s = s} {i = i} h a b =
     ∙ ap meaning (getD-drop i (take (l .count) (l .elements)) 0 unfilled ∙ (ap (λ n. getD (take (l .count) (l .elements)) n unfilled) e ∙ getD-take (l .count) (l .elements) i unfilled b)) in
     sym own ∙ (ap (λ es. getD es 0 (greater 0 0)) (h .elements-are i a) ∙ (getD-drop i (s .elements) 0 (greater 0 0) ∙ ap (λ n. getD (s .elements) n (greater 0 0)) e))
 
-module _ {nodes sizes memory : List ℕ} {place : ℕ} {line : Named} {i : ℕ} (f : Searching nodes sizes memory place line i) (below : i < line .count) where
-  pub searching-within : (s : Stored) → Sound nodes sizes s → slice place (place + line-bytes) memory ≡ stored-bytes s → Holds line s → Within (length nodes) (meaning (getD (line .elements) i unfilled))
+module _ {nodes sizes memory : List ℕ} {place : ℕ} {line : LineValue} {i : ℕ} (f : Searching nodes sizes memory place line i) (below : i < line .count) where
+  pub searching-within : (s : RestingLine) → WellFormed nodes sizes s → slice place (place + line-bytes) memory ≡ resting-bytes s → Holds line s → Within (length nodes) (meaning (getD (line .elements) i unfilled))
   searching-within s d e h =
       let (a, b, c) = f .so-far s d e h in
       rw (looked-at h b below) (within-at (length nodes) (s .elements) i (greater 0 0) (d .within) (omega (arith, h .count-is)))
@@ -190,13 +190,13 @@ module _ {nodes sizes memory : List ℕ} {place : ℕ} {line : Named} {i : ℕ} 
   }
 
 -- 4. One is not fully reduced, or all are.
-module _ {nodes sizes memory : List ℕ} {w : Walk} (k : Walking nodes sizes memory w) (h : w .top < max-lines) {line : Named} (own : Holds line (opened k h .first)) {i : ℕ}
+module _ {nodes sizes memory : List ℕ} {w : Walk} (k : Walking nodes sizes memory w) (h : w .top < max-lines) {line : LineValue} (own : Holds line (opened k h .first)) {i : ℕ}
     (f : Searching nodes sizes memory (w .top * line-bytes) line i) where
   so-far : (i ≤ length (opened k h .first .elements)) × (opened k h .first .reduced ≤ i) × AllReduced nodes sizes (opened k h .first .bindings) (take i (opened k h .first .elements))
-  so-far = f .so-far (opened k h .first) (first-sound k h) (first-there (opened k h .holds)) own
+  so-far = f .so-far (opened k h .first) (first-well-formed k h) (first-there (opened k h .holds)) own
 
   pub looking-asks : i < line .count → Within (length nodes) (meaning (getD (line .elements) i unfilled))
-  looking-asks b = searching-within f b (opened k h .first) (first-sound k h) (first-there (opened k h .holds)) own
+  looking-asks b = searching-within f b (opened k h .first) (first-well-formed k h) (first-there (opened k h .holds)) own
 
   pub finishing : line .count ≤ i → Finishing nodes sizes memory w
   finishing b = record {
@@ -236,7 +236,7 @@ module _ {nodes sizes memory : List ℕ} {w : Walk} (k : Walking nodes sizes mem
       }
 
 -- 5. The same of the line that was filled in, in terms of its head.
-module _ {nodes sizes memory : List ℕ} {w : Walk} (k : Walking nodes sizes memory w) (h : w .top < max-lines) {start line : Named} {j : ℕ} (d : HasHead memory (w .top * line-bytes) start)
+module _ {nodes sizes memory : List ℕ} {w : Walk} (k : Walking nodes sizes memory w) (h : w .top < max-lines) {start line : LineValue} {j : ℕ} (d : HasHead memory (w .top * line-bytes) start)
     (f : Filling memory (w .top * line-bytes) start line j) (full : start .count ≤ j) {i : ℕ} (s : Searching nodes sizes memory (w .top * line-bytes) line i) where
   own-line : Holds line (opened k h .first)
   own-line = filled-holds k h d f full

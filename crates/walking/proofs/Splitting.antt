@@ -1,37 +1,40 @@
 -- The lines of the choices of an inequality, one group behind the other.
-use Prim.Native.Nat.{ℕ, zero, suc, _+_, _-_, _*_, _≤_, _<_}
+use Prim.Native.Nat.{ℕ, zero, suc, _+_, _*_, _≤_, _<_}
 use mathlib.Core.Path.{_≡_, refl, sym, ap, ap₂, subst, _∙_}
-use mathlib.Core.List.{List, [], _∷_, _++_, map, map-append, append-assoc, append-nil}
-use lib.ListN.{length, getD, set, length-append, length-set, length-map}
-use lib.Seq.{set-at}
+use mathlib.Core.List.{List, [], _∷_, _++_, map, map-append, append-nil}
+use lib.ListN.{length, getD, set, length-append, length-set}
 use lib.Dec.{ltb, ltb→lt, nltb→le}
-use mathlib.Core.Bool.{true, false}
+use mathlib.Core.Bool.{false}
 use native.Mathlib.Decide.{ℕ-discrete, decLt}
 use native.Mathlib.Omega.{arith}
-use Rattle.format.specs.Limits.{variable-count, max-elements}
+use Rattle.format.specs.Limits.{max-elements}
 use Rattle.solving.specs.Line.{Element}
 use Rattle.solving.specs.Walk.{argument-choices, exceeds-each, lexicographic-choices, choices}
-use Rattle.unifying.specs.Contracts.PrefixForm.{Row}
-use Rattle.lines.specs.Contracts.Stored.{equality-mark, marks, padding, Stored, stored-bytes}
+use Rattle.unifying.specs.Contracts.PrefixForm.{arguments-of}
+use Rattle.unifying.specs.Contracts.Count.{HasRow, CountsRow}
+use Rattle.lines.specs.declared.choices.CountedArguments.{CountedArguments}
+use Rattle.walking.specs.declared.treat.Sides.{Sides}
+use Rattle.lines.specs.Contracts.Resting.{marks, RestingLine, resting-bytes}
 use Rattle.lines.specs.Contracts.Layout.{first-element, reduced-place, count-place, line-bytes, placed}
-use Rattle.lines.specs.Contracts.Place.{lines-bytes, Gap, front-bytes, back-bytes, WideningFits, Widened}
+use Rattle.lines.specs.Contracts.Room.{lines-bytes, Gap, front-bytes, back-bytes, WideningFits, Widened}
 use Rattle.lines.specs.Contracts.Choices.{ExceedingFit, FillsExceeding, choices-bytes, ArgumentsFit, PushesArguments, LexicographicFit, PushesLexicographic}
+use Rattle.walking.specs.declared.split.Choices.{Choices}
 use Rattle.walking.specs.Contracts.Children.{child}
-use Rattle.walking.specs.Contracts.Splitting.{lesser, AllLong, Lasts, LastCount, TooLong, Splitting, ChoicesFit, PushesChoices}
+use Rattle.walking.specs.Contracts.Splitting.{lesser, AllLong, CountsLastChoices, TooLong, span-of, HasArguments, ChoicesOf, Splitting, ChoicesFit}
 use Rattle.unifying.specs.Theory.PrefixForm.{row-unique}
-use Rattle.lines.specs.Theory.Stored.{length-marks, length-stored, count-there, set-reduced}
-use Rattle.lines.specs.Theory.Place.{placed-behind, placed-length}
+use Rattle.lines.specs.Theory.Resting.{length-marks, length-resting, count-there, set-reduced}
+use Rattle.lines.specs.Theory.Placed.{placed-behind, placed-length}
 use Rattle.walking.proofs.Walking.{lines-append}
-use Rattle.walking.proofs.Children.{child-bytes, children-bytes, argument-long, argument-count, exceeds-long, lexicographic-long, lexicographic-count, lesser-le, choices-less, choices-more, choices-same}
+use Rattle.walking.proofs.Children.{child-bytes, children-bytes, argument-long, exceeds-long, lexicographic-long, lexicographic-count, lesser-le, choices-less, choices-more, choices-same}
 
 -- 1. How many choices come last.
-pub last-more : (f g m n : ℕ) → g < f → LastCount f g m n 1
+pub last-more : (f g m n : ℕ) → g < f → CountsLastChoices f g m n 1
 last-more f g m n h = record {
   counts = λ p q ss ts x y. record { lasts = exceeds-each p ts ∷ []; are = choices-more p q f g ss ts h; long = (exceeds-long p ts, tt); count = refl };
   few = omega arith;
 }
 
-pub last-same : (f g m n r : ℕ) → f ≡ g → r ≡ lesser m n → LastCount f g m n r
+pub last-same : (f g m n r : ℕ) → f ≡ g → r ≡ lesser m n → CountsLastChoices f g m n r
 last-same f g m n r h e = record {
   counts = λ p q ss ts x y. record {
     lasts = lexicographic-choices p ss ts;
@@ -42,7 +45,7 @@ last-same f g m n r h e = record {
   few = omega (arith, e, lesser-le m n);
 }
 
-pub last-none : (f g m n : ℕ) → f ≤ g → (f ≡ g → ⊥) → LastCount f g m n 0
+pub last-none : (f g m n : ℕ) → f ≤ g → (f ≡ g → ⊥) → CountsLastChoices f g m n 0
 last-none f g m n h k = record {
   counts = λ p q ss ts x y. record { lasts = []; are = choices-less p q f g ss ts (less f g h k) ∙ sym (append-nil (argument-choices ss q)); long = tt; count = refl };
   few = omega arith;
@@ -55,14 +58,34 @@ last-none f g m n h k = record {
         go (yes l) = l
         go (no l) = absurd (k (omega arith))
 
+-- What the code finds of the arguments, and of the choices.
+module _ {sizes : List ℕ} {p : ℕ} (h : HasArguments sizes p) (size : ℕ) where
+  pub arguments-row : size ≡ getD sizes p 0 → HasRow sizes (p + 1) (p + size)
+  arguments-row e = rw e (record { starts = arguments-of sizes p; row = h .row; within = h .within })
+
+  pub arguments-counted : (r : ℕ) → size ≡ getD sizes p 0 → CountsRow sizes (p + 1) (p + size) r → _≡_ {A = CountedArguments} (record { from = p + 1; end = p + size; count = r }) (span-of sizes p)
+  arguments-counted r e c =
+      let n : r ≡ length (arguments-of sizes p) = c .counts (arguments-of sizes p) (rw e (h .row)) in
+      rw (n, e)
+
+pub choices-counted : {nodes sizes : List ℕ} {at last : ℕ} {sides terms : Sides} {left right : CountedArguments} → left ≡ span-of sizes (terms .left) → right ≡ span-of sizes (terms .right)
+    → CountsLastChoices (getD nodes (terms .left) 0) (getD nodes (terms .right) 0) (left .count) (right .count) last
+    → ChoicesOf nodes sizes at sides terms
+    (record { at = at; p = sides .left; q = sides .right; f = getD nodes (terms .left) 0; g = getD nodes (terms .right) 0; left = left; right = right; last = last })
+choices-counted {nodes = nodes} {sizes = sizes} {last = last} {terms = terms} {left = left} x y c = record {
+  is = rw (x, y);
+  count-last-choices = subst (λ n. CountsLastChoices (getD nodes (terms .left) 0) (getD nodes (terms .right) 0) n (length (arguments-of sizes (terms .right))) last) (ap (λ (a : CountedArguments). a .count) x)
+      (subst (λ n. CountsLastChoices (getD nodes (terms .left) 0) (getD nodes (terms .right) 0) (left .count) n last) (ap (λ (a : CountedArguments). a .count) y) c);
+}
+
 pub positive : {n : ℕ} → (n ≡ 0 → ⊥) → 0 < n
 positive {n = zero} h = absurd (h refl)
 positive {n = suc n} h = omega arith
 
 -- The room for the choices does not depend on how the rows were found.
-pub room-for : {sizes line memory : List ℕ} {at p q f g k m l n count last to : ℕ} {bindings : List ℕ} {pre post : List Element} {ss ts : List ℕ}
-    → Splitting sizes line at p q f g k m l n count last bindings pre post ss ts → ChoicesFit sizes line memory at p q f g k m l n count last to
-    → to + line-bytes * length (choices p q f g ss ts) ≤ length memory
+pub room-for : {sizes line memory : List ℕ} {d : Choices} {to : ℕ} {bindings : List ℕ} {pre post : List Element} {ss ts : List ℕ}
+    → Splitting sizes line d bindings pre post ss ts → ChoicesFit sizes line memory d to
+    → to + line-bytes * length (choices (d .p) (d .q) (d .f) (d .g) ss ts) ≤ length memory
 room-for s c = rw (row-unique (s .left-row) (c .facts .left-row), row-unique (s .right-row) (c .facts .right-row)) (c .room)
 
 pub too-long-none : (last elements : ℕ) → last ≡ 0 → TooLong last elements false
@@ -72,17 +95,50 @@ pub too-long-some : (last elements : ℕ) → (last ≡ 0 → ⊥) → TooLong l
 too-long-some last elements n = record { tells = λ h. (positive n, ltb→lt max-elements elements (rw h tt)); fits = λ h i. nltb→le max-elements elements (rw h tt) }
 
 -- 2. The line with the count of its reduced elements changed.
-module _ {sizes line : List ℕ} {at p q f g k m l n count last : ℕ} {bindings : List ℕ} {pre post : List Element} {ss ts : List ℕ}
-    (s : Splitting sizes line at p q f g k m l n count last bindings pre post ss ts) where
-  abbrev single : Stored
+module _ {sizes line : List ℕ} {d : Choices} {bindings : List ℕ} {pre post : List Element} {ss ts : List ℕ} (s : Splitting sizes line d bindings pre post ss ts) where
+  abbrev at : ℕ
+  at = d .at
+
+  abbrev p : ℕ
+  p = d .p
+
+  abbrev q : ℕ
+  q = d .q
+
+  abbrev f : ℕ
+  f = d .f
+
+  abbrev g : ℕ
+  g = d .g
+
+  -- Where the arguments of f stand, and those of g.
+  abbrev k : ℕ
+  k = d .left .from
+
+  abbrev m : ℕ
+  m = d .left .end
+
+  abbrev l : ℕ
+  l = d .right .from
+
+  abbrev n : ℕ
+  n = d .right .end
+
+  abbrev count : ℕ
+  count = d .right .count
+
+  abbrev last : ℕ
+  last = d .last
+
+  abbrev single : RestingLine
   single = child bindings pre post (s .element ∷ [])
 
-  pub marked-line : (line₁ : List ℕ) → line₁ ≡ set line reduced-place at → line₁ ≡ stored-bytes single
+  pub marked-line : (line₁ : List ℕ) → line₁ ≡ set line reduced-place at → line₁ ≡ resting-bytes single
   marked-line line₁ e =
       e
       ∙ (ap (λ b. set b reduced-place at) (s .line-is)
       ∙ (set-reduced (record { bindings = bindings; elements = pre ++ (s .element ∷ post); reduced = s .reduced }) (s .slots) (omega (arith, length-append pre (s .element ∷ post), s .few)) at
-      ∙ ap (λ r. stored-bytes (record { bindings = bindings; elements = pre ++ (s .element ∷ post); reduced = r })) (sym (s .at-is))))
+      ∙ ap (λ r. resting-bytes (record { bindings = bindings; elements = pre ++ (s .element ∷ post); reduced = r })) (sym (s .at-is))))
 
   abbrev front-of : ℕ → List ℕ
   front-of c = front-bytes bindings (length pre + c + length post) pre
@@ -98,7 +154,7 @@ module _ {sizes line : List ℕ} {at p q f g k m l n count last : ℕ} {bindings
   single-gap line₁ e = record { gap = marks (s .element ∷ []); is = marked-line line₁ e ∙ child-bytes bindings pre post (s .element ∷ []); room = length-marks (s .element ∷ []) }
 
   length-single : (line₁ : List ℕ) → line₁ ≡ set line reduced-place at → length line₁ ≡ line-bytes
-  length-single line₁ e = ap length (marked-line line₁ e) ∙ length-stored single (s .slots) (omega (arith, length-append pre (s .element ∷ post), s .few))
+  length-single line₁ e = ap length (marked-line line₁ e) ∙ length-resting single (s .slots) (omega (arith, length-append pre (s .element ∷ post), s .few))
 
   pub line-long : length line ≡ line-bytes
   line-long = sym (length-set line reduced-place at) ∙ length-single (set line reduced-place at) refl
@@ -182,8 +238,8 @@ module _ {sizes line : List ℕ} {at p q f g k m l n count last : ℕ} {bindings
   length-children c (cs ∷ css) h k =
       let a = length-append pre (cs ++ post) in
       let b = length-append cs post in
-      let one : length (stored-bytes (child bindings pre post cs)) ≡ line-bytes = length-stored (child bindings pre post cs) (s .slots) (omega (arith, h .0)) in
-      length-append (stored-bytes (child bindings pre post cs)) (lines-bytes (map (child bindings pre post) css)) ∙ omega (arith, length-children c css (h .1) k)
+      let one : length (resting-bytes (child bindings pre post cs)) ≡ line-bytes = length-resting (child bindings pre post cs) (s .slots) (omega (arith, h .0)) in
+      length-append (resting-bytes (child bindings pre post cs)) (lines-bytes (map (child bindings pre post) css)) ∙ omega (arith, length-children c css (h .1) k)
 
   arguments-length : length (lines-bytes (map (child bindings pre post) (argument-choices ss q))) ≡ line-bytes * length (argument-choices ss q)
   arguments-length = length-children 1 (argument-choices ss q) (argument-long ss q) (s .few)

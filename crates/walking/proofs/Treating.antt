@@ -1,8 +1,8 @@
 -- The turns of the walk, by what the element asks for.
-use Prim.Native.Nat.{ℕ, zero, suc, _+_, _-_, _*_, _≤_, _<_}
+use Prim.Native.Nat.{ℕ, zero, suc, _+_, _*_, _≤_, _<_}
 use mathlib.Core.Path.{_≡_, refl, sym, ap, ap₂, subst, _∙_}
 use mathlib.Core.Option.{Option, none, some}
-use mathlib.Core.List.{List, [], _∷_, _++_, map, append-nil}
+use mathlib.Core.List.{List, [], _∷_, _++_, append-nil}
 use lib.ListN.{length, getD, set, take, drop, length-take, List·getD-eq-default}
 use lib.Seq.{slice, take-take, take-at, drop-append-add, getD-take, getD-drop}
 use native.Mathlib.Decide.{decLt}
@@ -11,7 +11,7 @@ use native.Mathlib.Omega.{arith}
 use Rattle.format.specs.Limits.{variable-count, max-elements, max-lines, max-turns, no-position, record-bytes}
 use Rattle.format.specs.declared.refusal.Refusal.the-variants.{TooManyTurns as too-many-turns}
 use Rattle.solving.specs.Line.{Bindings, Element, equal, greater, line as line-with, record-of}
-use Rattle.solving.specs.Walk.{Fuel, enough, becomes, refused, unified, unify, treat, treat-line}
+use Rattle.solving.specs.Walk.{enough, becomes, refused, unified, unify, treat, treat-line}
 use Rattle.solving.specs.Contracts.Within.{Within, AllWithin}
 use Rattle.unifying.specs.declared.unify.Answer.the-variants.{Unified, Failed}
 use Rattle.unifying.specs.declared.unifier.Unifier.{Unifier}
@@ -21,25 +21,26 @@ use Rattle.unifying.specs.Contracts.Unify.{answered}
 use Rattle.unifying.specs.Contracts.Unifier.{Unifies}
 use Rattle.unifying.specs.Theory.Bindings.{readable-slots}
 use Rattle.unifying.specs.Theory.Unify.{answered-unified, answered-failed, unified-readable}
-use Rattle.lines.specs.declared.line.Line.{Line as Named}
+use Rattle.lines.specs.declared.line.Line.{Line as LineValue}
 use Rattle.lines.specs.Contracts.Layout.{reduced-place, line-bytes, placed}
-use Rattle.lines.specs.Contracts.Stored.{equality-mark, Markable, Stored, line-of, stored-bytes}
-use Rattle.lines.specs.Contracts.Place.{lines-bytes}
-use Rattle.lines.specs.Contracts.Named.{Holds, RemovalFits, Removes}
-use Rattle.lines.specs.Theory.Place.{placed-none}
-use Rattle.lines.specs.Theory.Resting.{slice-is, rebound}
+use Rattle.lines.specs.Contracts.Resting.{equality-mark, Markable, RestingLine, line-of, resting-bytes}
+use Rattle.lines.specs.Contracts.Room.{lines-bytes}
+use Rattle.lines.specs.Contracts.Line.{RemovalFits, Removes}
+use Rattle.lines.specs.Theory.Placed.{placed-none}
+use Rattle.lines.specs.Theory.InPlace.{slice-is, rebound}
 use Rattle.lines.specs.Theory.Record.{record-written}
+use Rattle.walking.specs.declared.treat.Sides.{Sides}
 use Rattle.walking.specs.declared.treat.Treatment.{Treatment}
 use Rattle.walking.specs.declared.treat.Treatment.the-variants.{Reduced, DropLine, DropElement, Unify}
 use Rattle.walking.specs.declared.walk.Walk.{Walk}
 use Rattle.walking.specs.Contracts.Treatment.{Treated}
 use Rattle.walking.specs.Contracts.Children.{child}
-use Rattle.walking.specs.Contracts.Sound.{AllReduced, Sound}
-use Rattle.walking.specs.Contracts.Walking.{Memory, whole-walk, Finishing, Treating, TreatingLine, TreatingCount, GoesOn}
+use Rattle.walking.specs.Contracts.WellFormed.{WellFormed}
+use Rattle.walking.specs.Contracts.Walking.{whole-walk, Finishing, Treating, TreatingLine, TreatingCount, GoesOn}
 use Rattle.walking.proofs.Treatment.{reduced-inequalities, asks-becomes}
 use Rattle.walking.proofs.Turn.{around}
 use Rattle.walking.proofs.Walking.{first-there, refused-turns, turned, finished-on}
-use Rattle.walking.proofs.Children.{first-treated, children-lines, element-within, length-split, child-sound, rebound-sound}
+use Rattle.walking.proofs.Children.{first-treated, children-lines, element-within, length-split, child-well-formed, rebound-well-formed}
 
 -- The walk a turn further on.
 abbrev pub after-turn : Walk → ℕ → Walk
@@ -65,10 +66,10 @@ module _ {nodes sizes memory : List ℕ} {w : Walk} (f : Finishing nodes sizes m
       → memory′ ≡ placed (w .done * record-bytes) (slice (w .top * line-bytes) (w .top * line-bytes + record-bytes) memory) memory
       → GoesOn nodes sizes memory′ w (record { source = w .source; target = w .target; done = w .done + 1; top = w .top + 1; turns = w .turns })
   finishing-goes-on memory′ small e =
-      let s = f .holds .all-sound .0 in
+      let s = f .holds .all-well-formed .0 in
       let place = w .top * line-bytes in
       let there = first-there (f .holds) in
-      let low : (i : ℕ) → getD (stored-bytes (f .first)) i 0 ≤ no-position =
+      let low : (i : ℕ) → getD (resting-bytes (f .first)) i 0 ≤ no-position =
       subst (λ b. (i : ℕ) → getD b i 0 ≤ no-position) there (slice-low place (place + line-bytes) no-position memory small) in
       let front : slice place (place + record-bytes) memory ≡ take record-bytes (slice place (place + line-bytes) memory) =
       slice-is place record-bytes memory (omega (arith, finishing-fits .1))
@@ -80,19 +81,19 @@ module _ {nodes sizes memory : List ℕ} {w : Walk} (f : Finishing nodes sizes m
       finished-on nodes sizes memory w (f .finished) (f .first) (f .others) (f .holds) (f .leads) (f .laid) (f .turns-within) memory′ (f .all-reduced)
       (e ∙ ap (λ part. placed (w .done * record-bytes) part memory) r)
 
-pub treating-as : {nodes sizes memory : List ℕ} {w : Walk} {l : Named} {at : ℕ} {t u : Treatment} → TreatingLine nodes sizes memory w l at t → t ≡ u → TreatingLine nodes sizes memory w l at u
+pub treating-as : {nodes sizes memory : List ℕ} {w : Walk} {l : LineValue} {at : ℕ} {t u : Treatment} → TreatingLine nodes sizes memory w l at t → t ≡ u → TreatingLine nodes sizes memory w l at u
 treating-as {nodes = nodes} {sizes = sizes} {memory = memory} {w = w} {l = l} {at = at} g e = subst (TreatingLine nodes sizes memory w l at) e g
 
-pub treating-number : {nodes sizes memory : List ℕ} {w : Walk} {l : Named} {at : ℕ} {t : Treatment} → TreatingLine nodes sizes memory w l at t → (n : ℕ) → n ≡ at → TreatingLine nodes sizes memory w l n t
+pub treating-number : {nodes sizes memory : List ℕ} {w : Walk} {l : LineValue} {at : ℕ} {t : Treatment} → TreatingLine nodes sizes memory w l at t → (n : ℕ) → n ≡ at → TreatingLine nodes sizes memory w l n t
 treating-number {nodes = nodes} {sizes = sizes} {memory = memory} {w = w} {l = l} {t = t} g n e = subst (λ i. TreatingLine nodes sizes memory w l i t) (sym e) g
 
-pub treating-counted : {nodes sizes memory : List ℕ} {w : Walk} {l : Named} {at : ℕ} {t : Treatment} → TreatingLine nodes sizes memory w l at t → w .turns < max-turns
+pub treating-counted : {nodes sizes memory : List ℕ} {w : Walk} {l : LineValue} {at : ℕ} {t : Treatment} → TreatingLine nodes sizes memory w l at t → w .turns < max-turns
     → TreatingCount nodes sizes memory w (l .count) at t
 treating-counted g h = record { treating = g .treating; count-is = g .line-holds .count-is; turns-below = h }
 
 module _ {nodes sizes memory : List ℕ} {w : Walk} {at : ℕ} {t : Treatment} (g : Treating nodes sizes memory w at t) where
-  sound-first : Sound nodes sizes (g .first)
-  sound-first = g .holds .all-sound .0
+  well-formed-first : WellFormed nodes sizes (g .first)
+  well-formed-first = g .holds .all-well-formed .0
 
   pub treating-top : w .top < max-lines
   treating-top = omega (arith, g .holds .top-is)
@@ -101,7 +102,7 @@ module _ {nodes sizes memory : List ℕ} {w : Walk} {at : ℕ} {t : Treatment} (
   treating-place = omega (arith, g .holds .top-is, g .holds .length-is)
 
   pub few-elements : length (g .pre) + (1 + length (g .post)) ≤ max-elements
-  few-elements = omega (arith, sound-first .few, length-split (g .first) sound-first (g .pre) (g .element) (g .post) (g .split))
+  few-elements = omega (arith, well-formed-first .few, length-split (g .first) well-formed-first (g .pre) (g .element) (g .post) (g .split))
 
   -- "8, a turn beyond 10,000"
   pub too-long-walk : (t ≡ Reduced → ⊥) → w .turns ≡ max-turns → whole-walk nodes sizes w ≡ refused too-many-turns
@@ -123,12 +124,12 @@ module _ {nodes sizes memory : List ℕ} {w : Walk} {at : ℕ} {t : Treatment} (
         no-lines = refl
 
     -- 3. The line is replaced by one.
-    goes-with : (memory′ : List ℕ) (l : Stored) → Sound nodes sizes l → treat-line enough (view-of nodes sizes) (line-of (g .first)) ≡ some (line-of l ∷ [])
-        → memory′ ≡ placed (w .top * line-bytes) (stored-bytes l) memory → GoesOn nodes sizes memory′ w (after-turn w (w .top))
+    goes-with : (memory′ : List ℕ) (l : RestingLine) → WellFormed nodes sizes l → treat-line enough (view-of nodes sizes) (line-of (g .first)) ≡ some (line-of l ∷ [])
+        → memory′ ≡ placed (w .top * line-bytes) (resting-bytes l) memory → GoesOn nodes sizes memory′ w (after-turn w (w .top))
     unfolding lines-bytes
     goes-with memory′ l s x e =
         turned nodes sizes memory w (g .finished) (g .first) (g .others) (g .holds) (g .leads) below (g .laid) memory′ (w .top) (l ∷ []) (s, tt) (omega arith) (g .holds .ordered)
-        (e ∙ ap (λ part. placed (w .top * line-bytes) part memory) (sym (append-nil (stored-bytes l))))
+        (e ∙ ap (λ part. placed (w .top * line-bytes) part memory) (sym (append-nil (resting-bytes l))))
         x
 
     -- "l a variable occurring in r (or r itself): delete the line"
@@ -136,14 +137,14 @@ module _ {nodes sizes memory : List ℕ} {w : Walk} {at : ℕ} {t : Treatment} (
     line-dropped d = goes-without (subst (Treated nodes sizes (g .first .bindings) (g .element)) d (g .treated) .asks)
 
     -- The line without the element.
-    abbrev shorter : Stored
+    abbrev shorter : RestingLine
     shorter = child (g .first .bindings) (g .pre) (g .post) []
 
-    shorter-sound : Sound nodes sizes shorter
-    shorter-sound = child-sound (g .first) sound-first (g .pre) (g .element) (g .post) (g .split) (g .pre-reduced) [] tt (omega (arith, few-elements))
+    shorter-well-formed : WellFormed nodes sizes shorter
+    shorter-well-formed = child-well-formed (g .first) well-formed-first (g .pre) (g .element) (g .post) (g .split) (g .pre-reduced) [] tt (omega (arith, few-elements))
 
 -- The line by its named parts.
-module _ {nodes sizes memory : List ℕ} {w : Walk} {l : Named} {at : ℕ} {t : Treatment} (h : TreatingLine nodes sizes memory w l at t) where
+module _ {nodes sizes memory : List ℕ} {w : Walk} {l : LineValue} {at : ℕ} {t : Treatment} (h : TreatingLine nodes sizes memory w l at t) where
   abbrev g : Treating nodes sizes memory w at t
   g = h .treating
 
@@ -151,7 +152,7 @@ module _ {nodes sizes memory : List ℕ} {w : Walk} {l : Named} {at : ℕ} {t : 
   own-bindings = h .line-holds .bindings-are
 
   pub line-slots : length (l .bindings) ≡ variable-count
-  line-slots = ap length own-bindings ∙ readable-slots (sound-first g .readable)
+  line-slots = ap length own-bindings ∙ readable-slots (well-formed-first g .readable)
 
   markable-within : (n : ℕ) (es : List Element) → n ≤ equality-mark → AllWithin n es → Markable es
   markable-within n [] k u = tt
@@ -164,7 +165,7 @@ module _ {nodes sizes memory : List ℕ} {w : Walk} {l : Named} {at : ℕ} {t : 
   within-drop n (suc i) (e ∷ es) u = within-drop n i es (u .1)
 
   at-inside : at < length (g .first .elements)
-  at-inside = omega (arith, g .at-is, length-split (g .first) (sound-first g) (g .pre) (g .element) (g .post) (g .split))
+  at-inside = omega (arith, g .at-is, length-split (g .first) (well-formed-first g) (g .pre) (g .element) (g .post) (g .split))
 
   pub removal-fits : RemovalFits l (w .top * line-bytes) at memory
   removal-fits = record {
@@ -172,9 +173,9 @@ module _ {nodes sizes memory : List ℕ} {w : Walk} {l : Named} {at : ℕ} {t : 
     holds = h .line-holds;
     there = first-there (g .holds);
     whole = treating-place g;
-    slots = readable-slots (sound-first g .readable);
-    few = sound-first g .few;
-    markable = markable-within (length nodes) (drop (at + 1) (g .first .elements)) (omega (arith, g .laid .few)) (within-drop (length nodes) (at + 1) (g .first .elements) (sound-first g .within));
+    slots = readable-slots (well-formed-first g .readable);
+    few = well-formed-first g .few;
+    markable = markable-within (length nodes) (drop (at + 1) (g .first .elements)) (omega (arith, g .laid .few)) (within-drop (length nodes) (at + 1) (g .first .elements) (well-formed-first g .within));
     known = g .not-passed;
     inside = at-inside;
   }
@@ -188,10 +189,10 @@ module _ {nodes sizes memory : List ℕ} {w : Walk} {l : Named} {at : ℕ} {t : 
       (ap₂ drop n (g .split) ∙ drop-append-add (g .pre) (g .element ∷ g .post) 1)
 
   removed : (memory′ : List ℕ) → Removes l (w .top * line-bytes) at memory memory′
-      → memory′ ≡ placed (w .top * line-bytes) (stored-bytes (record { bindings = g .first .bindings; elements = g .pre ++ g .post; reduced = length (g .pre) })) memory
+      → memory′ ≡ placed (w .top * line-bytes) (resting-bytes (record { bindings = g .first .bindings; elements = g .pre ++ g .post; reduced = length (g .pre) })) memory
   removed memory′ u =
-      u .removes (g .first) (h .line-holds) (first-there (g .holds)) (readable-slots (sound-first g .readable)) (sound-first g .few) at-inside (g .not-passed)
-      ∙ ap₂ (λ es n. placed (w .top * line-bytes) (stored-bytes (record { bindings = g .first .bindings; elements = es; reduced = n })) memory) rest-is (sym (g .at-is))
+      u .removes (g .first) (h .line-holds) (first-there (g .holds)) (readable-slots (well-formed-first g .readable)) (well-formed-first g .few) at-inside (g .not-passed)
+      ∙ ap₂ (λ es n. placed (w .top * line-bytes) (resting-bytes (record { bindings = g .first .bindings; elements = es; reduced = n })) memory) rest-is (sym (g .at-is))
 
   module _ (below : w .turns < max-turns) where
     -- "Else r a variable occurring in l: delete the element."
@@ -199,31 +200,31 @@ module _ {nodes sizes memory : List ℕ} {w : Walk} {l : Named} {at : ℕ} {t : 
     element-dropped memory′ d u =
         let bs = g .first .bindings in
         let x : treat enough (view-of nodes sizes) (bindings-of bs) (g .element) ≡ becomes (line-with (bindings-of bs) [] ∷ []) = subst (Treated nodes sizes bs (g .element)) d (g .treated) .asks in
-        goes-with g below memory′ (shorter g below) (shorter-sound g below)
+        goes-with g below memory′ (shorter g below) (shorter-well-formed g below)
         (first-treated nodes sizes (g .first) (g .pre) (g .element) (g .post) (line-with (bindings-of bs) [] ∷ []) (g .split) (g .pre-reduced) x ∙ ap some (sym (children-lines bs (g .pre) (g .post) ([] ∷ []))))
         (removed memory′ u)
 
     -- 4. "Equality: unify".
-    module _ (p q : ℕ) (d : t ≡ Unify p q) where
-      element-equal : g .element ≡ equal p q
+    module _ (sides : Sides) (d : t ≡ Unify sides) where
+      element-equal : g .element ≡ equal (sides .left) (sides .right)
       element-equal = subst (Treated nodes sizes (g .first .bindings) (g .element)) d (g .treated) .asks
 
-      pub equal-within : (p < length nodes) × (q < length nodes)
+      pub equal-within : ((sides .left) < length nodes) × ((sides .right) < length nodes)
       equal-within =
-          let k : Within (length nodes) (equal p q) = rw element-equal at (element-within (g .first) (sound-first g) (g .pre) (g .element) (g .post) (g .split)) in
+          let k : Within (length nodes) (equal (sides .left) (sides .right)) = rw element-equal at (element-within (g .first) (well-formed-first g) (g .pre) (g .element) (g .post) (g .split)) in
           k
 
       pub line-readable : Readable nodes sizes (l .bindings)
-      line-readable = rw own-bindings (sound-first g .readable)
+      line-readable = rw own-bindings (well-formed-first g .readable)
 
-      treated-equal : (o : Option Bindings) → unify enough (view-of nodes sizes) (enough .unify-depth) (bindings-of (g .first .bindings)) p q ≡ o
+      treated-equal : (o : Option Bindings) → unify enough (view-of nodes sizes) (enough .unify-depth) (bindings-of (g .first .bindings)) (sides .left) (sides .right) ≡ o
           → treat enough (view-of nodes sizes) (bindings-of (g .first .bindings)) (g .element) ≡ unified o
       unfolding treat
       treated-equal o e = ap (treat enough (view-of nodes sizes) (bindings-of (g .first .bindings))) element-equal ∙ ap unified e
 
-      module _ (r : Unifier) (u : Unifies nodes sizes (l .bindings) p q r) where
-        told : unify enough (view-of nodes sizes) (enough .unify-depth) (bindings-of (g .first .bindings)) p q ≡ answered (r .answer) (bindings-of (r .bindings))
-        told = ap (λ b. unify enough (view-of nodes sizes) (enough .unify-depth) (bindings-of b) p q) (sym own-bindings) ∙ u .tells
+      module _ (r : Unifier) (u : Unifies nodes sizes (l .bindings) (sides .left) (sides .right) r) where
+        told : unify enough (view-of nodes sizes) (enough .unify-depth) (bindings-of (g .first .bindings)) (sides .left) (sides .right) ≡ answered (r .answer) (bindings-of (r .bindings))
+        told = ap (λ b. unify enough (view-of nodes sizes) (enough .unify-depth) (bindings-of b) (sides .left) (sides .right)) (sym own-bindings) ∙ u .tells
 
         -- "Failure deletes the line".
         pub unify-failed : r .answer ≡ Failed → GoesOn nodes sizes memory w (after-turn w (w .top + 1))
@@ -231,7 +232,7 @@ module _ {nodes sizes memory : List ℕ} {w : Walk} {l : Named} {at : ℕ} {t : 
         unify-failed a = goes-without g below (treated-equal none (answered-failed (r .answer) (bindings-of (r .bindings)) told a))
 
         module _ (a : r .answer ≡ Unified) where
-          some-unifier : unify enough (view-of nodes sizes) (enough .unify-depth) (bindings-of (g .first .bindings)) p q ≡ some (bindings-of (r .bindings))
+          some-unifier : unify enough (view-of nodes sizes) (enough .unify-depth) (bindings-of (g .first .bindings)) (sides .left) (sides .right) ≡ some (bindings-of (r .bindings))
           some-unifier = answered-unified (r .answer) (bindings-of (r .bindings)) told a
 
           treated-some : treat-line enough (view-of nodes sizes) (line-of (g .first)) ≡ some (line-with (bindings-of (r .bindings)) (g .pre ++ g .post) ∷ [])
@@ -244,7 +245,7 @@ module _ {nodes sizes memory : List ℕ} {w : Walk} {l : Named} {at : ℕ} {t : 
           pub unify-kept : (memory′ : List ℕ) → l .bindings ≡ r .bindings → Removes l (w .top * line-bytes) at memory memory′ → GoesOn nodes sizes memory′ w (after-turn w (w .top))
           unfolding line-of
           unify-kept memory′ e v =
-              goes-with g below memory′ (shorter g below) (shorter-sound g below)
+              goes-with g below memory′ (shorter g below) (shorter-well-formed g below)
               (treated-some ∙ ap (λ b. some (line-with (bindings-of b) (g .pre ++ g .post) ∷ [])) (sym e ∙ own-bindings))
               (removed memory′ v)
 
@@ -254,10 +255,10 @@ module _ {nodes sizes memory : List ℕ} {w : Walk} {l : Named} {at : ℕ} {t : 
           unfolding line-of
           unify-changed memory′ memory″ v e =
               let place = w .top * line-bytes in
-              let s = shorter-sound g below in
-              let read : Readable nodes sizes (r .bindings) = unified-readable (r .bindings) (sound-first g .readable) p q (enough .unify-depth) (equal-within .0) (equal-within .1) some-unifier in
+              let s = shorter-well-formed g below in
+              let read : Readable nodes sizes (r .bindings) = unified-readable (r .bindings) (well-formed-first g .readable) (sides .left) (sides .right) (enough .unify-depth) (equal-within .0) (equal-within .1) some-unifier in
               goes-with g below memory″ (record { bindings = r .bindings; elements = g .pre ++ g .post; reduced = 0 })
-              (rebound-sound (g .first) (sound-first g) (g .pre) (g .element) (g .post) (g .split) (r .bindings) read)
+              (rebound-well-formed (g .first) (well-formed-first g) (g .pre) (g .element) (g .post) (g .split) (r .bindings) read)
               treated-some
               (e ∙ (ap (λ m. set (placed place (r .bindings) m) (place + reduced-place) 0) (removed memory′ v)
               ∙ rebound place (r .bindings) (record { bindings = g .first .bindings; elements = g .pre ++ g .post; reduced = length (g .pre) }) memory (treating-place g) (readable-slots (s .readable)) (s .few) (u .whole)))

@@ -7,16 +7,17 @@ use mathlib.Core.List.{List, [], _∷_, map}
 use lib.ListN.{length, getD}
 use native.Mathlib.Omega.{arith}
 use Rattle.format.specs.Limits.{first-variable}
-use Rattle.terms.specs.Position.{Node, var-node, app-node}
+use Rattle.terms.specs.Position.{var-node, app-node}
 use Rattle.solving.specs.Line.{Bindings, Element, equal, greater, Line, line}
-use Rattle.solving.specs.Walk.{Fuel, enough, reach, occurs, choices, Treatment, fully-reduced, unified, becomes, unify, treat-greater, treat}
+use Rattle.solving.specs.Walk.{enough, reach, occurs, choices, Treatment, fully-reduced, unified, becomes, unify, treat-greater, treat}
 use Rattle.solving.specs.Contracts.Within.{Within}
 use Rattle.solving.specs.Theory.Written.{Inequalities}
 use Rattle.lines.specs.declared.element.Relation.the-variants.{Equal, Greater}
 use Rattle.lines.specs.declared.element.Element.{Element as Held}
+use Rattle.walking.specs.declared.treat.Sides.{Sides}
 use Rattle.walking.specs.declared.treat.Treatment.{Treatment as Found}
-use Rattle.lines.specs.Contracts.Stored.{meaning}
-use Rattle.walking.specs.Contracts.Sound.{AllReduced}
+use Rattle.lines.specs.Contracts.Resting.{meaning}
+use Rattle.walking.specs.Contracts.WellFormed.{AllReduced}
 use Rattle.lines.specs.Theory.Element.{says-equal, says-greater}
 use Rattle.walking.specs.declared.treat.Treatment.the-variants.{Reduced, DropLine, DropElement, Unify, Split}
 use Rattle.unifying.specs.Contracts.PrefixForm.{view-of, arguments-of}
@@ -57,27 +58,30 @@ module _ (nodes sizes bs : List ℕ) (p q s : ℕ) (at-p : s ≡ reach enough (v
         pub right-reduced : false ≡ occurs enough (view-of nodes sizes) (enough .occurs-depth) (bindings-of bs) w p → Treated nodes sizes bs (greater p q) Reduced
         right-reduced o = record { asks = right-variable (getD nodes s 0) w (arguments-of sizes s) (symbol-there nodes sizes s i h) (variable-there nodes sizes t w j k x) false (sym o) }
 
-      pub splits : getD nodes t 0 < first-variable → Treated nodes sizes bs (greater p q) (Split p q s t)
+      pub splits : getD nodes t 0 < first-variable → Treated nodes sizes bs (greater p q) (Split (record { left = p; right = q }) (record { left = s; right = t }))
       splits k = record { asks = record { element = refl; left-reached = at-p; right-reached = at-q; left-within = i; right-within = j; left-symbol = h; right-symbol = k } }
 
 -- What the choices are.
-pub split-becomes : {nodes sizes bs : List ℕ} {e : Element} {p q s t : ℕ} → BothSymbols nodes sizes bs e p q s t
-    → treat enough (view-of nodes sizes) (bindings-of bs) e ≡ becomes (map (line (bindings-of bs)) (choices p q (getD nodes s 0) (getD nodes t 0) (arguments-of sizes s) (arguments-of sizes t)))
-split-becomes {nodes} {sizes} {bs} {e} {p} {q} {s} {t} b =
+pub split-becomes : {nodes sizes bs : List ℕ} {e : Element} {sides terms : Sides} → BothSymbols nodes sizes bs e sides terms
+    → treat enough (view-of nodes sizes) (bindings-of bs) e
+    ≡ becomes (map (line (bindings-of bs)) (choices (sides .left) (sides .right) (getD nodes (terms .left) 0) (getD nodes (terms .right) 0) (arguments-of sizes (terms .left)) (arguments-of sizes (terms .right))))
+split-becomes {nodes} {sizes} {bs} {e} {sides} {terms} b =
+    let s = terms .left in
+    let t = terms .right in
     ap (treat enough (view-of nodes sizes) (bindings-of bs)) (b .element)
-    ∙ both-symbols nodes sizes bs p q s (b .left-reached) t (b .right-reached) (getD nodes s 0) (getD nodes t 0) (arguments-of sizes s) (arguments-of sizes t)
+    ∙ both-symbols nodes sizes bs (sides .left) (sides .right) s (b .left-reached) t (b .right-reached) (getD nodes s 0) (getD nodes t 0) (arguments-of sizes s) (arguments-of sizes t)
     (symbol-there nodes sizes s (b .left-within) (b .left-symbol)) (symbol-there nodes sizes t (b .right-within) (b .right-symbol))
 
 -- What an element asks for, by its relation.
-module _ (e : Held) (p q a b : ℕ) (x : a ≡ p) (y : b ≡ q) where
-  pub asks-unify : (nodes sizes bs : List ℕ) → e .relation ≡ Equal p q → Treated nodes sizes bs (meaning e) (Unify a b)
-  asks-unify nodes sizes bs d = record { asks = says-equal e p q d ∙ rw (x, y) }
+module _ (e : Held) (p q : ℕ) (d : Sides) (x : d ≡ record { left = p; right = q }) where
+  pub asks-unify : (nodes sizes bs : List ℕ) → e .relation ≡ Equal p q → Treated nodes sizes bs (meaning e) (Unify d)
+  asks-unify nodes sizes bs y = record { asks = says-equal e p q y ∙ rw x }
 
-  pub asks-as-greater : (nodes sizes bs : List ℕ) (r : Found) → e .relation ≡ Greater p q → Treated nodes sizes bs (greater a b) r → Treated nodes sizes bs (meaning e) r
-  asks-as-greater nodes sizes bs r d t = rw (says-greater e p q d, sym x, sym y) t
+  pub asks-as-greater : (nodes sizes bs : List ℕ) (r : Found) → e .relation ≡ Greater p q → Treated nodes sizes bs (greater (d .left) (d .right)) r → Treated nodes sizes bs (meaning e) r
+  asks-as-greater nodes sizes bs r y t = rw (says-greater e p q y) (rw x at t)
 
-  pub greater-within : (n : ℕ) → e .relation ≡ Greater p q → Within n (meaning e) → (a < n) × (b < n)
-  greater-within n d w = let h : Within n (greater p q) = rw (says-greater e p q d) at w in (omega (arith, h .0), omega (arith, h .1))
+  pub greater-within : (n : ℕ) → e .relation ≡ Greater p q → Within n (meaning e) → (d .left < n) × (d .right < n)
+  greater-within n y w = let h : Within n (greater p q) = rw (says-greater e p q y) at w in rw x h
 
 -- No equality is fully reduced.
 unified-not : (o : Option Bindings) → unified o ≡ fully-reduced → ⊥
@@ -105,11 +109,10 @@ pub asks-becomes : (nodes sizes bs : List ℕ) (e : Element) (t : Found) → Tre
 asks-becomes nodes sizes bs e Reduced a n = absurd (n refl)
 asks-becomes nodes sizes bs e DropLine a n = ([], a .asks)
 asks-becomes nodes sizes bs e DropElement a n = (line (bindings-of bs) [] ∷ [], a .asks)
-asks-becomes nodes sizes bs e (Unify p q) a n = unifies (unify enough (view-of nodes sizes) (enough .unify-depth) (bindings-of bs) p q) (a .asks) refl
+asks-becomes nodes sizes bs e (Unify sides) a n = unifies (sides .left) (sides .right) (unify enough (view-of nodes sizes) (enough .unify-depth) (bindings-of bs) (sides .left) (sides .right)) (a .asks) refl
   where
-    unifies : (o : Option Bindings) → e ≡ equal p q → unify enough (view-of nodes sizes) (enough .unify-depth) (bindings-of bs) p q ≡ o
+    unifies : (p q : ℕ) (o : Option Bindings) → e ≡ equal p q → unify enough (view-of nodes sizes) (enough .unify-depth) (bindings-of bs) p q ≡ o
         → (ms : List Line) × (treat enough (view-of nodes sizes) (bindings-of bs) e ≡ becomes ms)
-    unifies none d x = ([], unified-none nodes sizes bs e p q d x)
-    unifies (some θ) d x = (line θ [] ∷ [], unified-some nodes sizes bs e p q d θ x)
-asks-becomes nodes sizes bs e (Split p q s t) a n =
-    (map (line (bindings-of bs)) (choices p q (getD nodes s 0) (getD nodes t 0) (arguments-of sizes s) (arguments-of sizes t)), split-becomes (a .asks))
+    unifies p q none d x = ([], unified-none nodes sizes bs e p q d x)
+    unifies p q (some θ) d x = (line θ [] ∷ [], unified-some nodes sizes bs e p q d θ x)
+asks-becomes nodes sizes bs e (Split sides terms) a n = (_, split-becomes (a .asks))

@@ -1,20 +1,18 @@
 -- A turn of the walk, seen from the first unfinished line.
-use Prim.Native.Nat.{ℕ, zero, suc, _+_, _-_, _≤_, _<_}
-use mathlib.Core.Path.{_≡_, refl, sym, ap, ap₂, _∙_}
+use Prim.Native.Nat.{ℕ, zero, suc, _≤_, _<_}
+use mathlib.Core.Path.{_≡_, refl, ap, _∙_}
 use mathlib.Core.Bool.{Bool, true, false, _||_}
-use mathlib.Core.Option.{Option, none, some, Option·map}
-use mathlib.Core.List.{List, [], _∷_, _++_, map, append-assoc}
-use lib.ListN.{length, length-append}
-use lib.Dec.{ltb}
+use mathlib.Core.Option.{none, some}
+use mathlib.Core.List.{List, [], _∷_, _++_, map}
+use lib.ListN.{length}
 use borrow.Author.Tests.{lt-ltb, le-ltb}
-use native.Mathlib.Omega.{arith}
 use Rattle.format.specs.Lists.{any}
-use Rattle.format.specs.Limits.{max-elements, max-lines, max-turns}
+use Rattle.format.specs.Limits.{max-lines}
 use Rattle.format.specs.declared.refusal.Refusal.{Refusal}
 use Rattle.format.specs.declared.refusal.Refusal.the-variants.{TooManyTurns as too-many-turns, TooManyElements as too-many-elements, TooManyLines as too-many-lines}
 use Rattle.terms.specs.Position.{Node}
 use Rattle.solving.specs.Line.{Bindings, Element, Line, line}
-use Rattle.solving.specs.Walk.{Fuel, enough, Treatment, fully-reduced, becomes, in-front, behind, treat, treat-leftmost, treat-line, turn, crowded, over-limit, Walked, solved, refused, walk-until, walk-from}
+use Rattle.solving.specs.Walk.{enough, fully-reduced, becomes, in-front, behind, treat, treat-leftmost, treat-line, turn, crowded, over-limit, solved, refused, walk-until, walk-from}
 use Rattle.walking.specs.Contracts.Walking.{AllFinished}
 
 -- The line with the elements `pre` to the left and `post` to the right.

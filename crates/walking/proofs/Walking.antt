@@ -1,32 +1,31 @@
 -- The memory of the walk from turn to turn.
-use Prim.Native.Nat.{ℕ, zero, suc, _+_, _-_, _*_, _≤_, _<_}
-use mathlib.Core.Path.{_≡_, refl, sym, ap, ap₂, _∙_}
-use mathlib.Core.Bool.{Bool, true, false}
-use mathlib.Core.Option.{Option, none, some}
+use Prim.Native.Nat.{ℕ, suc, _+_, _-_, _*_, _≤_, _<_}
+use mathlib.Core.Path.{_≡_, refl, sym, ap, _∙_}
+use mathlib.Core.Bool.{true, false}
+use mathlib.Core.Option.{some}
 use mathlib.Core.List.{List, [], _∷_, _++_, map, map-append, append-assoc, append-nil}
-use lib.ListN.{length, take, drop, length-append, length-map, length-drop, length-replicate}
-use lib.Seq.{slice, take-append-le, take-take, drop-at, take-at, drop-drop, drop-append-add, length-take-le, take-add}
-use borrow.Author.Tests.{le-ltb, lt-ltb}
-use lib.Dec.{ltb}
+use lib.ListN.{length, take, drop, length-append, length-map, length-replicate}
+use lib.Seq.{slice, take-append-le, take-take, drop-at, take-at, drop-drop, drop-append-add, length-take-le}
+use borrow.Author.Tests.{le-ltb}
 use native.Mathlib.Omega.{arith}
 use Rattle.format.specs.Lists.{any}
 use Rattle.format.specs.Limits.{variable-count, max-elements, max-lines, max-turns, record-bytes}
 use Rattle.format.specs.declared.refusal.Refusal.{Refusal}
 use Rattle.format.specs.declared.refusal.Refusal.the-variants.{TooManyTurns as too-many-turns, TooManyElements as too-many-elements, TooManyLines as too-many-lines}
-use Rattle.solving.specs.Line.{Bindings, Element, equal, greater, Line, line, binding-byte, element-bytes, record-of, records}
-use Rattle.solving.specs.Walk.{enough, treat-line, turn, crowded, over-limit, Walked, solved, refused, walk-from, walk}
+use Rattle.solving.specs.Line.{Element, equal, greater, Line, line, element-bytes, record-of, records}
+use Rattle.solving.specs.Walk.{enough, treat-line, turn, crowded, over-limit, solved, refused, walk-from}
 use Rattle.walking.specs.declared.walk.Walk.{Walk}
 use Rattle.unifying.specs.Contracts.PrefixForm.{view-of, InPrefixForm}
 use Rattle.unifying.specs.Contracts.Bindings.{bindings-of}
-use Rattle.lines.specs.Contracts.Stored.{Stored, line-of, stored-bytes}
+use Rattle.lines.specs.Contracts.Resting.{RestingLine, line-of, resting-bytes}
 use Rattle.lines.specs.Contracts.Layout.{line-bytes, placed}
-use Rattle.lines.specs.Contracts.Place.{lines-bytes}
-use Rattle.walking.specs.Contracts.Sound.{AllReduced, Sound}
-use Rattle.walking.specs.Contracts.Walking.{memory-bytes, AllSound, Memory, whole-walk, Walking, Further, GoesOn, Finished, AllFinished}
+use Rattle.lines.specs.Contracts.Room.{lines-bytes}
+use Rattle.walking.specs.Contracts.WellFormed.{AllReduced, WellFormed}
+use Rattle.walking.specs.Contracts.Walking.{AllWellFormed, HoldsTable, whole-walk, Walking, GoesOn}
 use Rattle.unifying.specs.Theory.Bindings.{length-bindings, readable-slots}
-use Rattle.lines.specs.Theory.Place.{placed-length}
-use Rattle.lines.specs.Theory.Resting.{slice-is}
-use Rattle.lines.specs.Theory.Stored.{length-stored}
+use Rattle.lines.specs.Theory.Placed.{placed-length}
+use Rattle.lines.specs.Theory.InPlace.{slice-is}
+use Rattle.lines.specs.Theory.Resting.{length-resting}
 use Rattle.walking.proofs.Turn.{Settled, leftmost-none, finished-append, turn-none, turn-some, short-append, finished-short, crowded-middle, over-elements, over-lines, within-limits, walk-ends, walk-too-long, walk-over, walk-on}
 
 -- 1. Parts of a buffer.
@@ -41,38 +40,38 @@ unfolding placed
 placed-back at part buffer l = drop-at (take at buffer) (part ++ drop (at + length part) buffer) at (length-take-le at buffer l)
 
 -- 2. The stack of unfinished lines.
-pub sound-length : {nodes sizes : List ℕ} (l : Stored) → Sound nodes sizes l → length (stored-bytes l) ≡ line-bytes
-sound-length l s = length-stored l (readable-slots (s .readable)) (s .few)
+pub well-formed-length : {nodes sizes : List ℕ} (l : RestingLine) → WellFormed nodes sizes l → length (resting-bytes l) ≡ line-bytes
+well-formed-length l s = length-resting l (readable-slots (s .readable)) (s .few)
 
-pub length-lines : (nodes sizes : List ℕ) (ls : List Stored) → AllSound nodes sizes ls → length (lines-bytes ls) ≡ length ls * line-bytes
+pub length-lines : (nodes sizes : List ℕ) (ls : List RestingLine) → AllWellFormed nodes sizes ls → length (lines-bytes ls) ≡ length ls * line-bytes
 unfolding lines-bytes
 length-lines nodes sizes [] h = refl
-length-lines nodes sizes (l ∷ ls) h = length-append (stored-bytes l) (lines-bytes ls) ∙ omega (arith, sound-length l (h .0), length-lines nodes sizes ls (h .1))
+length-lines nodes sizes (l ∷ ls) h = length-append (resting-bytes l) (lines-bytes ls) ∙ omega (arith, well-formed-length l (h .0), length-lines nodes sizes ls (h .1))
 
-pub lines-append : (xs ys : List Stored) → lines-bytes (xs ++ ys) ≡ lines-bytes xs ++ lines-bytes ys
+pub lines-append : (xs ys : List RestingLine) → lines-bytes (xs ++ ys) ≡ lines-bytes xs ++ lines-bytes ys
 unfolding lines-bytes
 lines-append [] ys = refl
-lines-append (l ∷ xs) ys = ap (stored-bytes l ++_) (lines-append xs ys) ∙ sym (append-assoc (stored-bytes l) (lines-bytes xs) (lines-bytes ys))
+lines-append (l ∷ xs) ys = ap (resting-bytes l ++_) (lines-append xs ys) ∙ sym (append-assoc (resting-bytes l) (lines-bytes xs) (lines-bytes ys))
 
-pub sound-append : (nodes sizes : List ℕ) (xs ys : List Stored) → AllSound nodes sizes xs → AllSound nodes sizes ys → AllSound nodes sizes (xs ++ ys)
-sound-append nodes sizes [] ys h k = k
-sound-append nodes sizes (l ∷ xs) ys h k = (h .0, sound-append nodes sizes xs ys (h .1) k)
+pub well-formed-append : (nodes sizes : List ℕ) (xs ys : List RestingLine) → AllWellFormed nodes sizes xs → AllWellFormed nodes sizes ys → AllWellFormed nodes sizes (xs ++ ys)
+well-formed-append nodes sizes [] ys h k = k
+well-formed-append nodes sizes (l ∷ xs) ys h k = (h .0, well-formed-append nodes sizes xs ys (h .1) k)
 
-pub sound-short : (nodes sizes : List ℕ) (ls : List Stored) → AllSound nodes sizes ls → any crowded (map line-of ls) ≡ false
+pub well-formed-short : (nodes sizes : List ℕ) (ls : List RestingLine) → AllWellFormed nodes sizes ls → any crowded (map line-of ls) ≡ false
 unfolding any line-of crowded
-sound-short nodes sizes [] h = refl
-sound-short nodes sizes (l ∷ ls) h = rw (le-ltb max-elements (length (l .elements)) (h .0 .few), sound-short nodes sizes ls (h .1), any)
+well-formed-short nodes sizes [] h = refl
+well-formed-short nodes sizes (l ∷ ls) h = rw (le-ltb max-elements (length (l .elements)) (h .0 .few), well-formed-short nodes sizes ls (h .1), any)
 
-module _ {nodes sizes memory : List ℕ} {done top : ℕ} {finished : List Line} {first : Stored} {others : List Stored} (m : Memory nodes sizes memory done top finished (first ∷ others)) where
+module _ {nodes sizes memory : List ℕ} {done top : ℕ} {finished : List Line} {first : RestingLine} {others : List RestingLine} (m : HoldsTable nodes sizes memory done top finished (first ∷ others)) where
   -- The first unfinished line stands at its place, the others behind it.
   place-within : top * line-bytes + line-bytes ≤ length memory
   place-within = omega (arith, m .length-is, m .top-is)
 
-  pub first-there : slice (top * line-bytes) (top * line-bytes + line-bytes) memory ≡ stored-bytes first
+  pub first-there : slice (top * line-bytes) (top * line-bytes + line-bytes) memory ≡ resting-bytes first
   unfolding lines-bytes
   first-there =
       slice-is (top * line-bytes) line-bytes memory (omega (arith, place-within))
-      ∙ (ap (take line-bytes) (m .lines-are) ∙ take-at (stored-bytes first) (lines-bytes others) line-bytes (sound-length first (m .all-sound .0)))
+      ∙ (ap (take line-bytes) (m .lines-are) ∙ take-at (resting-bytes first) (lines-bytes others) line-bytes (well-formed-length first (m .all-well-formed .0)))
 
   others-there : drop ((top + 1) * line-bytes) memory ≡ lines-bytes others
   unfolding lines-bytes
@@ -80,11 +79,11 @@ module _ {nodes sizes memory : List ℕ} {done top : ℕ} {finished : List Line}
       let e : (top + 1) * line-bytes ≡ top * line-bytes + line-bytes = omega arith in
       ap (λ n. drop n memory) e
       ∙ (sym (drop-drop line-bytes (top * line-bytes) memory)
-      ∙ (ap (drop line-bytes) (m .lines-are) ∙ drop-at (stored-bytes first) (lines-bytes others) line-bytes (sound-length first (m .all-sound .0))))
+      ∙ (ap (drop line-bytes) (m .lines-are) ∙ drop-at (resting-bytes first) (lines-bytes others) line-bytes (well-formed-length first (m .all-well-formed .0))))
 
   -- 3. The line is replaced by others.
-  pub replaced : (memory′ : List ℕ) (top′ : ℕ) (children : List Stored) → AllSound nodes sizes children → top′ + length children ≡ top + 1 → done ≤ top′
-      → memory′ ≡ placed (top′ * line-bytes) (lines-bytes children) memory → Memory nodes sizes memory′ done top′ finished (children ++ others)
+  pub replaced : (memory′ : List ℕ) (top′ : ℕ) (children : List RestingLine) → AllWellFormed nodes sizes children → top′ + length children ≡ top + 1 → done ≤ top′
+      → memory′ ≡ placed (top′ * line-bytes) (lines-bytes children) memory → HoldsTable nodes sizes memory′ done top′ finished (children ++ others)
   replaced memory′ top′ children s t o e =
       let k = length-lines nodes sizes children s in
       let w = place-within in
@@ -101,11 +100,11 @@ module _ {nodes sizes memory : List ℕ} {done top : ℕ} {finished : List Line}
         top-is = omega (arith, m .top-is, length-append children others);
         ordered = o;
         all-finished = m .all-finished;
-        all-sound = sound-append nodes sizes children others s (m .all-sound .1);
+        all-well-formed = well-formed-append nodes sizes children others s (m .all-well-formed .1);
       }
 
 -- 4. The walk goes on from the new table, or is refused.
-module _ (nodes sizes memory : List ℕ) (w : Walk) (finished : List Line) (first : Stored) (others : List Stored) (m : Memory nodes sizes memory (w .done) (w .top) finished (first ∷ others))
+module _ (nodes sizes memory : List ℕ) (w : Walk) (finished : List Line) (first : RestingLine) (others : List RestingLine) (m : HoldsTable nodes sizes memory (w .done) (w .top) finished (first ∷ others))
     (leads : walk-from enough (view-of nodes sizes) (max-turns - w .turns) (w .turns) (finished ++ map line-of (first ∷ others)) ≡ whole-walk nodes sizes w) where
   table-turns : (new : List Line) → treat-line enough (view-of nodes sizes) (line-of first) ≡ some new
       → turn enough (view-of nodes sizes) (finished ++ map line-of (first ∷ others)) ≡ some (finished ++ (new ++ map line-of others))
@@ -140,14 +139,14 @@ module _ (nodes sizes memory : List ℕ) (w : Walk) (finished : List Line) (firs
     short-table : (new : List Line) → any crowded new ≡ false → any crowded (finished ++ (new ++ map line-of others)) ≡ false
     short-table new h =
         short-append finished (new ++ map line-of others) (finished-short (view-of nodes sizes) finished (m .all-finished))
-        (short-append new (map line-of others) h (sound-short nodes sizes others (m .all-sound .1)))
+        (short-append new (map line-of others) h (well-formed-short nodes sizes others (m .all-well-formed .1)))
 
     pub refused-lines : (new : List Line) → treat-line enough (view-of nodes sizes) (line-of first) ≡ some new → any crowded new ≡ false → w .top + 1 < w .done + length new
         → whole-walk nodes sizes w ≡ refused too-many-lines
     refused-lines new x h l =
         refused-over new too-many-lines x (over-lines (finished ++ (new ++ map line-of others)) (short-table new h) (omega (arith, length-table new, m .top-is)))
 
-    module _ (laid : InPrefixForm nodes sizes) (memory′ : List ℕ) (top′ : ℕ) (children : List Stored) (sound : AllSound nodes sizes children) (count : top′ + length children ≡ w .top + 1) (ordered : w .done ≤ top′)
+    module _ (laid : InPrefixForm nodes sizes) (memory′ : List ℕ) (top′ : ℕ) (children : List RestingLine) (sound : AllWellFormed nodes sizes children) (count : top′ + length children ≡ w .top + 1) (ordered : w .done ≤ top′)
         (placed-there : memory′ ≡ placed (top′ * line-bytes) (lines-bytes children) memory)
         (x : treat-line enough (view-of nodes sizes) (line-of first) ≡ some (map line-of children)) where
       abbrev further-on : Walk
@@ -157,7 +156,7 @@ module _ (nodes sizes memory : List ℕ) (w : Walk) (finished : List Line) (firs
       turned =
           let new = map line-of children in
           let l = length-map children line-of in
-          let o = within-limits (finished ++ (new ++ map line-of others)) (short-table new (sound-short nodes sizes children sound)) (omega (arith, length-table new, m .top-is)) in
+          let o = within-limits (finished ++ (new ++ map line-of others)) (short-table new (well-formed-short nodes sizes children sound)) (omega (arith, length-table new, m .top-is)) in
           let e : suc (w .turns) ≡ w .turns + 1 = omega arith in
           record {
             walking = record {
@@ -213,7 +212,7 @@ placed-through at part buffer l =
     ap (take (at + length part)) (sym (append-assoc (take at buffer) part (drop (at + length part) buffer)))
     ∙ take-at (take at buffer ++ part) (drop (at + length part) buffer) (at + length part) (length-append (take at buffer) part ∙ ap (_+ length part) e)
 
-module _ (nodes sizes memory : List ℕ) (w : Walk) (finished : List Line) (first : Stored) (others : List Stored) (m : Memory nodes sizes memory (w .done) (w .top) finished (first ∷ others))
+module _ (nodes sizes memory : List ℕ) (w : Walk) (finished : List Line) (first : RestingLine) (others : List RestingLine) (m : HoldsTable nodes sizes memory (w .done) (w .top) finished (first ∷ others))
     (leads : walk-from enough (view-of nodes sizes) (max-turns - w .turns) (w .turns) (finished ++ map line-of (first ∷ others)) ≡ whole-walk nodes sizes w) where
   abbrev line-on : Walk
   line-on = record { source = w .source; target = w .target; done = w .done + 1; top = w .top + 1; turns = w .turns }
@@ -222,7 +221,7 @@ module _ (nodes sizes memory : List ℕ) (w : Walk) (finished : List Line) (firs
       → memory′ ≡ placed (w .done * record-bytes) (record-of (line-of first)) memory → GoesOn nodes sizes memory′ w line-on
   unfolding line-of treat-line crowded
   finished-on laid within memory′ r e =
-      let s = m .all-sound .0 in
+      let s = m .all-well-formed .0 in
       let k : length (record-of (line-of first)) ≡ record-bytes = length-record-of (first .bindings) (first .elements) (readable-slots (s .readable)) (s .few) in
       let p : (w .done + 1) * record-bytes ≡ w .done * record-bytes + length (record-of (line-of first)) = omega arith in
       let room : w .done * record-bytes + record-bytes ≤ length memory = omega (arith, m .length-is, m .top-is, m .ordered) in
@@ -251,7 +250,7 @@ module _ (nodes sizes memory : List ℕ) (w : Walk) (finished : List Line) (firs
               },
               tt,
             );
-            all-sound = m .all-sound .1;
+            all-well-formed = m .all-well-formed .1;
           };
           turns-within = within;
           leads = ap (walk-from enough (view-of nodes sizes) (max-turns - w .turns) (w .turns)) (append-assoc finished (line-of first ∷ []) (map line-of others)) ∙ leads;
@@ -264,7 +263,7 @@ pub ended : (nodes sizes memory : List ℕ) (w : Walk) (k : Walking nodes sizes 
     → (whole-walk nodes sizes w ≡ solved (k .finished) (w .turns)) × (length (k .finished) ≡ w .done) × (take (w .done * record-bytes) memory ≡ records (k .finished))
 ended nodes sizes memory w k h = go (k .unfinished) refl
   where
-    go : (ls : List Stored) → k .unfinished ≡ ls
+    go : (ls : List RestingLine) → k .unfinished ≡ ls
         → (whole-walk nodes sizes w ≡ solved (k .finished) (w .turns)) × (length (k .finished) ≡ w .done) × (take (w .done * record-bytes) memory ≡ records (k .finished))
     go [] e =
         let t : k .finished ++ map line-of (k .unfinished) ≡ k .finished = ap (λ l. k .finished ++ map line-of l) e ∙ append-nil (k .finished) in (

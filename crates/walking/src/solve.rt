@@ -9,13 +9,13 @@ use lines::edit::store;
 use lines::layout::LINE;
 use lines::line::Line;
 ghost use mathlib.Core.Path.{_≡_};
-ghost use Prim.Native.Nat.{_*_, _≤_, _<_};
+ghost use Prim.Native.Nat.{_≤_, _<_};
 ghost use lib.ListN.{length, take};
 ghost use Rattle.format.specs.Buffer.{written};
 ghost use Rattle.format.specs.Limits.{table-bytes};
 ghost use Rattle.unifying.specs.Contracts.PrefixForm.{InPrefixForm};
-ghost use Rattle.walking.specs.Contracts.Walking.{memory-bytes, Walking, Comes};
-ghost use Rattle.walking.specs.Contracts.Solve.{WalkedAs};
+ghost use Rattle.walking.specs.Contracts.Walking.{memory-bytes, Walking, WalkEnds};
+ghost use Rattle.walking.specs.Contracts.Solve.{ReportsWalk};
 
 // The place of the first line: the last of the memory.
 const FIRST: usize = Limits::LINES - 1;
@@ -24,14 +24,14 @@ const FIRST: usize = Limits::LINES - 1;
 pub const MEMORY: usize = Limits::LINES * LINE;
 
 // How a walk ends.
-pub enum Ending {
+pub enum WalkEnd {
     Solved,
     Refused(Refusal),
 }
 
 // How it ends, and the counts of lines and turns of a walk that solves.
-pub struct Walked {
-    pub ending: Ending,
+pub struct WalkResult {
+    pub ending: WalkEnd,
     pub lines: usize,
     pub turns: usize,
 }
@@ -59,7 +59,7 @@ fn begin_walk(nodes: &[u8], sizes: &[u8], source: usize, target: usize, memory: 
 // Turn after turn, until no line is unfinished or the walk is refused.
 fn go_on(walk: Walk, nodes: &[u8], sizes: &[u8], memory: &mut [u8]) -> Advanced
     requires { ⌜ Walking (now nodes) (now sizes) (now memory) walk ⌝ }
-    ensures { λ r. ⌜ Comes (now (nodes .entry)) (now (sizes .entry)) (now (memory .exit)) walk r ⌝ }
+    ensures { λ r. ⌜ WalkEnds (now (nodes .entry)) (now (sizes .entry)) (now (memory .exit)) walk r ⌝ }
 {
     let mut cursor = walk;
     while cursor.top < Limits::LINES {
@@ -93,10 +93,10 @@ pub fn solve_positions(
     target: usize,
     table: &mut [u8],
     memory: &mut [u8],
-) -> Walked
+) -> WalkResult
     requires { ⌜ InPrefixForm (now nodes) (now sizes) × (source < length (now nodes)) × (target < length (now nodes)) ⌝ }
     requires { ⌜ (table-bytes ≤ length (now table)) × (length (now memory) ≡ memory-bytes) ⌝ }
-    ensures { λ r. ⌜ WalkedAs (now (nodes .entry)) (now (sizes .entry)) source target (now (table .entry)) (now (table .exit)) r ⌝ }
+    ensures { λ r. ⌜ ReportsWalk (now (nodes .entry)) (now (sizes .entry)) source target (now (table .entry)) (now (table .exit)) r ⌝ }
 {
     let first = begin_walk(nodes, sizes, source, target, memory);
     let last = go_on(first, nodes, sizes, memory);
@@ -105,14 +105,14 @@ pub fn solve_positions(
     match progress {
         Progress::Going => {
             copy_front(memory, table, walk.done * Limits::RECORD);
-            Walked {
-                ending: Ending::Solved,
+            WalkResult {
+                ending: WalkEnd::Solved,
                 lines: walk.done,
                 turns: walk.turns,
             }
         }
-        Progress::Refused(why) => Walked {
-            ending: Ending::Refused(why),
+        Progress::Refused(why) => WalkResult {
+            ending: WalkEnd::Refused(why),
             lines: 0,
             turns: 0,
         },

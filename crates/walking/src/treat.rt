@@ -11,30 +11,41 @@ ghost use lib.ListN.{length};
 ghost use Rattle.solving.specs.Line.{greater};
 ghost use Rattle.solving.specs.Contracts.Within.{Within};
 ghost use Rattle.unifying.specs.Contracts.Bindings.{Readable};
-ghost use Rattle.lines.specs.Contracts.Stored.{meaning};
+ghost use Rattle.lines.specs.Contracts.Resting.{meaning};
 ghost use Rattle.walking.specs.Contracts.Treatment.{Treated};
+
+// The positions of an element's two sides, or of the terms reached from them.
+pub struct Sides {
+    pub left: usize,
+    pub right: usize,
+}
 
 // Nothing, the line deleted, the element deleted, two positions unified, or choices: an inequality's positions and those reached from them.
 pub enum Treatment {
     Reduced,
     DropLine,
     DropElement,
-    Unify(usize, usize),
-    Split(usize, usize, usize, usize),
+    Unify(Sides),
+    Split(Sides, Sides),
+}
+
+fn sides_of(p: u8, q: u8) -> Sides
+    ensures { λ r. ⌜ r ≡ record { left = p; right = q } ⌝ }
+{
+    Sides {
+        left: wide(p),
+        right: wide(q),
+    }
 }
 
 // "Inequality l > r", by what l and r are.
-fn inequality_treatment(
-    nodes: &[u8],
-    sizes: &[u8],
-    bindings: &[u8],
-    p: usize,
-    q: usize,
-) -> Treatment
+fn inequality_treatment(nodes: &[u8], sizes: &[u8], bindings: &[u8], sides: Sides) -> Treatment
     requires { ⌜ Readable (now nodes) (now sizes) (now bindings) ⌝ }
-    requires { ⌜ (p < length (now nodes)) × (q < length (now nodes)) ⌝ }
-    ensures { λ r. ⌜ Treated (now (nodes .entry)) (now (sizes .entry)) (now (bindings .entry)) (greater p q) r ⌝ }
+    requires { ⌜ (sides .left < length (now nodes)) × (sides .right < length (now nodes)) ⌝ }
+    ensures { λ r. ⌜ Treated (now (nodes .entry)) (now (sizes .entry)) (now (bindings .entry)) (greater (sides .left) (sides .right)) r ⌝ }
 {
+    let p = sides.left;
+    let q = sides.right;
     let s = reached(nodes, sizes, bindings, p);
     let t = reached(nodes, sizes, bindings, q);
     let f = nodes[s];
@@ -51,7 +62,8 @@ fn inequality_treatment(
         }
         return Treatment::Reduced;
     }
-    Treatment::Split(p, q, s, t)
+    let terms = Sides { left: s, right: t };
+    Treatment::Split(sides, terms)
 }
 
 pub fn treatment_of(nodes: &[u8], sizes: &[u8], bindings: &[u8], element: Element) -> Treatment
@@ -61,7 +73,7 @@ pub fn treatment_of(nodes: &[u8], sizes: &[u8], bindings: &[u8], element: Elemen
 {
     let relation = element.relation;
     match relation {
-        Relation::Greater(p, q) => inequality_treatment(nodes, sizes, bindings, wide(p), wide(q)),
-        Relation::Equal(p, q) => Treatment::Unify(wide(p), wide(q)),
+        Relation::Greater(p, q) => inequality_treatment(nodes, sizes, bindings, sides_of(p, q)),
+        Relation::Equal(p, q) => Treatment::Unify(sides_of(p, q)),
     }
 }

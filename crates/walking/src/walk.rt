@@ -11,9 +11,10 @@
 //
 // A place holds a line as `lines::layout` lays it out: bindings, count, pairs of positions, filler, and last the count of elements known to be fully reduced.
 // A record is the line without that last byte, so that the records of finished lines never reach an unfinished one.
-use crate::split::last_count;
+use crate::split::choices_of;
 use crate::split::push_choices;
 use crate::split::too_long;
+use crate::treat::Sides;
 use crate::treat::Treatment;
 use crate::treat::treatment_of;
 use format::byte::wide;
@@ -27,7 +28,6 @@ use lines::line::Line;
 use lines::rebind::differ;
 use lines::rebind::rebind;
 use lines::record::write_record;
-use unifying::count::row_count;
 use unifying::unifier::unify_positions;
 use unifying::unify::Answer;
 ghost use mathlib.Core.Path.{_≡_};
@@ -111,15 +111,14 @@ impl Walk {
         sizes: &[u8],
         memory: &mut [u8],
         at: usize,
-        p: usize,
-        q: usize,
+        sides: Sides,
     ) -> Walk
-        requires { ⌜ TreatingLine (now nodes) (now sizes) (now memory) self line at (Unify p q) × (self .turns < max-turns) ⌝ }
+        requires { ⌜ TreatingLine (now nodes) (now sizes) (now memory) self line at (Unify sides) × (self .turns < max-turns) ⌝ }
         ensures { λ r. ⌜ GoesOn (now (nodes .entry)) (now (sizes .entry)) (now (memory .exit)) self r ⌝ }
     {
         let place = self.top * LINE;
         let bindings = line.bindings;
-        let unifier = unify_positions(nodes, sizes, &bindings, p, q);
+        let unifier = unify_positions(nodes, sizes, &bindings, sides.left, sides.right);
         let answer = unifier.answer;
         let Answer::Unified = answer else {
             return self.turned(self.top + 1);
@@ -141,59 +140,34 @@ impl Walk {
         sizes: &[u8],
         memory: &mut [u8],
         at: usize,
-        p: usize,
-        q: usize,
-        s: usize,
-        t: usize,
+        sides: Sides,
+        terms: Sides,
     ) -> Advanced
-        requires { ⌜ TreatingCount (now nodes) (now sizes) (now memory) self count at (Split p q s t) ⌝ }
+        requires { ⌜ TreatingCount (now nodes) (now sizes) (now memory) self count at (Split sides terms) ⌝ }
         ensures { λ r. ⌜ Advances (now (nodes .entry)) (now (sizes .entry)) (now (memory .exit)) self r ⌝ }
     {
-        let f = nodes[s];
-        let g = nodes[t];
-        let m = s + wide(sizes[s]);
-        let n = t + wide(sizes[t]);
-        let left = row_count(sizes, s + 1, m);
-        let right = row_count(sizes, t + 1, n);
-        let last = last_count(f, g, left, right);
-        if too_long(last, count - 1 + right) {
+        let choices = choices_of(nodes, sizes, at, sides, terms);
+        let left = choices.left;
+        let right = choices.right;
+        let last = choices.last;
+        if too_long(last, count - 1 + right.count) {
             return Advanced {
                 progress: Progress::Refused(Refusal::TooManyElements),
                 walk: self,
             };
         }
-        let choices = left + left + last;
-        if self.top + 1 < self.done + choices {
+        let number = left.count + left.count + last;
+        if self.top + 1 < self.done + number {
             return Advanced {
                 progress: Progress::Refused(Refusal::TooManyLines),
                 walk: self,
             };
         }
-        let first = self.top + 1 - choices;
+        let first = self.top + 1 - number;
         let mut line = [Limits::NO_POSITION; LINE];
         load(memory, self.top * LINE, &mut line);
-        push_choices(
-            sizes,
-            &mut line,
-            memory,
-            at,
-            p as u8,
-            q as u8,
-            f,
-            g,
-            s + 1,
-            m,
-            t + 1,
-            n,
-            right,
-            last,
-            first * LINE,
-        );
-        let walk = self.turned(first);
-        Advanced {
-            progress: Progress::Going,
-            walk: walk,
-        }
+        push_choices(sizes, &mut line, memory, choices, first * LINE);
+        going(self.turned(first))
     }
 
     // Does what element number `element` asks for, which is one turn.
@@ -220,17 +194,15 @@ impl Walk {
             Treatment::Reduced => going(self),
             Treatment::DropLine => going(self.turned(self.top + 1)),
             Treatment::DropElement => going(self.drop_element(line, nodes, sizes, memory, at)),
-            Treatment::Unify(p, q) => going(self.unify(line, nodes, sizes, memory, at, p, q)),
-            Treatment::Split(p, q, s, t) => self.split(
+            Treatment::Unify(sides) => going(self.unify(line, nodes, sizes, memory, at, sides)),
+            Treatment::Split(sides, terms) => self.split(
                 line.count,
                 nodes,
                 sizes,
                 memory,
                 at,
-                p,
-                q,
-                s,
-                t,
+                sides,
+                terms,
             ),
         }
     }

@@ -13,7 +13,8 @@ use Rattle.format.specs.Buffer.{written}
 use Rattle.format.specs.Lists.{entry}
 use Rattle.format.specs.Theory.Lists.{every-entry}
 use Rattle.terms.specs.Equation.{Equation, Direction, direction-of}
-use Rattle.terms.specs.Theory.Limits.{WithinLimits, positions-few}
+use Rattle.terms.specs.Contracts.Limits.{WithinLimits}
+use Rattle.terms.specs.Theory.Limits.{positions-few}
 use Rattle.sheet.specs.Sheet.{Sheet}
 use Rattle.sheet.specs.Reading.{Reading, refused-at, accepted, read}
 use Rattle.sheet.specs.Contracts.Valid.{ValidEquation}

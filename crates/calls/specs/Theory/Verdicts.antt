@@ -15,7 +15,7 @@ use Rattle.format.specs.Theory.Lists.{every-entry}
 use Rattle.ordering.specs.declared.verdict.Verdict.{Verdict}
 use Rattle.ordering.specs.declared.verdict.Verdict.the-variants.{Smaller as smaller, Equal as equal, Greater as greater}
 use Rattle.ordering.specs.Verdict.{verdict, verdict-number}
-use Rattle.ordering.specs.Theory.Total.{Says, verdict-exact}
+use Rattle.ordering.specs.Theory.Total.{VerdictSays, verdict-exact}
 use Rattle.sheet.specs.Sheet.{Task, run, judgement, comparison, Sheet}
 use Rattle.sheet.specs.Reading.{Reading, refused-at, accepted, read}
 use Rattle.sheet.specs.Contracts.Valid.{ValidTask}
@@ -63,7 +63,7 @@ module _ (sheet : List ℕ) (task : ℕ) (scratch : List ℕ) where
 
   -- The number tells the verdict, and the verdict what holds.
   told : (n : ComparisonTask sheet task) → compare-call sheet task scratch .returned ≡ fields (verdict-number (verdict (n .first) (n .second))) 0 0
-      → (v : Verdict) → (compare-call sheet task scratch .returned ≡ fields (verdict-number v) 0 0) ↔ Says v (n .first) (n .second)
+      → (v : Verdict) → (compare-call sheet task scratch .returned ≡ fields (verdict-number v) 0 0) ↔ VerdictSays v (n .first) (n .second)
   told n e v =
       let (a, b) = verdict-exact (n .content .arities) (n .first) (n .second) (n .first-ground) (n .second-ground) v in
       (λ h. a (number-same _ v (field-same _ _ (sym e ∙ h))), λ h. e ∙ ap (λ v. fields (verdict-number v) 0 0) (b h))

@@ -4,9 +4,10 @@ use mathlib.Core.Path.{_≡_, refl, ap, _∙_}
 use mathlib.Core.Option.{Option, none, some}
 use mathlib.Core.List.{List, [], _∷_}
 use native.Mathlib.Omega.{arith}
-use Rattle.format.specs.Theory.Lists.{Every, every-map}
+use Rattle.format.specs.Lists.{Every}
+use Rattle.format.specs.Theory.Lists.{every-map}
 use Rattle.terms.specs.Equation.{Equation, Direction, left-right, right-left}
-use Rattle.terms.specs.Theory.Limits.{WithinLimits}
+use Rattle.terms.specs.Contracts.Limits.{WithinLimits}
 use Rattle.sheet.specs.Sheet.{Sheet}
 use Rattle.sheet.specs.Reading.{accepted, read}
 use Rattle.sheet.specs.Theory.Accepted.{accepted-valid}

@@ -12,9 +12,10 @@ use Rattle.format.specs.Theory.Byte.{symbol-class, variable-class}
 use Rattle.terms.specs.Term.{Term, Terms, var, app, nil, cons, size, sizes, Values, inst, insts, Ground, Grounds}
 use Rattle.terms.specs.Position.{subterms, subterms-of}
 use Rattle.terms.specs.Prefix.{prefix, prefixes}
-use Rattle.terms.specs.Theory.Limits.{VariablesBelow, AllVariablesBelow}
+use Rattle.terms.specs.Contracts.Limits.{VariablesBelow, AllVariablesBelow}
 use Rattle.terms.specs.Theory.Position.{length-subterms, subterm-first, subterm-rest}
-use Rattle.terms.specs.Theory.Prefix.{Fits, AllFit, grounds-fit, length-prefix}
+use Rattle.terms.specs.Theory.Prefix.{grounds-fit, length-prefix}
+use Rattle.terms.specs.Contracts.Fits.{AllFit, Fits}
 use Rattle.comparing.specs.Contracts.Nodes.{Denotes, symbol-node, variable-node, RowDenotes, none, more}
 
 -- From `i` on, `all` has the elements of `part`.

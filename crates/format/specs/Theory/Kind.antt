@@ -7,7 +7,7 @@ use mathlib.Core.List.{List, [], _∷_}
 use lib.Dec.{eqb}
 use borrow.Author.Tests.{eqb-true, ne-eqb}
 use Rattle.format.specs.Kind.{FrameKind, symbols-kind, equation-kind, run-kind, judgement-kind, comparison-kind, unknown-kind, kind-byte, kind-among, kinds, kind-of}
-use Rattle.format.specs.Theory.Lists.{Every}
+use Rattle.format.specs.Lists.{Every}
 
 among-told : (ks : List FrameKind) (b : ℕ) → (b ≡ kind-byte (kind-among ks b)) ⊎ (kind-among ks b ≡ unknown-kind)
 unfolding kind-among

@@ -7,8 +7,8 @@ use Rattle.solving.specs.Line.{Element}
 use Rattle.solving.specs.Walk.{argument-choices, exceeds-each, lexicographic-choices}
 use Rattle.unifying.specs.Contracts.PrefixForm.{Row}
 use Rattle.lines.specs.Contracts.Layout.{line-bytes, placed}
-use Rattle.lines.specs.Contracts.Stored.{equality-mark, marks}
-use Rattle.lines.specs.Contracts.Place.{Gap}
+use Rattle.lines.specs.Contracts.Resting.{equality-mark, marks}
+use Rattle.lines.specs.Contracts.Room.{Gap}
 
 -- Terms stand in the row from `k` to `end`, and the line has room for an element for each from `at` on.
 pub record ExceedingFit (sizes : List ℕ) (at k end : ℕ) (line : List ℕ) : Type 0 where

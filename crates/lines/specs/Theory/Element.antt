@@ -1,17 +1,13 @@
 -- The code's elements and what they say.
-use Prim.Native.Nat.{ℕ, _+_, _-_, _*_, _≤_, _<_}
-use mathlib.Core.Path.{_≡_, refl, sym, ap, _∙_}
-use mathlib.Core.Bool.{true, false}
+use Prim.Native.Nat.{ℕ, _+_, _-_, _≤_, _<_}
+use mathlib.Core.Path.{_≡_, sym, ap}
 use mathlib.Core.List.{List}
-use lib.ListN.{length, getD}
-use lib.Dec.{ltb}
+use lib.ListN.{getD}
 use borrow.Author.Tests.{lt-ltb, le-ltb}
-use native.Mathlib.Omega.{arith}
-use Rattle.solving.specs.Line.{Element, equal, greater}
-use Rattle.lines.specs.declared.element.Relation.{Relation}
+use Rattle.solving.specs.Line.{equal, greater}
 use Rattle.lines.specs.declared.element.Relation.the-variants.{Equal, Greater}
 use Rattle.lines.specs.declared.element.Element.{Element as Held}
-use Rattle.lines.specs.Contracts.Stored.{said, meaning, equality-mark, marked}
+use Rattle.lines.specs.Contracts.Resting.{said, meaning, equality-mark, marked}
 
 -- Two bytes read as an element.
 pub marked-greater : (a b : ℕ) → a < equality-mark → marked a b ≡ greater a b

@@ -10,8 +10,8 @@ use Rattle.solving.specs.Line.{Element, equal, greater, binding-byte, element-b
 use Rattle.solving.specs.Theory.Written.{Inequalities}
 use Rattle.unifying.specs.Contracts.Bindings.{binding-of, bindings-of}
 use Rattle.unifying.specs.Theory.Bindings.{bound-byte, free-byte}
-use Rattle.lines.specs.Contracts.Stored.{marks, padding, Stored, line-of, stored-bytes}
-use Rattle.lines.specs.Theory.Stored.{record-there}
+use Rattle.lines.specs.Contracts.Resting.{marks, padding, RestingLine, line-of, resting-bytes}
+use Rattle.lines.specs.Theory.Resting.{record-there}
 
 -- A binding's byte, read and written again.
 pub binding-back : (b : ℕ) → b ≤ no-position → binding-byte (binding-of b) ≡ b
@@ -35,9 +35,9 @@ marks-bytes (equal p q ∷ es) h = absurd (h .0)
 marks-bytes (greater p q ∷ es) h = ap (λ l. p ∷ q ∷ l) (marks-bytes es (h .1))
 
 -- The record of a finished line.
-pub record-written : (l : Stored) → length (l .bindings) ≡ variable-count → length (l .elements) ≤ max-elements → ((i : ℕ) → getD (stored-bytes l) i 0 ≤ no-position) → Inequalities (l .elements)
-    → take record-bytes (stored-bytes l) ≡ record-of (line-of l)
-unfolding record-of line-of padding stored-bytes
+pub record-written : (l : RestingLine) → length (l .bindings) ≡ variable-count → length (l .elements) ≤ max-elements → ((i : ℕ) → getD (resting-bytes l) i 0 ≤ no-position) → Inequalities (l .elements)
+    → take record-bytes (resting-bytes l) ≡ record-of (line-of l)
+unfolding record-of line-of padding resting-bytes
 record-written l slots few h e =
     let bs = l .bindings in
     let n = length (l .elements) in

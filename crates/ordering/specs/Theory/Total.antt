@@ -98,17 +98,17 @@ module _ (arities : List ℕ) where
       app-app x y (each-ground ps (x .2)) (each-ground rs (y .2)))) s x t y
 
 -- What a verdict says of two terms.
-abbrev pub Says : Verdict → Term → Term → Type 0
-Says smaller s t = t ≻ s
-Says equal s t = s ≡ t
-Says greater s t = s ≻ t
+abbrev pub VerdictSays : Verdict → Term → Term → Type 0
+VerdictSays smaller s t = t ≻ s
+VerdictSays equal s t = s ≡ t
+VerdictSays greater s t = s ≻ t
 
 -- One derivation, or one equation, gives the verdict.
-pub verdict-is : (s t : Term) (v : Verdict) → Says v s t → verdict s t ≡ v
+pub verdict-is : (s t : Term) (v : Verdict) → VerdictSays v s t → verdict s t ≡ v
 unfolding verdict
 verdict-is s t v h = go (identical? s t) (exceeds? s t) v h
   where
-    go : (d : Dec (s ≡ t)) (e : Dec (s ≻ t)) (v : Verdict) → Says v s t
+    go : (d : Dec (s ≡ t)) (e : Dec (s ≻ t)) (v : Verdict) → VerdictSays v s t
         → elim d as (λ x. Verdict) [ yes e ↦ equal | no n ↦ elim e as (λ x. Verdict) [ yes g ↦ greater | no m ↦ smaller ] ] ≡ v
     go (yes p) e smaller h = absurd (≻-irrefl (rw p at h))
     go (yes p) e equal h = refl
@@ -122,17 +122,17 @@ verdict-is s t v h = go (identical? s t) (exceeds? s t) v h
 
 module _ (arities : List ℕ) (s t : Term) (x : Ground arities s) (y : Ground arities t) where
   -- What the verdict says holds.
-  pub verdict-says : Says (verdict s t) s t
+  pub verdict-says : VerdictSays (verdict s t) s t
   verdict-says = go (trichotomy arities x y)
     where
-      go : Trichotomy s t → Says (verdict s t) s t
+      go : Trichotomy s t → VerdictSays (verdict s t) s t
       go (exceeds g n m) = rw (verdict-is s t greater g) g
       go (same n e m) = rw (verdict-is s t equal e) e
       go (exceeded n m g) = rw (verdict-is s t smaller g) g
 
   -- The verdict is `v` exactly if what `v` says holds; and this of each of the three.
-  pub verdict-exact : (v : Verdict) → (verdict s t ≡ v) ↔ Says v s t
-  verdict-exact v = (λ e. subst (λ w. Says w s t) e verdict-says, verdict-is s t v)
+  pub verdict-exact : (v : Verdict) → (verdict s t ≡ v) ↔ VerdictSays v s t
+  verdict-exact v = (λ e. subst (λ w. VerdictSays w s t) e verdict-says, verdict-is s t v)
 
   pub verdict-greater : (verdict s t ≡ greater) ↔ (s ≻ t)
   verdict-greater = verdict-exact greater

@@ -10,7 +10,7 @@ use Rattle.sheet.specs.Reading.{refused-at, accepted, read}
 use Rattle.scanning.specs.declared.known.Known.{Known}
 use Rattle.scanning.specs.declared.scan.ReadStatus.{ReadStatus}
 use Rattle.scanning.specs.declared.scan.ReadStatus.the-variants.{Done, Refused}
-use Rattle.scanning.specs.Contracts.Body.{none-known, KnowsSheet}
+use Rattle.scanning.specs.Contracts.Known.{none-known, KnowsSheet}
 use Rattle.reading.specs.declared.read.SheetStatus.{SheetStatus}
 use Rattle.reading.specs.declared.read.SheetStatus.the-variants.{Accepted, Refused as Refused-at}
 

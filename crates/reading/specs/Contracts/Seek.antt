@@ -15,8 +15,8 @@ use Rattle.reading.specs.declared.seek.TaskFound.{TaskFound}
 use Rattle.sheet.specs.Text.{TextLine, lines-of, frame-of}
 use Rattle.sheet.specs.Sheet.{Task, run, judgement, comparison, Sheet}
 use Rattle.sheet.specs.Reading.{accepted, read}
-use Rattle.scanning.specs.Contracts.Cursor.{BodyReady, bytes-between}
-use Rattle.scanning.specs.Contracts.Body.{KnowsSheet}
+use Rattle.scanning.specs.Contracts.Digits.{BodyReady, bytes-between}
+use Rattle.scanning.specs.Contracts.Known.{KnowsSheet}
 
 -- Line `n` of the text, counted from 0, is this frame.
 abbrev pub FrameIn : List ℕ → ℕ → List ℕ → Type 0

@@ -14,7 +14,7 @@ use Rattle.scanning.specs.declared.known.Known.{Known}
 use Rattle.scanning.specs.declared.scan.ReadStatus.{ReadStatus}
 use Rattle.scanning.specs.declared.scan.ReadStatus.the-variants.{Done, Refused}
 use Rattle.scanning.specs.Contracts.Scan.{known-arities}
-use Rattle.scanning.specs.Contracts.Body.{Roomy}
+use Rattle.scanning.specs.Contracts.Known.{Roomy}
 
 -- `n` bytes from `from` on, few enough for symbols.
 pub record AritiesReady (text : List ℕ) (from n : ℕ) : Type 0 where

@@ -11,15 +11,15 @@ use lib.Seq.{getD-set-same, getD-set-other, set-out}
 use lib.Dec.{eqb→eq}
 use Rattle.format.specs.Limits.{variable-count}
 use Rattle.terms.specs.Term.{Term, Terms, var, app, nil, cons, identical?, Values, inst, insts}
-use Rattle.terms.specs.Theory.Limits.{VariablesBelow, AllVariablesBelow}
+use Rattle.terms.specs.Contracts.Limits.{VariablesBelow, AllVariablesBelow}
 use Rattle.reducing.specs.Match.{Match, no-match, meet, match, match-each, values-of, has-variable, have-variable}
 
 -- Values fit a match: each variable that met a term has it as its value.
-abbrev pub Fits : Values → Match → Type 0
-Fits ρ m = (v : ℕ) (u : Term) → getD m v none ≡ some u → ρ v ≡ u
+abbrev pub Agrees : Values → Match → Type 0
+Agrees ρ m = (v : ℕ) (u : Term) → getD m v none ≡ some u → ρ v ≡ u
 
 -- The values of a match fit it, and all values fit the match in which no variable met a term.
-pub values-fit : (m : Match) → Fits (values-of m) m
+pub values-fit : (m : Match) → Agrees (values-of m) m
 unfolding values-of
 values-fit m v u e = rw e
 
@@ -28,20 +28,20 @@ nothing-met zero v = refl
 nothing-met (suc n) zero = refl
 nothing-met (suc n) (suc v) = nothing-met n v
 
-pub no-match-fits : (ρ : Values) → Fits ρ no-match
+pub no-match-fits : (ρ : Values) → Agrees ρ no-match
 unfolding no-match
 no-match-fits ρ v u e = let z : _≡_ {A = ℕ} 0 1 = cc (nothing-met variable-count v) in absurd (omega arith)
 
 -- A variable that had met nothing meets a term.
 module _ (m : Match) (v : ℕ) (t : Term) (ρ : Values) where
-  set-fits-before : getD m v none ≡ none → Fits ρ (set m v (some t)) → Fits ρ m
+  set-fits-before : getD m v none ≡ none → Agrees ρ (set m v (some t)) → Agrees ρ m
   set-fits-before e k w u x =
       elim (ℕ-discrete w v) [
         | yes p ↦ let z : _≡_ {A = ℕ} 0 1 = cc in absurd (omega arith)
         | no n ↦ k w u (getD-set-other m v w (some t) none n ∙ x)
       ]
 
-  set-fits : Fits ρ m → ρ v ≡ t → Fits ρ (set m v (some t))
+  set-fits : Agrees ρ m → ρ v ≡ t → Agrees ρ (set m v (some t))
   set-fits k e w u x =
       elim (ℕ-discrete w v) [
         | yes p ↦ elim (decLt v (length m)) [
@@ -54,7 +54,7 @@ module _ (m : Match) (v : ℕ) (t : Term) (ρ : Values) where
 -- From the match `m` to the match `n`: the values that fit `n` fit `m` and satisfy `P`.
 pub record Extended (P : Values → Type 0) (m n : Match) : Type 0 where
   pub same-length : length n ≡ length m
-  pub narrowed : (ρ : Values) → Fits ρ n → Fits ρ m × P ρ
+  pub narrowed : (ρ : Values) → Agrees ρ n → Agrees ρ m × P ρ
 
 -- Soundness, for a variable, a term and a list of terms: whatever values fit the match found, they make the pattern's instance the term.
 meet-sound : (m n : Match) (v : ℕ) (t : Term) (o : Option Term) → v < length m → getD m v none ≡ o → meet m v t o ≡ some n → Extended (λ ρ. ρ v ≡ t) m n
@@ -68,8 +68,8 @@ meet-sound m n v t (some u) l e h = go (identical? u t) h
     go (yes p) h = let s : n ≡ m = cc in rw s (record { same-length = refl; narrowed = λ ρ k. (k, k v u e ∙ p) })
     go (no p) h = let z : _≡_ {A = ℕ} 0 1 = cc in absurd (omega arith)
 
-abbrev Sound : Term → Term → Type 0
-Sound s t = (m n : Match) → VariablesBelow (length m) s → match s t m ≡ some n → Extended (λ ρ. inst ρ s ≡ t) m n
+abbrev MatchSound : Term → Term → Type 0
+MatchSound s t = (m n : Match) → VariablesBelow (length m) s → match s t m ≡ some n → Extended (λ ρ. inst ρ s ≡ t) m n
 
 abbrev SoundEach : Terms → Terms → Type 0
 SoundEach ss ts = (m n : Match) → AllVariablesBelow (length m) ss → match-each ss ts m ≡ some n → Extended (λ ρ. insts ρ ss ≡ ts) m n
@@ -82,7 +82,7 @@ same-symbol-sound f g ss ts sound m n b (yes p) h =
     record { same-length = x .same-length; narrowed = λ ρ k. let y = x .narrowed ρ k in (y .0, cc (p, y .1)) }
 same-symbol-sound f g ss ts sound m n b (no p) h = let z : _≡_ {A = ℕ} 0 1 = cc in absurd (omega arith)
 
-first-then-others : (s t : Term) (ss ts : Terms) → Sound s t → SoundEach ss ts → (m n : Match) → VariablesBelow (length m) s → AllVariablesBelow (length m) ss
+first-then-others : (s t : Term) (ss ts : Terms) → MatchSound s t → SoundEach ss ts → (m n : Match) → VariablesBelow (length m) s → AllVariablesBelow (length m) ss
     → (o : Option Match) → match s t m ≡ o → elim o as (λ x. Option Match) [ none ↦ none | some k ↦ match-each ss ts k ] ≡ some n
     → Extended (λ ρ. insts ρ (cons s ss) ≡ cons t ts) m n
 unfolding inst
@@ -98,7 +98,7 @@ first-then-others s t ss ts sound sound-each m n a b (some k) e h =
 mutual
   unfolding match inst
 
-  pub match-extends : (s t : Term) → Sound s t
+  pub match-extends : (s t : Term) → MatchSound s t
   match-extends (var v) t m n b h = meet-sound m n v t (getD m v none) b refl h
   match-extends (app f ss) (var w) m n b h = let z : _≡_ {A = ℕ} 0 1 = cc in absurd (omega arith)
   match-extends (app f ss) (app g ts) m n b h = same-symbol-sound f g ss ts (λ m n b h. match-each-extends ss ts m n b h) m n b (ℕ-discrete f g) h
@@ -123,9 +123,9 @@ repeated-differs = refl
 -- Completeness: values that fit the match before, and make the pattern's instance the term, fit the match that is found.
 module _ (ρ : Values) where
   abbrev Found : Option Match → Type 0
-  Found o = (n : Match) × (o ≡ some n) × Fits ρ n
+  Found o = (n : Match) × (o ≡ some n) × Agrees ρ n
 
-  meet-found : (m : Match) (v : ℕ) (t : Term) (o : Option Term) → getD m v none ≡ o → Fits ρ m → ρ v ≡ t → Found (meet m v t o)
+  meet-found : (m : Match) (v : ℕ) (t : Term) (o : Option Term) → getD m v none ≡ o → Agrees ρ m → ρ v ≡ t → Found (meet m v t o)
   unfolding meet
   meet-found m v t none e k h = (set m v (some t), refl, set-fits m v t ρ k h)
   meet-found m v t (some u) e k h = go (identical? u t)
@@ -138,7 +138,7 @@ module _ (ρ : Values) where
   same-symbol-found e x (yes p) = x
   same-symbol-found e x (no p) = absurd (p e)
 
-  others-found : (ss ts : Terms) (o : Option Match) → Found o → ((n : Match) → Fits ρ n → Found (match-each ss ts n))
+  others-found : (ss ts : Terms) (o : Option Match) → Found o → ((n : Match) → Agrees ρ n → Found (match-each ss ts n))
       → Found (elim o as (λ x. Option Match) [ none ↦ none | some n ↦ match-each ss ts n ])
   others-found ss ts none x found = let z : _≡_ {A = ℕ} 0 1 = cc (x .1) in absurd (omega arith)
   others-found ss ts (some n) x found = let e : n ≡ x .0 = cc (x .1) in found n (rw e (x .2))
@@ -146,12 +146,12 @@ module _ (ρ : Values) where
   mutual
     unfolding match inst
 
-    pub match-found : (s t : Term) (m : Match) → Fits ρ m → inst ρ s ≡ t → Found (match s t m)
+    pub match-found : (s t : Term) (m : Match) → Agrees ρ m → inst ρ s ≡ t → Found (match s t m)
     match-found (var v) t m k h = meet-found m v t (getD m v none) refl k h
     match-found (app f ss) (var w) m k h = let z : _≡_ {A = ℕ} 0 1 = cc in absurd (omega arith)
     match-found (app f ss) (app g ts) m k h = same-symbol-found (cc) (match-each-found ss ts m k (cc)) (ℕ-discrete f g)
 
-    pub match-each-found : (ss ts : Terms) (m : Match) → Fits ρ m → insts ρ ss ≡ ts → Found (match-each ss ts m)
+    pub match-each-found : (ss ts : Terms) (m : Match) → Agrees ρ m → insts ρ ss ≡ ts → Found (match-each ss ts m)
     match-each-found nil nil m k h = (m, refl, k)
     match-each-found nil (cons t ts) m k h = let z : _≡_ {A = ℕ} 0 1 = cc in absurd (omega arith)
     match-each-found (cons s ss) nil m k h = let z : _≡_ {A = ℕ} 0 1 = cc in absurd (omega arith)

@@ -8,11 +8,12 @@ use native.Mathlib.Omega.{arith}
 use lib.ListN.{getD}
 use lib.Dec.{T, ltb, ltb→lt, lt→ltb}
 use Rattle.format.specs.Limits.{variable-count}
-use Rattle.format.specs.Theory.Lists.{Every, every-entry}
+use Rattle.format.specs.Lists.{Every}
+use Rattle.format.specs.Theory.Lists.{every-entry}
 use Rattle.terms.specs.Term.{Term, var, Values, inst}
 use Rattle.terms.specs.Position.{subterms}
 use Rattle.terms.specs.Equation.{Equation, Direction, left-right, right-left, source, target, value}
-use Rattle.terms.specs.Theory.Limits.{VariablesBelow, WithinLimits}
+use Rattle.terms.specs.Contracts.Limits.{VariablesBelow, WithinLimits}
 use Rattle.ordering.specs.Order.{_≻_}
 use Rattle.ordering.specs.Theory.Decide.{exceeds?}
 use Rattle.ordering.specs.Theory.Context.{replace-exceeds}

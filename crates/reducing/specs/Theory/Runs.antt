@@ -8,7 +8,8 @@ use native.Mathlib.Omega.{arith}
 use lib.ListN.{length}
 use lib.Dec.{ltb, ltb→lt, nltb→le}
 use Rattle.format.specs.Limits.{max-task-nodes}
-use Rattle.format.specs.Theory.Lists.{Every, entry-length}
+use Rattle.format.specs.Lists.{Every}
+use Rattle.format.specs.Theory.Lists.{entry-length}
 use Rattle.terms.specs.Term.{Term, size, Values, inst}
 use Rattle.terms.specs.Position.{subterms, replace}
 use Rattle.terms.specs.Equation.{Equation, Direction, left-right, right-left, source, target}
@@ -102,17 +103,17 @@ module _ (test : Equation → Direction → Values → Bool) (es : List Equation
       ((entry-length es _ (t .numbered), omega (arith, t .inside)), runs-bounded r l)
 
   -- What each ending says of the last term and of the number of steps, `n`.
-  abbrev pub Ended : Ending → (k n : ℕ) → (last : Term) → Type 0
-  Ended none-found k n last = step test es last ≡ none
-  Ended limit-reached k n last = (n ≡ k) × (s : Step) × (step test es last ≡ some s)
-  Ended result-too-large k n last = (n < k) × (s : Step) × (step test es last ≡ some s) × (max-task-nodes < size (s .result))
+  abbrev pub RunEnded : Ending → (k n : ℕ) → (last : Term) → Type 0
+  RunEnded none-found k n last = step test es last ≡ none
+  RunEnded limit-reached k n last = (n ≡ k) × (s : Step) × (step test es last ≡ some s)
+  RunEnded result-too-large k n last = (n < k) × (s : Step) × (step test es last ≡ some s) × (max-task-nodes < size (s .result))
 
-  one-more : (x : Ending) (k n : ℕ) (last : Term) → Ended x k n last → Ended x (suc k) (suc n) last
+  one-more : (x : Ending) (k n : ℕ) (last : Term) → RunEnded x k n last → RunEnded x (suc k) (suc n) last
   one-more none-found k n last h = h
   one-more limit-reached k n last h = let (c, s, e) = h in (omega arith, s, e)
   one-more result-too-large k n last h = let (c, s, e, l) = h in (omega arith, s, e, l)
 
-  runs-ended : {k : ℕ} {subject : Term} {r : Run} → Runs k subject r → Ended (r .ending) k (length (r .steps)) (last-term subject (r .steps))
+  runs-ended : {k : ℕ} {subject : Term} {r : Run} → Runs k subject r → RunEnded (r .ending) k (length (r .steps)) (last-term subject (r .steps))
   unfolding last-term
   runs-ended (no-step e) = e
   runs-ended (all-done e) = (refl, _, e)
@@ -135,7 +136,7 @@ module _ (test : Equation → Direction → Values → Bool) (es : List Equation
     pub run-bounded : size subject ≤ max-task-nodes → Every (λ s. (s .equation < length es) × (s .position < max-task-nodes)) (run test es k subject .steps)
     run-bounded = runs-bounded (run-runs k subject)
 
-    pub run-ended : Ended (run test es k subject .ending) k (length (run test es k subject .steps)) (last-term subject (run test es k subject .steps))
+    pub run-ended : RunEnded (run test es k subject .ending) k (length (run test es k subject .steps)) (last-term subject (run test es k subject .steps))
     run-ended = runs-ended (run-runs k subject)
 
 -- A run depends on its test only by its answers for the equations of the list.

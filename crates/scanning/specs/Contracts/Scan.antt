@@ -1,17 +1,20 @@
 -- What the contracts of the code that reads terms cite.
 use Prim.Native.Nat.{ℕ, zero, suc, _+_, _*_, _≤_, max}
 use mathlib.Core.Path.{_≡_}
-use mathlib.Core.Bool.{false}
+use mathlib.Core.Bool.{Bool, false}
 use mathlib.Core.List.{List, [], _∷_}
 use Rattle.format.specs.Limits.{max-symbols, variable-count, max-side-nodes, max-task-nodes}
+use Rattle.format.specs.declared.kind.FrameKind.{FrameKind}
+use Rattle.format.specs.declared.kind.FrameKind.the-variants.{Symbols as symbols-kind, Equation as equation-kind, Run as run-kind, Judgement as judgement-kind, Comparison as comparison-kind, Unknown as unknown-kind}
+use Rattle.format.specs.declared.refusal.Refusal.the-variants.{FrameOrder}
 use Rattle.format.specs.Refusal.{Result, refuse, give}
 use Rattle.format.specs.declared.byte.Class.{Class}
 use Rattle.format.specs.declared.byte.Class.the-variants.{Symbol as symbol, Variable as variable, Foreign as foreign}
 use Rattle.format.specs.Byte.{class-of}
 use Rattle.sheet.specs.Contracts.Bytes.{max-byte}
 use Rattle.scanning.specs.declared.known.Known.{Known}
-use Rattle.scanning.specs.declared.scan.NeedAfter.{NeedAfter}
-use Rattle.scanning.specs.declared.scan.NeedAfter.the-variants.{Need, Refused as NeedAfter-Refused}
+use Rattle.scanning.specs.declared.scan.OtherNode.{OtherNode}
+use Rattle.scanning.specs.declared.scan.OtherNode.the-variants.{Variable, Refused as Node-Refused}
 use Rattle.scanning.specs.declared.scan.ReadStatus.{ReadStatus}
 use Rattle.scanning.specs.declared.scan.ReadStatus.the-variants.{Done, Refused}
 use Rattle.scanning.specs.declared.scan.Scanned.{Scanned}
@@ -19,9 +22,9 @@ use Rattle.scanning.specs.declared.scan.Wanted.{Wanted}
 use Rattle.scanning.specs.declared.text.Span.{Span}
 use Rattle.terms.specs.Term.{Terms}
 use Rattle.terms.specs.Equation.{Equation}
-use Rattle.sheet.specs.Sheet.{equation-width}
-use Rattle.sheet.specs.Frame.{scan, all-read, equation-body}
-use Rattle.scanning.specs.Contracts.Cursor.{bytes-between, span-bytes, BodyReady, SpanReady}
+use Rattle.sheet.specs.Sheet.{Task, Sheet, equation-width}
+use Rattle.sheet.specs.Frame.{after-node, scan, all-read, equation-body, run-body, judgement-body, comparison-body}
+use Rattle.scanning.specs.Contracts.Digits.{bytes-between, span-bytes, BodyReady, SpanReady}
 
 -- The first `n` entries of an array.
 unfoldable pub listed : ℕ → List ℕ → List ℕ
@@ -33,18 +36,9 @@ listed (suc n) (x ∷ xs) = x ∷ listed n xs
 abbrev pub known-arities : Known → List ℕ
 known-arities k = listed (k .symbols) (k .arities)
 
-abbrev pub after-result : NeedAfter → Result ℕ
-after-result (Need n) = give n
-after-result (NeedAfter-Refused r) = refuse r
-
 -- The most terms that can be to come: a node adds at most an arity's byte.
 abbrev pub max-need : ℕ
 max-need = variable-count + max-byte * max-task-nodes
-
--- At most so many terms are to come.
-abbrev pub NeedAtMost : ℕ → NeedAfter → Type 0
-NeedAtMost most (Need n) = n ≤ most
-NeedAtMost most (NeedAfter-Refused r) = Unit {0}
 
 -- How many variables there are up to the highest among node bytes.
 abbrev pub node-width : Class → ℕ
@@ -56,6 +50,11 @@ unfoldable pub widest : List ℕ → ℕ
 unfolding class-of
 widest [] = 0
 widest (b ∷ bs) = max (node-width (class-of b)) (widest bs)
+
+-- A node that is no declared symbol is passed, or refused.
+abbrev pub OtherRead : (arities : List ℕ) → (ground : Bool) → (b need : ℕ) → OtherNode → Type 0
+OtherRead arities ground b need (Variable w) = (after-node arities ground (class-of b) need ≡ give need) × (node-width (class-of b) ≡ w)
+OtherRead arities ground b need (Node-Refused x) = after-node arities ground (class-of b) need ≡ refuse x
 
 -- The digits are bytes, and the numbers are as small as those of a frame.
 pub record ScanReady (text : List ℕ) (d : Span) (symbols : ℕ) (w : Wanted) : Type 0 where
@@ -94,3 +93,13 @@ LastSide arities bs width highest (Refused x) = (ts : Terms) → all-read ts (sc
 abbrev pub EquationGiven : List ℕ → List ℕ → (width : ℕ) → ReadStatus → Type 0
 EquationGiven arities bs width Done = (e : Equation) × (equation-body arities bs ≡ give e) × (equation-width e ≡ width)
 EquationGiven arities bs width (Refused x) = equation-body arities bs ≡ refuse x
+
+-- A task's body by its kind.
+unfoldable pub task-result : Sheet → FrameKind → List ℕ → Result Task
+unfolding run-body judgement-body comparison-body
+task-result s symbols-kind bs = refuse FrameOrder
+task-result s equation-kind bs = refuse FrameOrder
+task-result s run-kind bs = run-body s bs
+task-result s judgement-kind bs = judgement-body s bs
+task-result s comparison-kind bs = comparison-body s bs
+task-result s unknown-kind bs = refuse FrameOrder

@@ -5,7 +5,7 @@ use mathlib.Core.List.{List, [], _∷_}
 use lib.ListN.{length, getD, take, drop, length-drop}
 use native.Mathlib.Omega.{arith}
 use Rattle.sheet.specs.Contracts.Bytes.{max-byte, Bytes}
-use Rattle.scanning.specs.Contracts.Cursor.{decoded, pair-at, bytes-between, BodyReady}
+use Rattle.scanning.specs.Contracts.Digits.{decoded, pair-at, bytes-between, BodyReady}
 
 pub between-end : (text : List ℕ) (at end : ℕ) → end ≤ at → bytes-between text at end ≡ []
 unfolding bytes-between decoded
@@ -16,7 +16,8 @@ two-taken n [] h = absurd (omega arith)
 two-taken n (x ∷ []) h = absurd (omega arith)
 two-taken n (x ∷ y ∷ xs) h = refl
 
-pub between-cons : (text : List ℕ) (at end : ℕ) → at + 2 ≤ end → end ≤ length text → bytes-between text at end ≡ pair-at text at ∷ bytes-between text (at + 2) end
+pub between-cons : (text : List ℕ) (at end : ℕ) → at + 2 ≤ end → end ≤ length text
+    → bytes-between text at end ≡ pair-at text at ∷ bytes-between text (at + 2) end
 unfolding bytes-between decoded
 between-cons text at end h i =
     let e : end - at ≡ suc (suc (end - (at + 2))) = omega arith in

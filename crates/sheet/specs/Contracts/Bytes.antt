@@ -1,7 +1,7 @@
 -- Lists of bytes.
 use Prim.Native.Nat.{ℕ, _≤_}
 use mathlib.Core.List.{List}
-use Rattle.format.specs.Theory.Lists.{Every}
+use Rattle.format.specs.Lists.{Every}
 
 abbrev pub max-byte : ℕ
 max-byte = 0xff

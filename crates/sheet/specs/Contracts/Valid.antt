@@ -6,11 +6,11 @@ use mathlib.Core.List.{List}
 use lib.ListN.{length}
 use Rattle.format.specs.Limits.{max-symbols, max-arity, max-equations, max-tasks, max-task-nodes, max-steps}
 use Rattle.format.specs.Lists.{entry}
-use Rattle.format.specs.Theory.Lists.{Every}
+use Rattle.format.specs.Lists.{Every}
 use Rattle.terms.specs.Term.{size, sizes, count, Ground, Grounds}
 use Rattle.terms.specs.Equation.{Equation}
-use Rattle.terms.specs.Theory.Limits.{WithinLimits}
-use Rattle.terms.specs.Theory.Prefix.{Fits}
+use Rattle.terms.specs.Contracts.Limits.{WithinLimits}
+use Rattle.terms.specs.Contracts.Fits.{Fits}
 use Rattle.sheet.specs.Sheet.{Task, run, judgement, comparison, Sheet, equation-width}
 
 pub record ValidEquation (arities : List ℕ) (e : Equation) : Type 0 where

@@ -15,7 +15,8 @@ use Rattle.format.specs.declared.kind.FrameKind.the-variants.{Symbols as symbol
 use Rattle.format.specs.Refusal.{Result, refuse, give}
 use Rattle.format.specs.declared.refusal.Refusal.the-variants.{SymbolFrame as symbol-frame, FrameOrder as frame-order, Digits as digits, TextLength as text-length}
 use Rattle.format.specs.Lists.{entry, any, all}
-use Rattle.format.specs.Theory.Lists.{Every, every-append, every-map, and-true, all-true, any-true}
+use Rattle.format.specs.Lists.{Every}
+use Rattle.format.specs.Theory.Lists.{every-append, every-map, and-true, all-true, any-true}
 use Rattle.terms.specs.Term.{Terms, nil, cons, size, sizes, count, Ground, Grounds}
 use Rattle.terms.specs.Equation.{Equation, Direction, direction-of}
 use Rattle.sheet.specs.Text.{TextLine, lines-of, frame-of}
@@ -75,7 +76,8 @@ unfolding symbols-body
 symbols-kept [] state e = let z : _≡_ {A = ℕ} 0 1 = cc in absurd (omega arith)
 symbols-kept (n ∷ arities) state e = go (symbols-right n arities) refl e
   where
-    go : (t : Bool) → symbols-right n arities ≡ t → _≡_ {A = Result State} (elim t [ true ↦ give (within (no-tasks arities)) | false ↦ refuse symbol-frame ]) (give state) → ValidState state
+    go : (t : Bool) → symbols-right n arities ≡ t
+        → _≡_ {A = Result State} (elim t [ true ↦ give (within (no-tasks arities)) | false ↦ refuse symbol-frame ]) (give state) → ValidState state
     go true d e =
         let x : within (no-tasks arities) ≡ state = cc in
         subst ValidState x (record { symbols = symbols-valid n arities d; equations = tt; few-equations = omega arith; tasks = tt; few-tasks = omega arith })
@@ -116,7 +118,8 @@ module _ (s : Sheet) (v : Valid s) where
   abbrev TaskGiven : Task → Type 0
   TaskGiven t = ValidTask (s .arities) (s .equations) t
 
-  one-ground : (ts : Terms) → count ts ≡ 1 → Grounds (s .arities) ts → sizes ts ≤ max-task-nodes → Ground (s .arities) (first-term ts) × (size (first-term ts) ≤ max-task-nodes)
+  one-ground : (ts : Terms) → count ts ≡ 1 → Grounds (s .arities) ts → sizes ts ≤ max-task-nodes
+      → Ground (s .arities) (first-term ts) × (size (first-term ts) ≤ max-task-nodes)
   unfolding size
   one-ground ts c g l =
       let e : ts ≡ cons (first-term ts) nil = one-term ts c in
@@ -156,7 +159,8 @@ module _ (s : Sheet) (v : Valid s) where
       subst TaskGiven y (h .0, h .1 .0, omega (arith, ap sizes d, g .few))
 
 -- 4. A frame, a line, all lines.
-body-kept : (state next : State) (kind : FrameKind) (bs : List ℕ) → Bytes bs → ValidState state → in-order state kind ≡ true → read-body state kind bs ≡ give next → ValidState next
+body-kept : (state next : State) (kind : FrameKind) (bs : List ℕ) → Bytes bs → ValidState state → in-order state kind ≡ true
+    → read-body state kind bs ≡ give next → ValidState next
 unfolding in-order read-body
 body-kept start next kind bs small v o e = symbols-kept bs next e
 body-kept (within s) next symbols-kind bs small v o e = let z : _≡_ {A = ℕ} 0 1 = cc in absurd (omega arith)
@@ -172,7 +176,8 @@ pub kind-kept : (state next : State) (kind : FrameKind) (bs : List ℕ) → Byte
 unfolding read-kind
 kind-kept state next kind bs small v e = go (in-order state kind) refl e
   where
-    go : (t : Bool) → in-order state kind ≡ t → _≡_ {A = Result State} (elim t [ true ↦ read-body state kind bs | false ↦ refuse frame-order ]) (give next) → ValidState next
+    go : (t : Bool) → in-order state kind ≡ t → _≡_ {A = Result State} (elim t [ true ↦ read-body state kind bs | false ↦ refuse frame-order ]) (give next)
+        → ValidState next
     go true o e = body-kept state next kind bs small v o e
     go false o e = let z : _≡_ {A = ℕ} 0 1 = cc in absurd (omega arith)
 
@@ -185,7 +190,8 @@ pub line-kept : (state next : State) (line : TextLine) → ValidState state → 
 unfolding read-line
 line-kept state next line v e = go (frame-of line) refl e
   where
-    go : (o : Option (List ℕ)) → frame-of line ≡ o → _≡_ {A = Result State} (elim o [ none ↦ refuse digits | some bs ↦ read-frame state bs ]) (give next) → ValidState next
+    go : (o : Option (List ℕ)) → frame-of line ≡ o → _≡_ {A = Result State} (elim o [ none ↦ refuse digits | some bs ↦ read-frame state bs ]) (give next)
+        → ValidState next
     go none d e = let z : _≡_ {A = ℕ} 0 1 = cc in absurd (omega arith)
     go (some bs) d e = frame-kept state next bs (frame-bytes-small line bs d) v e
 
@@ -195,16 +201,19 @@ unfolding finish
 finished start n s v e = let z : _≡_ {A = ℕ} 0 1 = cc in absurd (omega arith)
 finished (within r) n s v e = go (leb 1 (length (r .equations))) refl e
   where
-    go : (t : Bool) → leb 1 (length (r .equations)) ≡ t → _≡_ {A = Reading Sheet} (elim t [ true ↦ accepted r | false ↦ refused-at frame-order n ]) (accepted s) → Valid s × (1 ≤ length (s .equations))
+    go : (t : Bool) → leb 1 (length (r .equations)) ≡ t → _≡_ {A = Reading Sheet} (elim t [ true ↦ accepted r | false ↦ refused-at frame-order n ]) (accepted s)
+        → Valid s × (1 ≤ length (s .equations))
     go true d e = let x : r ≡ s = cc in subst (λ s. Valid s × (1 ≤ length (s .equations))) x (v, leb-true 1 (length (r .equations)) d)
     go false d e = let z : _≡_ {A = ℕ} 0 1 = cc in absurd (omega arith)
 
-lines-kept : (state : State) (n : ℕ) (rs : List TextLine) (s : Sheet) → ValidState state → read-lines state n rs ≡ accepted s → Valid s × (1 ≤ length (s .equations))
+lines-kept : (state : State) (n : ℕ) (rs : List TextLine) (s : Sheet) → ValidState state → read-lines state n rs ≡ accepted s
+    → Valid s × (1 ≤ length (s .equations))
 unfolding read-lines
 lines-kept state n [] s v e = finished state n s v e
 lines-kept state n (line ∷ rs) s v e = go (λ next. lines-kept next (suc n) rs s) (read-line state line) refl e
   where
-    go : ((next : State) → ValidState next → read-lines next (suc n) rs ≡ accepted s → Valid s × (1 ≤ length (s .equations))) → (r : Result State) → read-line state line ≡ r
+    go : ((next : State) → ValidState next → read-lines next (suc n) rs ≡ accepted s → Valid s × (1 ≤ length (s .equations))) → (r : Result State)
+        → read-line state line ≡ r
         → _≡_ {A = Reading Sheet} (elim r [ refuse x ↦ refused-at x (suc n) | give next ↦ read-lines next (suc n) rs ]) (accepted s) → Valid s × (1 ≤ length (s .equations))
     go ih (refuse x) d e = let z : _≡_ {A = ℕ} 0 1 = cc in absurd (omega arith)
     go ih (give next) d e = ih next (line-kept state next line v d) e
@@ -214,6 +223,7 @@ pub accepted-valid : (text : List ℕ) (s : Sheet) → read text ≡ accepted s 
 unfolding read
 accepted-valid text s e = go (leb 1 (length text) && leb (length text) max-text) e
   where
-    go : (t : Bool) → _≡_ {A = Reading Sheet} (elim t [ true ↦ read-lines start 0 (lines-of text) | false ↦ refused-at text-length 0 ]) (accepted s) → Valid s × (1 ≤ length (s .equations))
+    go : (t : Bool) → _≡_ {A = Reading Sheet} (elim t [ true ↦ read-lines start 0 (lines-of text) | false ↦ refused-at text-length 0 ]) (accepted s)
+        → Valid s × (1 ≤ length (s .equations))
     go true e = lines-kept start 0 (lines-of text) s tt e
     go false e = let z : _≡_ {A = ℕ} 0 1 = cc in absurd (omega arith)

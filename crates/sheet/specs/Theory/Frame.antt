@@ -10,7 +10,8 @@ use Rattle.format.specs.Refusal.{Result, refuse, give, Result·map}
 use Rattle.terms.specs.Term.{Term, Terms, nil, cons, nth, size, sizes, count, Grounds}
 use Rattle.terms.specs.Equation.{Equation}
 use Rattle.terms.specs.Prefix.{prefix, prefixes, terms-of}
-use Rattle.terms.specs.Theory.Prefix.{Fits, AllFit, terms-of-spelled, fits-variables}
+use Rattle.terms.specs.Theory.Prefix.{terms-of-spelled, fits-variables}
+use Rattle.terms.specs.Contracts.Fits.{AllFit, Fits}
 use Rattle.sheet.specs.Frame.{scan, all-read, ground-terms, scan-sides, first-term, second-term, equation-body}
 use Rattle.sheet.specs.Theory.Scan.{scan-sound}
 use Rattle.sheet.specs.Contracts.Valid.{ValidEquation}
@@ -77,7 +78,8 @@ module _ (arities : List ℕ) (known : length arities ≤ max-symbols) where
   two-prefixes t u = ap (prefix t ++_) (append-nil (prefix u))
 
   -- The two sides, one after the other.
-  sides : (bs : List ℕ) → scan-sides arities bs ≡ give [] → (l r : Term) × (bs ≡ prefixes (cons l (cons r nil))) × Fits arities l × Fits arities r × (size l ≤ max-side-nodes) × (size r ≤ max-side-nodes)
+  sides : (bs : List ℕ) → scan-sides arities bs ≡ give []
+      → (l r : Term) × (bs ≡ prefixes (cons l (cons r nil))) × Fits arities l × Fits arities r × (size l ≤ max-side-nodes) × (size r ≤ max-side-nodes)
   unfolding scan-sides
   sides bs e = go (scan arities false bs 1 max-side-nodes) refl e
     where

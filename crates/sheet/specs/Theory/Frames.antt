@@ -54,7 +54,8 @@ module _ (s : Sheet) (v : Valid s) where
   judgement-spelled (n ∷ []) t e = let z : _≡_ {A = ℕ} 0 1 = cc in absurd (omega arith)
   judgement-spelled (n ∷ d ∷ bs) t e = go (entry (s .equations) n) (direction-of d) refl e
     where
-      go : (q : Option Equation) (o : Option Direction) → direction-of d ≡ o → values-body s n q o bs ≡ give t → kind-byte judgement-kind ∷ n ∷ d ∷ bs ≡ task-frame t
+      go : (q : Option Equation) (o : Option Direction) → direction-of d ≡ o → values-body s n q o bs ≡ give t
+          → kind-byte judgement-kind ∷ n ∷ d ∷ bs ≡ task-frame t
       go none o i e = let z : _≡_ {A = ℕ} 0 1 = cc in absurd (omega arith)
       go (some q) none i e = let z : _≡_ {A = ℕ} 0 1 = cc in absurd (omega arith)
       go (some q) (some o) i e =
@@ -151,12 +152,16 @@ unfolding read-frame read-kind
 frame-added state next [] v e = let z : _≡_ {A = ℕ} 0 1 = cc in absurd (omega arith)
 frame-added state next (b ∷ bs) v e = go (in-order state (kind-of b)) refl e
   where
-    go : (t : Bool) → in-order state (kind-of b) ≡ t → _≡_ {A = Result State} (elim t [ true ↦ read-body state (kind-of b) bs | false ↦ refuse frame-order ]) (give next)
+    go : (t : Bool) → in-order state (kind-of b) ≡ t
+        → _≡_ {A = Result State} (elim t [ true ↦ read-body state (kind-of b) bs | false ↦ refuse frame-order ]) (give next)
         → frames-so-far next ≡ frames-so-far state ++ ((b ∷ bs) ∷ [])
-    go true o e = body-added state next (kind-of b) bs v o e ∙ ap (λ m. frames-so-far state ++ ((m ∷ bs) ∷ [])) (sym (byte-of-kind b (kind-of b) refl (kind-known state (kind-of b) o)))
+    go true o e =
+        body-added state next (kind-of b) bs v o e
+        ∙ ap (λ m. frames-so-far state ++ ((m ∷ bs) ∷ [])) (sym (byte-of-kind b (kind-of b) refl (kind-known state (kind-of b) o)))
     go false o e = let z : _≡_ {A = ℕ} 0 1 = cc in absurd (omega arith)
 
-line-added : (state next : State) (line : TextLine) → ValidState state → read-line state line ≡ give next → (bs : List ℕ) × (frame-of line ≡ some bs) × (frames-so-far next ≡ frames-so-far state ++ (bs ∷ []))
+line-added : (state next : State) (line : TextLine) → ValidState state → read-line state line ≡ give next
+    → (bs : List ℕ) × (frame-of line ≡ some bs) × (frames-so-far next ≡ frames-so-far state ++ (bs ∷ []))
 unfolding read-line
 line-added state next line v e = go (frame-of line) refl e
   where
@@ -178,7 +183,8 @@ finish-frames (within r) n s e = go (leb 1 (length (r .equations))) e
     go true e = let x : r ≡ s = cc in ap frames-of (sym x) ∙ sym (append-nil (frames-of r))
     go false e = let z : _≡_ {A = ℕ} 0 1 = cc in absurd (omega arith)
 
-lines-framed : (state : State) (n : ℕ) (rs : List TextLine) (s : Sheet) → ValidState state → read-lines state n rs ≡ accepted s → (fs : List (List ℕ)) × Framed rs fs × (frames-of s ≡ frames-so-far state ++ fs)
+lines-framed : (state : State) (n : ℕ) (rs : List TextLine) (s : Sheet) → ValidState state → read-lines state n rs ≡ accepted s
+    → (fs : List (List ℕ)) × Framed rs fs × (frames-of s ≡ frames-so-far state ++ fs)
 unfolding read-lines
 lines-framed state n [] s v e = ([], refl, finish-frames state n s e)
 lines-framed state n (line ∷ rs) s v e = go (λ next w x. lines-framed next (suc n) rs s w x) (read-line state line) refl e
@@ -198,6 +204,7 @@ pub accepted-frames : (text : List ℕ) (s : Sheet) → read text ≡ accepted s
 unfolding read
 accepted-frames text s e = go (leb 1 (length text) && leb (length text) max-text) e
   where
-    go : (t : Bool) → _≡_ {A = Reading Sheet} (elim t [ true ↦ read-lines start 0 (lines-of text) | false ↦ refused-at text-length 0 ]) (accepted s) → Framed (lines-of text) (frames-of s)
+    go : (t : Bool) → _≡_ {A = Reading Sheet} (elim t [ true ↦ read-lines start 0 (lines-of text) | false ↦ refused-at text-length 0 ]) (accepted s)
+        → Framed (lines-of text) (frames-of s)
     go true e = let (fs, x, y) = lines-framed start 0 (lines-of text) s tt e in x ∙ ap (map some) (sym y)
     go false e = let z : _≡_ {A = ℕ} 0 1 = cc in absurd (omega arith)

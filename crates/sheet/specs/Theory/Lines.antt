@@ -9,7 +9,7 @@ use lib.Dec.{leb}
 use borrow.Author.Tests.{ne-eqb, lt-leb}
 use native.Mathlib.Omega.{arith}
 use Rattle.format.specs.Limits.{max-line-digits}
-use Rattle.format.specs.Theory.Lists.{Every}
+use Rattle.format.specs.Lists.{Every}
 use Rattle.sheet.specs.Text.{LF, TextLine, ended, unended, put-byte, lines-of, digit, byte-of, put-first, bytes-of, frame-of}
 
 -- No byte of a part is LF.

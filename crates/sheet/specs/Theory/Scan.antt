@@ -16,7 +16,8 @@ use Rattle.format.specs.declared.byte.Class.the-variants.{Symbol as symbol, Var
 use Rattle.format.specs.Theory.Byte.{class-symbol, class-variable}
 use Rattle.terms.specs.Term.{Terms, var, app, nil, cons, size, sizes, count, arity, Grounds}
 use Rattle.terms.specs.Prefix.{prefix, prefixes, take-terms, drop-terms}
-use Rattle.terms.specs.Theory.Prefix.{AllFit, take-drop-terms, count-take, count-drop, sizes-take-drop, fit-take-drop, ground-take-drop, prefixes-append}
+use Rattle.terms.specs.Contracts.Fits.{AllFit}
+use Rattle.terms.specs.Theory.Prefix.{take-drop-terms, count-take, count-drop, sizes-take-drop, fit-take-drop, ground-take-drop, prefixes-append}
 use Rattle.sheet.specs.Frame.{after-node, scan}
 
 abbrev pub GroundIf : Bool → List ℕ → Terms → Type 0
@@ -34,7 +35,8 @@ pub record Spells (arities : List ℕ) (ground : Bool) (bs : List ℕ) (need roo
 
 module _ (arities : List ℕ) where
   -- A symbol's node takes its arguments from the terms behind it.
-  put-symbol : (ground : Bool) (f : ℕ) (bs : List ℕ) (need room : ℕ) (rest : List ℕ) → f < length arities → Spells arities ground bs (arity arities f + need) room rest
+  put-symbol : (ground : Bool) (f : ℕ) (bs : List ℕ) (need room : ℕ) (rest : List ℕ) → f < length arities
+      → Spells arities ground bs (arity arities f + need) room rest
       → Spells arities ground (f ∷ bs) (suc need) (suc room) rest
   unfolding count size prefix
   put-symbol ground f bs need room rest known s =
@@ -51,11 +53,13 @@ module _ (arities : List ℕ) where
         grounded = grounds ground n ts c (s .grounded);
       }
     where
-      grounds : (g : Bool) (n : ℕ) (ts : Terms) → count (take-terms n ts) ≡ arity arities f → GroundIf g arities ts → GroundIf g arities (cons (app f (take-terms n ts)) (drop-terms n ts))
+      grounds : (g : Bool) (n : ℕ) (ts : Terms) → count (take-terms n ts) ≡ arity arities f → GroundIf g arities ts
+          → GroundIf g arities (cons (app f (take-terms n ts)) (drop-terms n ts))
       grounds true n ts c h = let (a, d) = ground-take-drop arities n ts h in ((known, c, a), d)
       grounds false n ts c h = tt
 
-  put-variable : (v : ℕ) (bs : List ℕ) (need room : ℕ) (rest : List ℕ) (b : ℕ) → b ∷ [] ≡ prefix (var v) → v < variable-count → Spells arities false bs need room rest
+  put-variable : (v : ℕ) (bs : List ℕ) (need room : ℕ) (rest : List ℕ) (b : ℕ) → b ∷ [] ≡ prefix (var v) → v < variable-count
+      → Spells arities false bs need room rest
       → Spells arities false (b ∷ bs) (suc need) (suc room) rest
   unfolding count size prefix
   put-variable v bs need room rest b e small s = record {
@@ -68,7 +72,8 @@ module _ (arities : List ℕ) where
   }
 
   -- One node in front of a scan.
-  put-node-byte : (ground : Bool) (b : ℕ) (c : Class) (bs : List ℕ) (need n room : ℕ) (rest : List ℕ) → class-of b ≡ c → after-node arities ground c need ≡ give n → Spells arities ground bs n room rest
+  put-node-byte : (ground : Bool) (b : ℕ) (c : Class) (bs : List ℕ) (need n room : ℕ) (rest : List ℕ) → class-of b ≡ c
+      → after-node arities ground c need ≡ give n → Spells arities ground bs n room rest
       → Spells arities ground (b ∷ bs) (suc need) (suc room) rest
   unfolding after-node prefix
   put-node-byte ground b (symbol f) bs need n room rest e d s = go (ltb f (length arities)) refl d
@@ -81,7 +86,8 @@ module _ (arities : List ℕ) where
   put-node-byte false b (variable v) bs need n room rest e d s = let x : need ≡ n = cc in let (y, small) = class-variable b v e in put-variable v bs need room rest b (ap (_∷ []) y) small (rw x s)
   put-node-byte ground b foreign bs need n room rest e d s = let z : _≡_ {A = ℕ} 0 1 = cc in absurd (omega arith)
 
-  nothing-scanned : (ground : Bool) (bs : List ℕ) (room : ℕ) (rest : List ℕ) → _≡_ {A = Result (List ℕ)} (give bs) (give rest) → Spells arities ground bs 0 room rest
+  nothing-scanned : (ground : Bool) (bs : List ℕ) (room : ℕ) (rest : List ℕ) → _≡_ {A = Result (List ℕ)} (give bs) (give rest)
+      → Spells arities ground bs 0 room rest
   unfolding count size prefix
   nothing-scanned ground bs room rest e = record { terms = nil; counted = refl; spelled = cc; within = omega arith; fit = tt; grounded = trivial ground }
     where
@@ -89,7 +95,8 @@ module _ (arities : List ℕ) where
       trivial true = tt
       trivial false = tt
 
-  pub scan-sound : (ground : Bool) (bs : List ℕ) (need room : ℕ) (rest : List ℕ) → scan arities ground bs need room ≡ give rest → Spells arities ground bs need room rest
+  pub scan-sound : (ground : Bool) (bs : List ℕ) (need room : ℕ) (rest : List ℕ) → scan arities ground bs need room ≡ give rest
+      → Spells arities ground bs need room rest
   unfolding scan
   scan-sound ground [] zero room rest e = nothing-scanned ground [] room rest e
   scan-sound ground [] (suc need) room rest e = let z : _≡_ {A = ℕ} 0 1 = cc in absurd (omega arith)

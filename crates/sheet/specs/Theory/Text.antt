@@ -41,7 +41,8 @@ bytes-small [] bs e = let z : [] ≡ bs = cc in rw (← z) tt
 bytes-small (c ∷ []) bs e = let z : _≡_ {A = ℕ} 0 1 = cc in absurd (omega arith)
 bytes-small (c ∷ d ∷ cs) bs e = go (bytes-small cs) (byte-of (digit c) (digit d)) (bytes-of cs) refl refl e
   where
-    go : ((bs : List ℕ) → bytes-of cs ≡ some bs → Bytes bs) → (x : Option ℕ) (y : Option (List ℕ)) → byte-of (digit c) (digit d) ≡ x → bytes-of cs ≡ y → put-first x y ≡ some bs → Bytes bs
+    go : ((bs : List ℕ) → bytes-of cs ≡ some bs → Bytes bs) → (x : Option ℕ) (y : Option (List ℕ)) → byte-of (digit c) (digit d) ≡ x → bytes-of cs ≡ y
+        → put-first x y ≡ some bs → Bytes bs
     go ih none y h i e = let z : _≡_ {A = ℕ} 0 1 = cc in absurd (omega arith)
     go ih (some b) none h i e = let z : _≡_ {A = ℕ} 0 1 = cc in absurd (omega arith)
     go ih (some b) (some more) h i e = let z : b ∷ more ≡ bs = cc in rw (← z) (byte-small c d b h, ih more i)

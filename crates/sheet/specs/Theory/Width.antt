@@ -4,7 +4,7 @@ use native.Mathlib.Omega.{arith}
 use Rattle.format.specs.Limits.{variable-count}
 use Rattle.terms.specs.Term.{Term, Terms, var, app, nil, cons}
 use Rattle.terms.specs.Equation.{Equation}
-use Rattle.terms.specs.Theory.Limits.{VariablesBelow, AllVariablesBelow, WithinLimits}
+use Rattle.terms.specs.Contracts.Limits.{VariablesBelow, AllVariablesBelow, WithinLimits}
 use Rattle.sheet.specs.Sheet.{width, widths, equation-width}
 
 mutual

@@ -6,8 +6,8 @@ use lib.ListN.{length}
 use Rattle.format.specs.Limits.{max-symbols, max-lines}
 use Rattle.terms.specs.Equation.{Equation}
 use Rattle.terms.specs.Prefix.{equation-bytes}
-use Rattle.terms.specs.Theory.Limits.{WithinLimits}
-use Rattle.terms.specs.Theory.Prefix.{Fits}
+use Rattle.terms.specs.Contracts.Limits.{WithinLimits}
+use Rattle.terms.specs.Contracts.Fits.{Fits}
 use Rattle.lines.specs.Contracts.Layout.{line-bytes}
 
 module _ (bytes arities : List ℕ) where

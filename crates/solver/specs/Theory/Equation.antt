@@ -8,7 +8,8 @@ use Rattle.terms.specs.Term.{Terms, nil, cons, size}
 use Rattle.terms.specs.Position.{subterms, subterms-of}
 use Rattle.terms.specs.Prefix.{prefix, prefixes, equation-bytes, terms-of}
 use Rattle.terms.specs.Equation.{Equation}
-use Rattle.terms.specs.Theory.Prefix.{Fits, AllFit, terms-of-spelled}
+use Rattle.terms.specs.Theory.Prefix.{terms-of-spelled}
+use Rattle.terms.specs.Contracts.Fits.{AllFit, Fits}
 use Rattle.terms.specs.Contracts.Sizes.{Whole, node-sizes}
 use Rattle.terms.specs.Theory.Sizes.{whole}
 use Rattle.unifying.specs.Contracts.Equation.{equation-sizes}

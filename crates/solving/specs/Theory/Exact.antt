@@ -27,7 +27,7 @@ use Rattle.solving.specs.Theory.Choices.{choices-to, choices-from}
 use Rattle.solving.specs.Theory.Lines.{in-front-to, in-front-from, behind-to, behind-from, choice-lines-to, choice-lines-from, lines-left, lines-right, lines-split}
 
 -- The lines `ls` say what the bindings `θ` and `A` together say.
-pub record Says (ρ : Values) (value : ℕ → Term) (θ : Bindings) (A : Type 0) (ls : List Line) : Type 0 where
+pub record LinesSay (ρ : Values) (value : ℕ → Term) (θ : Bindings) (A : Type 0) (ls : List Line) : Type 0 where
   pub to : BindingsHold ρ value 0 θ → A → SomeLineHolds ρ value ls
   pub back : SomeLineHolds ρ value ls → BindingsHold ρ value 0 θ × A
 
@@ -37,10 +37,10 @@ module _ (ρ : Values) (value : ℕ → Term) (θ : Bindings) where
   only θ′ (inl h) = h .0
   only θ′ (inr h) = absurd h
 
-  never : {A : Type 0} → (BindingsHold ρ value 0 θ → A → ⊥) → Says ρ value θ A []
+  never : {A : Type 0} → (BindingsHold ρ value 0 θ → A → ⊥) → LinesSay ρ value θ A []
   never h = record { to = h; back = λ x. absurd x }
 
-  always : {A : Type 0} → (BindingsHold ρ value 0 θ → A) → Says ρ value θ A (line θ [] ∷ [])
+  always : {A : Type 0} → (BindingsHold ρ value 0 θ → A) → LinesSay ρ value θ A (line θ [] ∷ [])
   always h = record { to = λ b x. inl (b, tt); back = λ x. (only θ x, h (only θ x)) }
 
 module _ {fuel : Fuel} {view : ℕ → Node} {vars n : ℕ} (lay : Layout view vars n) (suf : Sufficient vars n fuel) {ρ : Values} {value : ℕ → Term} (m : Model view ρ value) where
@@ -55,7 +55,7 @@ module _ {fuel : Fuel} {view : ℕ → Node} {vars n : ℕ} (lay : Layout view v
     at-q : Reaches view θ q (reach fuel view θ q)
     at-q = reach-reaches lay suf pr q
 
-    equal-says : (o : Option Bindings) → unify fuel view (fuel .unify-depth) θ p q ≡ o → unified o ≡ becomes ls → Says ρ value θ (value p ≡ value q) ls
+    equal-says : (o : Option Bindings) → unify fuel view (fuel .unify-depth) θ p q ≡ o → unified o ≡ becomes ls → LinesSay ρ value θ (value p ≡ value q) ls
     unfolding unified
     equal-says none e d = let x : ls ≡ [] = cc in rw x (never ρ value θ (λ b h. fails (unify-succeeds lay suf m θ p q pr i j (satisfied ρ value θ b) h)))
       where
@@ -74,7 +74,7 @@ module _ {fuel : Fuel} {view : ℕ → Node} {vars n : ℕ} (lay : Layout view v
         gives g = let (η, y, s) = g in let z : η ≡ θ′ = cc in bindings-hold ρ value θ′ (rw z at s)
 
     left-variable : (v : ℕ) → view (reach fuel view θ p) ≡ var-node v → (b : Bool) → occurs fuel view (fuel .occurs-depth) θ v q ≡ b
-        → (elim b as (λ x. Treatment) [ true ↦ becomes [] | false ↦ fully-reduced ]) ≡ becomes ls → Says ρ value θ (value p ≻ value q) ls
+        → (elim b as (λ x. Treatment) [ true ↦ becomes [] | false ↦ fully-reduced ]) ≡ becomes ls → LinesSay ρ value θ (value p ≻ value q) ls
     left-variable v x true o d = let y : ls ≡ [] = cc in rw y (never ρ value θ (λ b g.
         let s = satisfied ρ value θ b in
         let z = variable-value m s v at-p x in
@@ -82,14 +82,14 @@ module _ {fuel : Fuel} {view : ℕ → Node} {vars n : ℕ} (lay : Layout view v
     left-variable v x false o d = let z : _≡_ {A = ℕ} 0 1 = cc in absurd (omega arith)
 
     right-variable : (f w : ℕ) (ps : List ℕ) → view (reach fuel view θ p) ≡ app-node f ps → view (reach fuel view θ q) ≡ var-node w → (b : Bool) → occurs fuel view (fuel .occurs-depth) θ w p ≡ b
-        → (elim b as (λ x. Treatment) [ true ↦ becomes (line θ [] ∷ []) | false ↦ fully-reduced ]) ≡ becomes ls → Says ρ value θ (value p ≻ value q) ls
+        → (elim b as (λ x. Treatment) [ true ↦ becomes (line θ [] ∷ []) | false ↦ fully-reduced ]) ≡ becomes ls → LinesSay ρ value θ (value p ≻ value q) ls
     right-variable f w ps x y true o d = let e : ls ≡ line θ [] ∷ [] = cc in rw e (always ρ value θ (λ b.
         let s = satisfied ρ value θ b in
         rw (variable-value m s w at-q y) (occurs-exceeded m s at-p x (occurs-found lay suf pr (fuel .occurs-depth) w p o))))
     right-variable f w ps x y false o d = let z : _≡_ {A = ℕ} 0 1 = cc in absurd (omega arith)
 
     two-symbols : (f g : ℕ) (ps qs : List ℕ) → view (reach fuel view θ p) ≡ app-node f ps → view (reach fuel view θ q) ≡ app-node g qs
-        → becomes (map (line θ) (choices p q f g ps qs)) ≡ becomes ls → Says ρ value θ (value p ≻ value q) ls
+        → becomes (map (line θ) (choices p q f g ps qs)) ≡ becomes ls → LinesSay ρ value θ (value p ≻ value q) ls
     two-symbols f g ps qs x y d = let e : ls ≡ map (line θ) ess = cc in
         rw e (record {
           to = λ b h. choice-lines-to ρ value θ b ess (choices-to ρ value p q f g ps qs (p-is b) (q-is b) h);
@@ -105,27 +105,27 @@ module _ {fuel : Fuel} {view : ℕ → Node} {vars n : ℕ} (lay : Layout view v
         q-is : BindingsHold ρ value 0 θ → value q ≡ app g (values-at value qs)
         q-is b = symbol-value m (satisfied ρ value θ b) g qs at-q y
 
-    greater-says : (x y : Node) → view (reach fuel view θ p) ≡ x → view (reach fuel view θ q) ≡ y → treat-greater fuel view θ p q x y ≡ becomes ls → Says ρ value θ (value p ≻ value q) ls
+    greater-says : (x y : Node) → view (reach fuel view θ p) ≡ x → view (reach fuel view θ q) ≡ y → treat-greater fuel view θ p q x y ≡ becomes ls → LinesSay ρ value θ (value p ≻ value q) ls
     unfolding treat-greater
     greater-says (var-node v) y a b d = left-variable v a (occurs fuel view (fuel .occurs-depth) θ v q) refl d
     greater-says (app-node f ps) (var-node w) a b d = right-variable f w ps a b (occurs fuel view (fuel .occurs-depth) θ w p) refl d
     greater-says (app-node f ps) (app-node g qs) a b d = two-symbols f g ps qs a b d
 
-  pub treat-says : (θ : Bindings) (e : Element) (ls : List Line) → Proper view vars n θ → Within n e → treat fuel view θ e ≡ becomes ls → Says ρ value θ (ElementHolds ρ value e) ls
+  pub treat-says : (θ : Bindings) (e : Element) (ls : List Line) → Proper view vars n θ → Within n e → treat fuel view θ e ≡ becomes ls → LinesSay ρ value θ (ElementHolds ρ value e) ls
   unfolding treat
   treat-says θ (equal p q) ls pr h d = equal-says θ p q ls pr (h .0) (h .1) (unify fuel view (fuel .unify-depth) θ p q) refl d
   treat-says θ (greater p q) ls pr h d = greater-says θ p q ls pr (h .0) (h .1) (view (reach fuel view θ p)) (view (reach fuel view θ q)) refl refl d
 
   pub leftmost-says : (θ : Bindings) (es : List Element) (ls : List Line) → Proper view vars n θ → AllWithin n es → treat-leftmost fuel view θ es ≡ some ls
-      → Says ρ value θ (ElementsHold ρ value es) ls
+      → LinesSay ρ value θ (ElementsHold ρ value es) ls
   unfolding treat-leftmost
   leftmost-says θ [] ls pr h d = let z : _≡_ {A = ℕ} 0 1 = cc in absurd (omega arith)
   leftmost-says θ (e ∷ es) ls pr h d = go (leftmost-says θ es) (treat fuel view θ e) refl d
     where
       IH : Type 0
-      IH = (ls : List Line) → Proper view vars n θ → AllWithin n es → treat-leftmost fuel view θ es ≡ some ls → Says ρ value θ (ElementsHold ρ value es) ls
+      IH = (ls : List Line) → Proper view vars n θ → AllWithin n es → treat-leftmost fuel view θ es ≡ some ls → LinesSay ρ value θ (ElementsHold ρ value es) ls
 
-      later : IH → (o : Option (List Line)) → treat-leftmost fuel view θ es ≡ o → Option·map (map (in-front e)) o ≡ some ls → Says ρ value θ (ElementHolds ρ value e × ElementsHold ρ value es) ls
+      later : IH → (o : Option (List Line)) → treat-leftmost fuel view θ es ≡ o → Option·map (map (in-front e)) o ≡ some ls → LinesSay ρ value θ (ElementHolds ρ value e × ElementsHold ρ value es) ls
       later ih none x d = let z : _≡_ {A = ℕ} 0 1 = cc in absurd (omega arith)
       later ih (some ms) x d =
           let y : ls ≡ map (in-front e) ms = cc in
@@ -137,7 +137,7 @@ module _ {fuel : Fuel} {view : ℕ → Node} {vars n : ℕ} (lay : Layout view v
 
       go : IH → (t : Treatment) → treat fuel view θ e ≡ t
           → (elim t as (λ x. Option (List Line)) [ becomes ms ↦ some (map (behind es) ms) | fully-reduced ↦ Option·map (map (in-front e)) (treat-leftmost fuel view θ es) ]) ≡ some ls
-          → Says ρ value θ (ElementHolds ρ value e × ElementsHold ρ value es) ls
+          → LinesSay ρ value θ (ElementHolds ρ value e × ElementsHold ρ value es) ls
       go ih fully-reduced x d = later ih (treat-leftmost fuel view θ es) refl d
       go ih (becomes ms) x d =
           let y : ls ≡ map (behind es) ms = cc in

@@ -24,10 +24,10 @@ one-later-is zero i e = absurd (omega arith)
 one-later-is (suc n) i e = (n, omega arith, refl)
 
 module _ (ρ : Values) (value : ℕ → Term) where
-  abbrev Holds : Line → Type 0
-  Holds = LineHolds ρ value
+  abbrev ThisHolds : Line → Type 0
+  ThisHolds = LineHolds ρ value
 
-  abbrev counted : (l : Line) → Dec (Holds l) → ℕ → ℕ
+  abbrev counted : (l : Line) → Dec (ThisHolds l) → ℕ → ℕ
   counted l d n = elim d [ yes h ↦ 1 | no m ↦ one-later n ]
 
   -- It is not 0 exactly if some line holds.
@@ -36,7 +36,7 @@ module _ (ρ : Values) (value : ℕ → Term) where
   some-holds [] h = absurd (omega arith)
   some-holds (l ∷ ls) h = go (line-holds? ρ value l) h (some-holds ls)
     where
-      go : (d : Dec (Holds l)) → 0 < counted l d (first-holding ρ value ls) → (0 < first-holding ρ value ls → SomeLineHolds ρ value ls) → SomeLineHolds ρ value (l ∷ ls)
+      go : (d : Dec (ThisHolds l)) → 0 < counted l d (first-holding ρ value ls) → (0 < first-holding ρ value ls → SomeLineHolds ρ value ls) → SomeLineHolds ρ value (l ∷ ls)
       go (yes x) h later = inl x
       go (no n) h later = inr (later (one-later-pos _ .0 h))
 
@@ -45,7 +45,7 @@ module _ (ρ : Values) (value : ℕ → Term) where
   some-counted [] h = absurd h
   some-counted (l ∷ ls) h = go (line-holds? ρ value l) h (some-counted ls)
     where
-      go : (d : Dec (Holds l)) → SomeLineHolds ρ value (l ∷ ls) → (SomeLineHolds ρ value ls → 0 < first-holding ρ value ls) → 0 < counted l d (first-holding ρ value ls)
+      go : (d : Dec (ThisHolds l)) → SomeLineHolds ρ value (l ∷ ls) → (SomeLineHolds ρ value ls → 0 < first-holding ρ value ls) → 0 < counted l d (first-holding ρ value ls)
       go (yes x) h later = omega arith
       go (no n) (inl x) later = absurd (n x)
       go (no n) (inr x) later = one-later-pos _ .1 (later x)
@@ -57,18 +57,18 @@ module _ (ρ : Values) (value : ℕ → Term) where
   pub record FirstHolds (table : List Line) (i : ℕ) : Type 0 where
     pub line-there : Line
     pub is-there : entry table i ≡ some line-there
-    pub holds : Holds line-there
-    pub none-before : (j : ℕ) (l : Line) → j < i → entry table j ≡ some l → ¬ Holds l
+    pub holds : ThisHolds line-there
+    pub none-before : (j : ℕ) (l : Line) → j < i → entry table j ≡ some l → ¬ ThisHolds l
 
-  first-here : (l : Line) (ls : List Line) → Holds l → FirstHolds (l ∷ ls) 0
+  first-here : (l : Line) (ls : List Line) → ThisHolds l → FirstHolds (l ∷ ls) 0
   unfolding entry
   first-here l ls h = record { line-there = l; is-there = refl; holds = h; none-before = λ j k b. absurd (omega arith) }
 
-  first-later : (l : Line) (ls : List Line) (i : ℕ) → ¬ Holds l → FirstHolds ls i → FirstHolds (l ∷ ls) (suc i)
+  first-later : (l : Line) (ls : List Line) (i : ℕ) → ¬ ThisHolds l → FirstHolds ls i → FirstHolds (l ∷ ls) (suc i)
   unfolding entry
   first-later l ls i n f = record { line-there = f .line-there; is-there = f .is-there; holds = f .holds; none-before = before }
     where
-      before : (j : ℕ) (k : Line) → j < suc i → entry (l ∷ ls) j ≡ some k → ¬ Holds k
+      before : (j : ℕ) (k : Line) → j < suc i → entry (l ∷ ls) j ≡ some k → ¬ ThisHolds k
       before zero k b e h = let d : l ≡ k = cc in n (rw d h)
       before (suc j) k b e h = f .none-before j k (omega arith) e h
 
@@ -77,7 +77,7 @@ module _ (ρ : Values) (value : ℕ → Term) where
   first-holding-is [] i h = absurd (omega arith)
   first-holding-is (l ∷ ls) i h = go (line-holds? ρ value l) h (first-holding-is ls)
     where
-      go : (d : Dec (Holds l)) → counted l d (first-holding ρ value ls) ≡ suc i → ((j : ℕ) → first-holding ρ value ls ≡ suc j → FirstHolds ls j)
+      go : (d : Dec (ThisHolds l)) → counted l d (first-holding ρ value ls) ≡ suc i → ((j : ℕ) → first-holding ρ value ls ≡ suc j → FirstHolds ls j)
           → FirstHolds (l ∷ ls) i
       go (yes x) h rest = let e : i ≡ 0 = omega arith in rw e (first-here l ls x)
       go (no n) h rest = let (j, x, y) = one-later-is _ i h in rw x (first-later l ls j n (rest j y))
@@ -88,7 +88,7 @@ module _ (ρ : Values) (value : ℕ → Term) where
   first-holding-at [] i f = let z : _≡_ {A = ℕ} 0 1 = cc (f .is-there) in absurd (omega arith)
   first-holding-at (l ∷ ls) zero f = go (line-holds? ρ value l)
     where
-      go : (d : Dec (Holds l)) → counted l d (first-holding ρ value ls) ≡ 1
+      go : (d : Dec (ThisHolds l)) → counted l d (first-holding ρ value ls) ≡ 1
       go (yes x) = refl
       go (no n) = let e : l ≡ f .line-there = cc (f .is-there) in absurd (n (rw e (f .holds)))
   first-holding-at (l ∷ ls) (suc i) f =
@@ -99,6 +99,6 @@ module _ (ρ : Values) (value : ℕ → Term) where
         none-before = λ j k b e. f .none-before (suc j) k (omega arith) e;
       }))
     where
-      go : (d : Dec (Holds l)) → first-holding ρ value ls ≡ suc i → counted l d (first-holding ρ value ls) ≡ suc (suc i)
+      go : (d : Dec (ThisHolds l)) → first-holding ρ value ls ≡ suc i → counted l d (first-holding ρ value ls) ≡ suc (suc i)
       go (yes x) e = absurd (f .none-before 0 l (omega arith) refl x)
       go (no n) e = rw e

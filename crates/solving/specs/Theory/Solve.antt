@@ -8,7 +8,8 @@ use native.Mathlib.Omega.{arith}
 use Rattle.format.specs.Limits.{variable-count, max-lines, max-turns, record-bytes, table-bytes}
 use Rattle.terms.specs.Term.{Values, inst}
 use Rattle.terms.specs.Equation.{Equation, Direction, source, target, source-position, target-position, view, value}
-use Rattle.terms.specs.Theory.Limits.{WithinLimits, positions, positions-few}
+use Rattle.terms.specs.Contracts.Limits.{WithinLimits, positions}
+use Rattle.terms.specs.Theory.Limits.{positions-few}
 use Rattle.terms.specs.Theory.Positions.{source-at, target-at, source-within, target-within}
 use Rattle.terms.specs.Theory.View.{layout, model}
 use Rattle.ordering.specs.Order.{_≻_}

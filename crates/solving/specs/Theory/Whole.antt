@@ -82,12 +82,12 @@ module _ {fuel : Fuel} {view : ℕ → Node} {n : ℕ} (lay : Layout view variab
 
   pub walk-exact : {ρ : Values} {value : ℕ → Term} → Model view ρ value → (table : List Line) (turns : ℕ) → walk fuel view s t ≡ solved table turns → value s ≻ value t ↔ SomeLineHolds ρ value table
   unfolding walk opening no-bindings
-  walk-exact {ρ} {value} m table turns e = walk-keeps fuel view Says keeps max-turns 0 (opening variable-count s t) table turns (opening-proper lay s t i j, opening-says ρ value s t) e .has .1
+  walk-exact {ρ} {value} m table turns e = walk-keeps fuel view TableSays keeps max-turns 0 (opening variable-count s t) table turns (opening-proper lay s t i j, opening-says ρ value s t) e .has .1
     where
-      Says : List Line → Type 0
-      Says table = ProperTable view variable-count n table × (value s ≻ value t ↔ SomeLineHolds ρ value table)
+      TableSays : List Line → Type 0
+      TableSays table = ProperTable view variable-count n table × (value s ≻ value t ↔ SomeLineHolds ρ value table)
 
-      keeps : (old new : List Line) → Says old → turn fuel view old ≡ some new → over-limit new ≡ none → Says new
+      keeps : (old new : List Line) → TableSays old → turn fuel view old ≡ some new → over-limit new ≡ none → TableSays new
       keeps old new k x y = let b = turn-exact lay suf m old new (k .0) x in (turn-proper lay suf old new (k .0) x, (λ g. b .0 (k .1 .0 g), λ h. k .1 .1 (b .1 h)))
 
 -- No fuel that suffices changes the walk.

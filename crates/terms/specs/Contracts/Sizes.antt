@@ -7,7 +7,7 @@ use lib.Seq.{slice}
 use Rattle.terms.specs.Term.{size}
 use Rattle.terms.specs.Position.{subterms-of}
 use Rattle.terms.specs.Prefix.{prefixes, terms-of}
-use Rattle.terms.specs.Theory.Prefix.{AllFit}
+use Rattle.terms.specs.Contracts.Fits.{AllFit}
 use Rattle.format.specs.Limits.{node-count}
 
 -- These bytes are whole terms over the symbols with these arities, one behind the other.

@@ -10,7 +10,7 @@ use Rattle.terms.specs.Term.{Term, Terms, var, app, nil, cons, size, siz
 use Rattle.terms.specs.Position.{subterms, subterms-of}
 use Rattle.terms.specs.Equation.{Equation, Direction, left-right, right-left, source, target, source-position, target-position, term-at}
 use Rattle.terms.specs.Theory.Position.{length-subterms, length-subterms-of, size-pos}
-use Rattle.terms.specs.Theory.Limits.{positions}
+use Rattle.terms.specs.Contracts.Limits.{positions}
 
 -- `part` stands in `all` from `p` on.
 pub record Segment (all : List Term) (p : ℕ) (part : List Term) : Type 0 where
@@ -65,25 +65,25 @@ module _ {all : List Term} {p : ℕ} where
 
 -- Within the segment of a term, every position begins the segment of a term.
 module _ (all : List Term) (d : Term) where
-  abbrev TermAt : ℕ → Type 0
-  TermAt p = Segment all p (subterms (getD all p d))
+  abbrev SubtermAt : ℕ → Type 0
+  SubtermAt p = Segment all p (subterms (getD all p d))
 
   mutual
     unfolding size
 
-    covered : (t : Term) (b p : ℕ) → Segment all b (subterms t) → b ≤ p → p < b + size t → TermAt p
+    covered : (t : Term) (b p : ℕ) → Segment all b (subterms t) → b ≤ p → p < b + size t → SubtermAt p
     covered (var v) b p s l h = let e : p ≡ b = omega arith in rw (e, term-head (var v) d s) s
     covered (app f ts) b p s l h = go (λ x y. covered-by ts (b + 1) p (arguments-segment f ts s) x y) (ℕ-discrete p b)
       where
-        go : (b + 1 ≤ p → p < (b + 1) + sizes ts → TermAt p) → Dec (p ≡ b) → TermAt p
+        go : (b + 1 ≤ p → p < (b + 1) + sizes ts → SubtermAt p) → Dec (p ≡ b) → SubtermAt p
         go ih (yes e) = rw (e, term-head (app f ts) d s) s
         go ih (no n) = ih (omega arith) (omega arith)
 
-    covered-by : (ts : Terms) (b p : ℕ) → Segment all b (subterms-of ts) → b ≤ p → p < b + sizes ts → TermAt p
+    covered-by : (ts : Terms) (b p : ℕ) → Segment all b (subterms-of ts) → b ≤ p → p < b + sizes ts → SubtermAt p
     covered-by nil b p s l h = absurd (omega arith)
     covered-by (cons t ts) b p s l h = go (λ x. covered t b p (first-segment t ts s) l x) (λ x y. covered-by ts (b + size t) p (rest-segment t ts s) x y) (decLt p (b + size t))
       where
-        go : (p < b + size t → TermAt p) → (b + size t ≤ p → p < (b + size t) + sizes ts → TermAt p) → Dec (p < b + size t) → TermAt p
+        go : (p < b + size t → SubtermAt p) → (b + size t ≤ p → p < (b + size t) + sizes ts → SubtermAt p) → Dec (p < b + size t) → SubtermAt p
         go x y (yes i) = x i
         go x y (no i) = y (omega arith) (omega arith)
 

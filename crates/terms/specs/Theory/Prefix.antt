@@ -8,18 +8,10 @@ use Rattle.format.specs.Limits.{max-symbols, variable-count}
 use Rattle.format.specs.Theory.Byte.{symbol-class, variable-class}
 use Rattle.terms.specs.Term.{Term, Terms, var, app, nil, cons, size, sizes, count, arity, Ground, Grounds}
 use Rattle.terms.specs.Prefix.{prefix, prefixes, take-terms, drop-terms, terms-of}
-use Rattle.terms.specs.Theory.Limits.{VariablesBelow, AllVariablesBelow}
+use Rattle.terms.specs.Contracts.Limits.{VariablesBelow, AllVariablesBelow}
+use Rattle.terms.specs.Contracts.Fits.{Fits, AllFit}
 
--- 1. Terms over the sheet's symbols, with variables: each symbol has as many arguments as its arity says.
-abbrev mutual
-  pub Fits : List ℕ → Term → Type 0
-  Fits arities (var v) = v < variable-count
-  Fits arities (app f ts) = (f < length arities) × (count ts ≡ arity arities f) × AllFit arities ts
-
-  pub AllFit : List ℕ → Terms → Type 0
-  AllFit arities nil = Unit {0}
-  AllFit arities (cons t ts) = Fits arities t × AllFit arities ts
-
+-- 1. Ground terms are terms over the sheet's symbols.
 mutual
   pub ground-fits : (arities : List ℕ) (t : Term) → Ground arities t → Fits arities t
   ground-fits arities (var v) g = absurd g

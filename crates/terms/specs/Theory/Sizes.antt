@@ -14,7 +14,8 @@ use Rattle.terms.specs.Term.{Term, Terms, var, app, nil, cons, size, siz
 use Rattle.terms.specs.Position.{subterms, subterms-of}
 use Rattle.terms.specs.Prefix.{prefix, prefixes, take-terms, drop-terms, put-node, terms-of}
 use Rattle.terms.specs.Theory.Position.{length-subterms, length-subterms-of, size-pos}
-use Rattle.terms.specs.Theory.Prefix.{AllFit, append-terms, take-drop-terms, sizes-take-drop, prefixes-append, length-prefixes, terms-of-spelled}
+use Rattle.terms.specs.Contracts.Fits.{AllFit}
+use Rattle.terms.specs.Theory.Prefix.{append-terms, take-drop-terms, sizes-take-drop, prefixes-append, length-prefixes, terms-of-spelled}
 use Rattle.terms.specs.Contracts.Sizes.{Whole, node-sizes}
 
 subterms-append : (ts us : Terms) → subterms-of (append-terms ts us) ≡ subterms-of ts ++ subterms-of us

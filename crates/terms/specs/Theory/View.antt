@@ -4,12 +4,13 @@ use mathlib.Core.Path.{_≡_, refl, ap}
 use mathlib.Core.List.{List, [], _∷_}
 use native.Mathlib.Omega.{arith}
 use Rattle.format.specs.Limits.{variable-count}
-use Rattle.format.specs.Theory.Lists.{Every, every-append, every-getD}
+use Rattle.format.specs.Lists.{Every}
+use Rattle.format.specs.Theory.Lists.{every-append, every-getD}
 use Rattle.terms.specs.Term.{Term, Terms, var, app, nil, cons, size, Values, inst, insts}
 use Rattle.terms.specs.Position.{subterms, subterms-of, starts, Node, var-node, app-node, node-at}
 use Rattle.terms.specs.Equation.{Equation, term-at, view, value}
 use Rattle.terms.specs.Theory.Position.{size-pos}
-use Rattle.terms.specs.Theory.Limits.{VariablesBelow, AllVariablesBelow, WithinLimits, positions}
+use Rattle.terms.specs.Contracts.Limits.{VariablesBelow, AllVariablesBelow, WithinLimits, positions}
 use Rattle.terms.specs.Theory.Positions.{Segment, term-head, first-segment, rest-segment, all-subterms, arguments-at, segment-within}
 
 -- A position is one of a list.

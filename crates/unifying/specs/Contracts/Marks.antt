@@ -12,17 +12,13 @@ pub record OccursAmong (nodes : List ℕ) (from end w : ℕ) : Type 0 where
   pub ahead : position < end
   pub byte : getD nodes position 0 ≡ first-variable + w
 
--- No variable stands there.
-pub record OnlySymbols (nodes : List ℕ) (from end : ℕ) : Type 0 where
-  pub all : (q : ℕ) → from ≤ q → q < end → getD nodes q 0 < first-variable
-
 -- From `from` to `end` there is no `v`, and each bound variable that stands there is met.
 pub record Covered (nodes bs : List ℕ) (v : ℕ) (met : List ℕ) (from end : ℕ) : Type 0 where
   pub absent : OccursAmong nodes from end v → ⊥
   pub marked : (w : ℕ) → OccursAmong nodes from end w → getD bs w 0 < no-position → 0 < getD met w 0
 
 -- The positions from `from` to `end` were searched: `v` is not there, and the bound variables that stand there are met now.
-pub record Scanned (nodes bs : List ℕ) (v from end : ℕ) (before after : List ℕ) : Type 0 where
+pub record SearchedNodes (nodes bs : List ℕ) (v from end : ℕ) (before after : List ℕ) : Type 0 where
   pub started : from ≤ end
   pub same-length : length after ≡ length before
   pub closed : Covered nodes bs v after from end

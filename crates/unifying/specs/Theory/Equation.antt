@@ -7,15 +7,17 @@ use borrow.Author.Tests.{lt-ltb, le-ltb}
 use native.Mathlib.Omega.{arith}
 use native.Mathlib.Decide.{decLt}
 use Rattle.format.specs.Limits.{first-variable, variable-count, max-symbols}
-use Rattle.format.specs.Theory.Lists.{Every, every-append, every-getD, getD-map}
+use Rattle.format.specs.Lists.{Every}
+use Rattle.format.specs.Theory.Lists.{every-append, every-getD, getD-map}
 use Rattle.terms.specs.Term.{Term, Terms, var, app, nil, cons, size, sizes}
 use Rattle.terms.specs.Position.{subterms, subterms-of, starts, var-node, node-at}
 use Rattle.terms.specs.Prefix.{prefix, prefixes, equation-bytes}
 use Rattle.terms.specs.Equation.{Equation, Direction, term-at, source-position, target-position, view}
-use Rattle.terms.specs.Theory.Limits.{WithinLimits, positions, positions-few}
+use Rattle.terms.specs.Contracts.Limits.{WithinLimits, positions}
+use Rattle.terms.specs.Theory.Limits.{positions-few}
 use Rattle.terms.specs.Theory.Position.{size-pos}
 use Rattle.terms.specs.Theory.Positions.{Segment, term-head, first-segment, rest-segment, all-subterms, length-all, past-end, arguments-at, segment-within}
-use Rattle.terms.specs.Theory.Prefix.{Fits, AllFit}
+use Rattle.terms.specs.Contracts.Fits.{AllFit, Fits}
 use Rattle.solving.specs.Walk.{enough, walk, solve}
 use Rattle.unifying.specs.Contracts.PrefixForm.{row, arguments-of, view-of, Row, none, more, InPrefixForm}
 use Rattle.unifying.specs.Contracts.Equation.{equation-sizes}

@@ -6,31 +6,32 @@ use lib.ListN.{length, getD}
 use Rattle.format.specs.Limits.{first-variable}
 use Rattle.solving.specs.Line.{Element, equal, greater, line}
 use Rattle.solving.specs.Walk.{enough, reach, fully-reduced, becomes, treat}
+use Rattle.walking.specs.declared.treat.Sides.{Sides}
 use Rattle.walking.specs.declared.treat.Treatment.{Treatment}
 use Rattle.walking.specs.declared.treat.Treatment.the-variants.{Reduced, DropLine, DropElement, Unify, Split}
 use Rattle.unifying.specs.Contracts.PrefixForm.{view-of}
 use Rattle.unifying.specs.Contracts.Bindings.{bindings-of}
 
--- "both non-variables": the element l > r at `p` and `q`, the terms reached at `s` and `t`.
-pub record BothSymbols (nodes sizes bindings : List ℕ) (e : Element) (p q s t : ℕ) : Type 0 where
-  pub element : e ≡ greater p q
-  pub left-reached : s ≡ reach enough (view-of nodes sizes) (bindings-of bindings) p
-  pub right-reached : t ≡ reach enough (view-of nodes sizes) (bindings-of bindings) q
-  pub left-within : s < length nodes
-  pub right-within : t < length nodes
-  pub left-symbol : getD nodes s 0 < first-variable
-  pub right-symbol : getD nodes t 0 < first-variable
+-- "both non-variables": the positions of the element l > r, and those of the terms reached.
+pub record BothSymbols (nodes sizes bindings : List ℕ) (e : Element) (sides terms : Sides) : Type 0 where
+  pub element : e ≡ greater (sides .left) (sides .right)
+  pub left-reached : terms .left ≡ reach enough (view-of nodes sizes) (bindings-of bindings) (sides .left)
+  pub right-reached : terms .right ≡ reach enough (view-of nodes sizes) (bindings-of bindings) (sides .right)
+  pub left-within : terms .left < length nodes
+  pub right-within : terms .right < length nodes
+  pub left-symbol : getD nodes (terms .left) 0 < first-variable
+  pub right-symbol : getD nodes (terms .right) 0 < first-variable
 
 module _ (nodes sizes bindings : List ℕ) (e : Element) where
-  abbrev pub Asks : Treatment → Type 0
-  Asks Reduced = treat enough (view-of nodes sizes) (bindings-of bindings) e ≡ fully-reduced
+  abbrev pub AsksFor : Treatment → Type 0
+  AsksFor Reduced = treat enough (view-of nodes sizes) (bindings-of bindings) e ≡ fully-reduced
   -- "delete the line"
-  Asks DropLine = treat enough (view-of nodes sizes) (bindings-of bindings) e ≡ becomes []
+  AsksFor DropLine = treat enough (view-of nodes sizes) (bindings-of bindings) e ≡ becomes []
   -- "delete the element"
-  Asks DropElement = treat enough (view-of nodes sizes) (bindings-of bindings) e ≡ becomes (line (bindings-of bindings) [] ∷ [])
+  AsksFor DropElement = treat enough (view-of nodes sizes) (bindings-of bindings) e ≡ becomes (line (bindings-of bindings) [] ∷ [])
   -- "Equality: unify"
-  Asks (Unify p q) = e ≡ equal p q
-  Asks (Split p q s t) = BothSymbols nodes sizes bindings e p q s t
+  AsksFor (Unify sides) = e ≡ equal (sides .left) (sides .right)
+  AsksFor (Split sides terms) = BothSymbols nodes sizes bindings e sides terms
 
   pub record Treated (r : Treatment) : Type 0 where
-    pub asks : Asks r
+    pub asks : AsksFor r

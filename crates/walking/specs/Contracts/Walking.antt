@@ -6,32 +6,30 @@ use mathlib.Core.Option.{none}
 use mathlib.Core.List.{List, [], _∷_, _++_, map}
 use lib.ListN.{length, take, drop}
 use Rattle.format.specs.Limits.{max-lines, max-turns, record-bytes}
-use Rattle.format.specs.declared.refusal.Refusal.{Refusal}
 use Rattle.solving.specs.Line.{Element, Line, records}
 use Rattle.terms.specs.Position.{Node}
 use Rattle.solving.specs.Walk.{enough, treat-line, crowded, Walked, refused, walk-from, walk}
 use Rattle.walking.specs.declared.treat.Treatment.{Treatment}
-use Rattle.walking.specs.declared.treat.Treatment.the-variants.{Reduced}
 use Rattle.walking.specs.declared.walk.Walk.{Walk}
 use Rattle.walking.specs.declared.walk.Progress.{Progress}
 use Rattle.walking.specs.declared.walk.Progress.the-variants.{Going, Refused}
 use Rattle.walking.specs.declared.walk.Advanced.{Advanced}
 use Rattle.unifying.specs.Contracts.PrefixForm.{view-of, InPrefixForm}
-use Rattle.lines.specs.Contracts.Stored.{Stored, line-of, stored-bytes}
-use Rattle.lines.specs.declared.line.Line.{Line as Named}
+use Rattle.lines.specs.Contracts.Resting.{RestingLine, line-of}
+use Rattle.lines.specs.declared.line.Line.{Line as LineValue}
 use Rattle.lines.specs.Contracts.Layout.{line-bytes}
-use Rattle.lines.specs.Contracts.Place.{lines-bytes}
-use Rattle.lines.specs.Contracts.Named.{Holds}
+use Rattle.lines.specs.Contracts.Room.{lines-bytes}
+use Rattle.lines.specs.Contracts.Line.{Holds}
 use Rattle.walking.specs.Contracts.Treatment.{Treated}
-use Rattle.walking.specs.Contracts.Sound.{AllReduced, Sound}
+use Rattle.walking.specs.Contracts.WellFormed.{AllReduced, WellFormed}
 
 -- 255 places for lines.
 abbrev pub memory-bytes : ℕ
 memory-bytes = max-lines * line-bytes
 
-abbrev pub AllSound : (nodes sizes : List ℕ) → List Stored → Type 0
-AllSound nodes sizes [] = Unit {0}
-AllSound nodes sizes (l ∷ ls) = Sound nodes sizes l × AllSound nodes sizes ls
+abbrev pub AllWellFormed : (nodes sizes : List ℕ) → List RestingLine → Type 0
+AllWellFormed nodes sizes [] = Unit {0}
+AllWellFormed nodes sizes (l ∷ ls) = WellFormed nodes sizes l × AllWellFormed nodes sizes ls
 
 -- Finished lines, none longer than allowed.
 module _ (view : ℕ → Node) where
@@ -44,7 +42,7 @@ module _ (view : ℕ → Node) where
   AllFinished (l ∷ ls) = Finished l × AllFinished ls
 
 -- Finished lines stand as records from the front, the others from their place to the end.
-pub record Memory (nodes sizes memory : List ℕ) (done top : ℕ) (finished : List Line) (unfinished : List Stored) : Type 0 where
+pub record HoldsTable (nodes sizes memory : List ℕ) (done top : ℕ) (finished : List Line) (unfinished : List RestingLine) : Type 0 where
   pub length-is : length memory ≡ memory-bytes
   pub records-are : take (done * record-bytes) memory ≡ records finished
   pub lines-are : drop (top * line-bytes) memory ≡ lines-bytes unfinished
@@ -52,7 +50,7 @@ pub record Memory (nodes sizes memory : List ℕ) (done top : ℕ) (finished : L
   pub top-is : top + length unfinished ≡ max-lines
   pub ordered : done ≤ top
   pub all-finished : AllFinished (view-of nodes sizes) finished
-  pub all-sound : AllSound nodes sizes unfinished
+  pub all-well-formed : AllWellFormed nodes sizes unfinished
 
 -- The walk as it is defined, from the positions that the cursor has.
 abbrev pub whole-walk : (nodes sizes : List ℕ) → Walk → Walked
@@ -62,8 +60,8 @@ whole-walk nodes sizes w = walk enough (view-of nodes sizes) (w .source) (w .tar
 pub record Walking (nodes sizes memory : List ℕ) (w : Walk) : Type 0 where
   pub laid : InPrefixForm nodes sizes
   pub finished : List Line
-  pub unfinished : List Stored
-  pub holds : Memory nodes sizes memory (w .done) (w .top) finished unfinished
+  pub unfinished : List RestingLine
+  pub holds : HoldsTable nodes sizes memory (w .done) (w .top) finished unfinished
   pub turns-within : w .turns ≤ max-turns
   pub leads : walk-from enough (view-of nodes sizes) (max-turns - w .turns) (w .turns) (finished ++ map line-of unfinished) ≡ whole-walk nodes sizes w
 
@@ -71,9 +69,9 @@ pub record Walking (nodes sizes memory : List ℕ) (w : Walk) : Type 0 where
 pub record Finishing (nodes sizes memory : List ℕ) (w : Walk) : Type 0 where
   pub laid : InPrefixForm nodes sizes
   pub finished : List Line
-  pub first : Stored
-  pub others : List Stored
-  pub holds : Memory nodes sizes memory (w .done) (w .top) finished (first ∷ others)
+  pub first : RestingLine
+  pub others : List RestingLine
+  pub holds : HoldsTable nodes sizes memory (w .done) (w .top) finished (first ∷ others)
   pub turns-within : w .turns ≤ max-turns
   pub leads : walk-from enough (view-of nodes sizes) (max-turns - w .turns) (w .turns) (finished ++ map line-of (first ∷ others)) ≡ whole-walk nodes sizes w
   pub all-reduced : AllReduced nodes sizes (first .bindings) (first .elements)
@@ -82,9 +80,9 @@ pub record Finishing (nodes sizes memory : List ℕ) (w : Walk) : Type 0 where
 pub record Treating (nodes sizes memory : List ℕ) (w : Walk) (at : ℕ) (t : Treatment) : Type 0 where
   pub laid : InPrefixForm nodes sizes
   pub finished : List Line
-  pub first : Stored
-  pub others : List Stored
-  pub holds : Memory nodes sizes memory (w .done) (w .top) finished (first ∷ others)
+  pub first : RestingLine
+  pub others : List RestingLine
+  pub holds : HoldsTable nodes sizes memory (w .done) (w .top) finished (first ∷ others)
   pub turns-within : w .turns ≤ max-turns
   pub leads : walk-from enough (view-of nodes sizes) (max-turns - w .turns) (w .turns) (finished ++ map line-of (first ∷ others)) ≡ whole-walk nodes sizes w
   pub pre : List Element
@@ -97,7 +95,7 @@ pub record Treating (nodes sizes memory : List ℕ) (w : Walk) (at : ℕ) (t : T
   pub treated : Treated nodes sizes (first .bindings) element t
 
 -- The code has that line by its named parts, or no more of it than the number of its elements.
-pub record TreatingLine (nodes sizes memory : List ℕ) (w : Walk) (l : Named) (at : ℕ) (t : Treatment) : Type 0 where
+pub record TreatingLine (nodes sizes memory : List ℕ) (w : Walk) (l : LineValue) (at : ℕ) (t : Treatment) : Type 0 where
   pub treating : Treating nodes sizes memory w at t
   pub line-holds : Holds l (treating .first)
 
@@ -122,17 +120,17 @@ pub record GoesOn (nodes sizes memory : List ℕ) (w v : Walk) : Type 0 where
   pub walking : Walking nodes sizes memory v
   pub further : Further w v
 
-abbrev pub Outcome : (nodes sizes memory : List ℕ) (w v : Walk) → Progress → Type 0
-Outcome nodes sizes memory w v Going = GoesOn nodes sizes memory w v
-Outcome nodes sizes memory w v (Refused r) = whole-walk nodes sizes w ≡ refused r
+abbrev pub AdvancesAs : (nodes sizes memory : List ℕ) (w v : Walk) → Progress → Type 0
+AdvancesAs nodes sizes memory w v Going = GoesOn nodes sizes memory w v
+AdvancesAs nodes sizes memory w v (Refused r) = whole-walk nodes sizes w ≡ refused r
 
 pub record Advances (nodes sizes memory : List ℕ) (w : Walk) (a : Advanced) : Type 0 where
-  pub outcome : Outcome nodes sizes memory w (a .walk) (a .progress)
+  pub outcome : AdvancesAs nodes sizes memory w (a .walk) (a .progress)
 
 -- The walk has come to an end: no line is left unfinished, or it is refused.
-abbrev pub End : (nodes sizes memory : List ℕ) (w v : Walk) → Progress → Type 0
-End nodes sizes memory w v Going = Walking nodes sizes memory v × (max-lines ≤ v .top) × (whole-walk nodes sizes v ≡ whole-walk nodes sizes w)
-End nodes sizes memory w v (Refused r) = whole-walk nodes sizes w ≡ refused r
+abbrev pub EndsAs : (nodes sizes memory : List ℕ) (w v : Walk) → Progress → Type 0
+EndsAs nodes sizes memory w v Going = Walking nodes sizes memory v × (max-lines ≤ v .top) × (whole-walk nodes sizes v ≡ whole-walk nodes sizes w)
+EndsAs nodes sizes memory w v (Refused r) = whole-walk nodes sizes w ≡ refused r
 
-pub record Comes (nodes sizes memory : List ℕ) (w : Walk) (a : Advanced) : Type 0 where
-  pub end : End nodes sizes memory w (a .walk) (a .progress)
+pub record WalkEnds (nodes sizes memory : List ℕ) (w : Walk) (a : Advanced) : Type 0 where
+  pub end : EndsAs nodes sizes memory w (a .walk) (a .progress)

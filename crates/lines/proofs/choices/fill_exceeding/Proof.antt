@@ -1,4 +1,4 @@
--- `walking::record::fill_exceeding` fills the room with all s > tj. The loop's invariant, `FillingExceeding`: what is still to be done does the whole.
+-- `fill_exceeding` fills the room with all s > tj. The loop's invariant, `FillingExceeding`: what is still to be done does the whole.
 use Prim.Native.Nat.{_+_, _-_}
 use native.Mathlib.Omega.{arith}
 use borrow.Author.Needs.{needs}
@@ -7,10 +7,10 @@ use Rattle.lines.proofs.choices.fill_exceeding.Statement.{statement}
 use Rattle.lines.proofs.choices.fill_exceeding.Tie as tie
 
 abbrev Inv-loop : tie.InvT-loop
-Inv-loop sizes line₀ at p k end t₀ place₀ line t place = FillingExceeding sizes p end k at line₀ t place line
+Inv-loop sizes line₀ at p end t₀ place₀ line t place = FillingExceeding sizes p end t₀ at line₀ t place line
 
 abbrev μ-loop : tie.MeasureT-loop
-μ-loop sizes line₀ at p k end t₀ place₀ line t place = end - t
+μ-loop sizes line₀ at p end t₀ place₀ line t place = end - t
 
 loop-holds : tie.Need-loop-holds Inv-loop μ-loop
 loop-holds c = filling-start _ _ _ (c .before .before .pre)

@@ -1,4 +1,4 @@
--- `walking::record::mark_equal` marks an equality for each term. The loop's invariant, `MarkingEqual`: what is still to be done does the whole.
+-- `mark_equal` marks an equality for each term. The loop's invariant, `MarkingEqual`: what is still to be done does the whole.
 use Prim.Native.Nat.{_+_, _-_}
 use native.Mathlib.Omega.{arith}
 use borrow.Author.Needs.{needs}

@@ -1,17 +1,18 @@
--- `walking::record::push_arguments` puts the lines of each argument into the memory. The loop's invariant, `PushingArguments`: what is still to be done does the whole.
+-- `push_arguments` puts the lines of each argument into the memory. The loop's invariant, `PushingArguments`: what is still to be done does the whole.
 use Prim.Native.Nat.{_+_, _-_}
 use mathlib.Core.Path.{_∙_}
 use native.Mathlib.Omega.{arith}
+use Rattle.lines.specs.Contracts.Layout.{line-bytes}
 use borrow.Author.Needs.{needs}
 use Rattle.lines.proofs.Arguments.{arguments-room, arguments-size, PushingArguments, pushing-start, pushing-next, pushing-done}
 use Rattle.lines.proofs.choices.push_arguments.Statement.{statement}
 use Rattle.lines.proofs.choices.push_arguments.Tie as tie
 
 abbrev Inv-loop : tie.InvT-loop
-Inv-loop sizes line at q k end records₀ to s₀ next₀ records s next = PushingArguments sizes at q end line k to records₀ s next records
+Inv-loop sizes line at q records₀ to end s₀ next₀ records s next = PushingArguments sizes at q end line s₀ to records₀ s next records
 
 abbrev μ-loop : tie.MeasureT-loop
-μ-loop sizes line at q k end records₀ to s₀ next₀ records s next = end - s
+μ-loop sizes line at q records₀ to end s₀ next₀ records s next = end - s
 
 loop-holds : tie.Need-loop-holds Inv-loop μ-loop
 loop-holds c = pushing-start _ _ _ _ _ (c .before .before .before .pre)
@@ -33,7 +34,7 @@ loop-again : tie.Need-loop-again Inv-loop μ-loop
 loop-again c =
     let first = c .before .before .before .before .before .before .before .before .store-with in
     let second = c .before .before .before .before .store-with2 in
-    pushing-next _ _ _ _ _ (c .wide .result) (c .before .before .before .before .before .before .before .before .before .before .before .loop .next + 90 + 90) (first .last .1 .1 .1 .1 .0) (second .last .1 .1 .1 .1 .0) (c .before .before .before .before .before .before .before .before .before .before .before .loop .inv) (c .before .before .before .before .before .before .before .before .before .before .loop-test .taken)
+    pushing-next _ _ _ _ _ (c .wide .result) (c .before .before .before .before .before .before .before .before .before .before .before .loop .next + line-bytes + line-bytes) (first .last .1 .1 .1 .1 .0) (second .last .1 .1 .1 .1 .0) (c .before .before .before .before .before .before .before .before .before .before .before .loop .inv) (c .before .before .before .before .before .before .before .before .before .before .loop-test .taken)
     (first .ensures) (second .ensures) (second .kept .1 .1 .1 .1 .0 ∙ first .kept .1 .1 .1 .1 .0) (c .wide .ensures .0) (omega arith)
 
 same-length : tie.Need-same-length Inv-loop μ-loop

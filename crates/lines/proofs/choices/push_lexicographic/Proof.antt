@@ -1,18 +1,19 @@
--- `walking::record::push_lexicographic` puts the lines of the lexicographic choices into the memory. The loop's invariant, `PushingLexicographic`:
+-- `push_lexicographic` puts the lines of the lexicographic choices into the memory. The loop's invariant, `PushingLexicographic`:
 -- what is still to be done does the whole.
 use Prim.Native.Nat.{_+_, _-_}
 use mathlib.Core.Path.{_∙_}
 use native.Mathlib.Omega.{arith}
+use Rattle.lines.specs.Contracts.Layout.{line-bytes}
 use borrow.Author.Needs.{needs}
 use Rattle.lines.proofs.Lexicographic.{lexicographic-room, lexicographic-sizes, PushingLexicographic, pushing-start, pushing-whole, pushing-marks, pushing-next, pushing-left-done, pushing-right-done}
 use Rattle.lines.proofs.choices.push_lexicographic.Statement.{statement}
 use Rattle.lines.proofs.choices.push_lexicographic.Tie as tie
 
 abbrev Inv-loop : tie.InvT-loop
-Inv-loop sizes line at k m l n records₀ to s₀ t₀ place₀ next₀ records s t place next = PushingLexicographic sizes m n k l at to line records₀ s t place next records
+Inv-loop sizes line at records₀ to k m n s₀ t₀ place₀ next₀ records s t place next = PushingLexicographic sizes m n k t₀ at to line records₀ s t place next records
 
 abbrev μ-loop : tie.MeasureT-loop
-μ-loop sizes line at k m l n records₀ to s₀ t₀ place₀ next₀ records s t place next = m - s
+μ-loop sizes line at records₀ to k m n s₀ t₀ place₀ next₀ records s t place next = m - s
 
 loop-holds : tie.Need-loop-holds Inv-loop μ-loop
 loop-holds c = pushing-start _ _ _ (c .before .before .before .pre)
@@ -42,7 +43,7 @@ loop-again c =
     let loop = c .before .before .before .before .before .before .before .before .before .before .before .before .before .before .loop in
     let first = c .before .before .before .before .before .before .before .before .before .before .store-with in
     let second = c .before .before .before .before .before .before .mark-equal in
-    pushing-next _ _ _ (loop .inv) (c .before .before .before .before .before .before .before .before .before .before .before .before .before .loop-test .taken) (c .before .before .before .before .before .before .before .before .before .before .before .before .if1 .left) (c .before .before .wide .result) (c .wide2 .result) (loop .place + 2) (loop .next + 90) (first .last .1 .1 .1 .1 .0) (second .last .1 .0)
+    pushing-next _ _ _ (loop .inv) (c .before .before .before .before .before .before .before .before .before .before .before .before .before .loop-test .taken) (c .before .before .before .before .before .before .before .before .before .before .before .before .if1 .left) (c .before .before .wide .result) (c .wide2 .result) (loop .place + 2) (loop .next + line-bytes) (first .last .1 .1 .1 .1 .0) (second .last .1 .0)
     (first .ensures) (second .ensures) (second .kept .1 .0 ∙ first .kept .1 .1 .1 .1 .0) (c .before .before .wide .ensures .0) (c .wide2 .ensures .0) (omega arith) (omega arith)
 
 same-length-2 : tie.Need-same-length-2 Inv-loop μ-loop

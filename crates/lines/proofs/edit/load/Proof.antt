@@ -1,8 +1,8 @@
--- `walking::record::load` copies a line. The loop's invariant, `Loading`: the bytes passed stand in the line.
+-- `load` copies a line. The loop's invariant, `Loading`: the bytes passed stand in the line.
 use Prim.Native.Nat.{_-_}
 use borrow.Author.Needs.{needs}
 use Rattle.lines.specs.Contracts.Layout.{line-bytes}
-use Rattle.lines.specs.Theory.Place.{Loading, loading-start, loading-next, loading-done}
+use Rattle.lines.specs.Theory.Placed.{Loading, loading-start, loading-next, loading-done}
 use Rattle.lines.proofs.edit.load.Statement.{statement}
 use Rattle.lines.proofs.edit.load.Tie as tie
 

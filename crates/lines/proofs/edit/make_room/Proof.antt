@@ -1,4 +1,4 @@
--- `walking::record::make_room` makes room for some elements in the place of one, and counts them.
+-- `make_room` makes room for some elements in the place of one, and counts them.
 use mathlib.Core.Path.{ap, _∙_}
 use lib.ListN.{set}
 use Rattle.lines.specs.Contracts.Layout.{reduced-place}

@@ -1,4 +1,4 @@
--- `walking::record::put_if_new` puts a byte. Where it stands already, the line with it put is the line.
+-- `put_if_new` puts a byte. Where it stands already, the line with it put is the line.
 use mathlib.Core.Path.{sym, ap, _∙_}
 use lib.ListN.{set}
 use lib.Seq.{set-getD}

@@ -1,4 +1,4 @@
--- `walking::record::shift` makes room for some pairs in the place of one: none, one, or more.
+-- `shift` makes room for some pairs in the place of one: none, one, or more.
 use mathlib.Core.Path.{refl}
 use borrow.Author.Needs.{needs}
 use Rattle.lines.proofs.Shifting.{shift-none, shift-left, shift-right}

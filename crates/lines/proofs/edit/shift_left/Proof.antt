@@ -1,4 +1,4 @@
--- `walking::record::shift_left` moves bytes to the left. The loop's invariant, `ShiftingLeft`: what is still to be moved gives the whole.
+-- `shift_left` moves bytes to the left. The loop's invariant, `ShiftingLeft`: what is still to be moved gives the whole.
 use Prim.Native.Nat.{_-_}
 use borrow.Author.Needs.{needs}
 use Rattle.lines.proofs.Shifting.{ShiftingLeft, left-start, left-next, left-done}

@@ -1,4 +1,4 @@
--- `walking::record::shift_right` moves bytes to the right. The loop's invariant, `ShiftingRight`: what is still to be moved gives the whole.
+-- `shift_right` moves bytes to the right. The loop's invariant, `ShiftingRight`: what is still to be moved gives the whole.
 use borrow.Author.Needs.{needs}
 use Rattle.lines.proofs.Shifting.{ShiftingRight, right-start, right-next, right-done}
 use Rattle.lines.proofs.edit.shift_right.Statement.{statement}

@@ -1,9 +1,9 @@
--- `walking::record::store` puts a line into the memory. The loop's invariant, `Storing`: the bytes passed stand there.
+-- `store` puts a line into the memory. The loop's invariant, `Storing`: the bytes passed stand there.
 use Prim.Native.Nat.{_-_}
 use native.Mathlib.Omega.{arith}
 use borrow.Author.Needs.{needs}
 use Rattle.lines.specs.Contracts.Layout.{line-bytes}
-use Rattle.lines.specs.Theory.Place.{Storing, storing-start, storing-next, storing-done, storing-length}
+use Rattle.lines.specs.Theory.Placed.{Storing, storing-start, storing-next, storing-done, storing-length}
 use Rattle.lines.proofs.edit.store.Statement.{statement}
 use Rattle.lines.proofs.edit.store.Tie as tie
 

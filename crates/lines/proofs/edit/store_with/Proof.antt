@@ -1,6 +1,6 @@
--- `walking::record::store_with` puts a line with two bytes changed into the memory: the line first, then the two bytes over it.
+-- `store_with` puts a line with two bytes changed into the memory: the line first, then the two bytes over it.
 use borrow.Author.Needs.{needs}
-use Rattle.lines.specs.Theory.Place.{placed-with}
+use Rattle.lines.specs.Theory.Placed.{placed-with}
 use Rattle.lines.proofs.edit.store_with.Statement.{statement}
 use Rattle.lines.proofs.edit.store_with.Tie as tie
 

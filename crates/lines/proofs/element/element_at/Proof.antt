@@ -3,8 +3,6 @@ use Rattle.lines.specs.Theory.Element.{element-greater, element-equal}
 use borrow.Author.Needs.{needs}
 use Rattle.lines.proofs.element.element_at.Statement.{statement}
 use Rattle.lines.proofs.element.element_at.Tie as tie
-use Rattle.lines.proofs.element.element_at.Reads as reads
-use Rattle.lines.proofs.element.element_at.Lts as lts
 
 -- src/element.rt:28:17
 shared-slice-read-first : tie.Need-shared-slice-read-first

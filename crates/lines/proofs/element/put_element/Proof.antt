@@ -4,19 +4,14 @@ use Rattle.lines.proofs.Writing.{equality-low, equality-put, inequality
 use borrow.Author.Needs.{needs}
 use Rattle.lines.proofs.element.put_element.Statement.{statement}
 use Rattle.lines.proofs.element.put_element.Tie as tie
-use Rattle.lines.proofs.element.put_element.Reads as reads
-use Rattle.lines.proofs.element.put_element.Lts as lts
-use Rattle.lines.proofs.edit.put.Reads as put-reads
 
 -- src/line.rt:81:25
 enum-known-relation : tie.Need-enum-known-relation
 enum-known-relation c = search needs
 
--- src/line.rt:81:34
 put-requires : tie.Need-put-requires
 put-requires c κs = search needs
 
--- src/line.rt:82:27
 enum-known-relation-2 : tie.Need-enum-known-relation-2
 enum-known-relation-2 c = search needs
 
@@ -26,26 +21,21 @@ add-put c =
     let r = c .before .before .relation2 .given in
     omega (arith, equality-low (start .args .bytes .now) (start .args .bytes .now) (start .args .at) (start .args .element) (r .0 .0) (r .0 .1 .0) (start .pre .0) (r .1) (start .pre .1))
 
--- src/line.rt:82:36
 put-requires-2 : tie.Need-put-requires-2
 put-requires-2 c κs = search needs
 
--- src/line.rt:75:1
 same-length : tie.Need-same-length
 same-length c = search needs
 
--- src/line.rt:75:1
 returns : tie.Need-returns
 returns c =
     let start = c .before .before .before .before .before .before .before .before in
     let r = c .before .before .before .before .before .relation .given in
     inequality-put (start .args .bytes .now) (c .before .before .put .last .0) (start .args .at) (start .args .element) (r .0 .0) (r .0 .1 .0) (start .pre .0) (r .1) (c .before .before .put .ensures)
 
--- src/line.rt:75:1
 same-length-2 : tie.Need-same-length-2
 same-length-2 c = search needs
 
--- src/line.rt:75:1
 returns-2 : tie.Need-returns-2
 returns-2 c =
     let start = c .before .before .before .before .before .before .before .before in

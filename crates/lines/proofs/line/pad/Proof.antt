@@ -1,4 +1,4 @@
--- `walking::line::pad` fills the rest of a line. The loop's invariant, `Padding`: the bytes passed are filled.
+-- `pad` fills the rest of a line. The loop's invariant, `Padding`: the bytes passed are filled.
 use Prim.Native.Nat.{_-_}
 use native.Mathlib.Omega.{arith}
 use Rattle.format.specs.Limits.{record-bytes}
@@ -6,8 +6,6 @@ use Rattle.lines.proofs.Writing.{Padding, padding-start, padding-length
 use borrow.Author.Needs.{needs}
 use Rattle.lines.proofs.line.pad.Statement.{statement}
 use Rattle.lines.proofs.line.pad.Tie as tie
-use Rattle.lines.proofs.line.pad.Reads as reads
-use Rattle.lines.proofs.line.pad.Lts as lts
 
 abbrev Inv-loop : tie.InvT-loop
 Inv-loop line₀ from i₀ line i = Padding from line₀ line i
@@ -23,7 +21,6 @@ loop-holds c = padding-start _ _ (c .pre .0) (c .pre .1)
 slice-write-line : tie.Need-slice-write-line Inv-loop μ-loop
 slice-write-line c = let p = c .before .loop .inv in omega (arith, padding-length p, p .whole)
 
--- src/line.rt:94:13
 add-i : tie.Need-add-i Inv-loop μ-loop
 add-i c = search needs
 
@@ -35,11 +32,9 @@ loop-less c = search needs
 loop-again : tie.Need-loop-again Inv-loop μ-loop
 loop-again c = padding-next (c .before .loop .inv) (c .loop-test .taken)
 
--- src/line.rt:87:1
 same-length : tie.Need-same-length Inv-loop μ-loop
 same-length c = padding-length (c .before .loop .inv)
 
--- src/line.rt:87:1
 returns : tie.Need-returns Inv-loop μ-loop
 returns c = padding-done (c .before .loop .inv) (c .loop-test .left)
 

@@ -5,8 +5,6 @@ use Rattle.lines.proofs.Rebinding.{Comparing, comparing-start, comparin
 use borrow.Author.Needs.{needs}
 use Rattle.lines.proofs.rebind.differ.Statement.{statement}
 use Rattle.lines.proofs.rebind.differ.Tie as tie
-use Rattle.lines.proofs.rebind.differ.Reads as reads
-use Rattle.lines.proofs.rebind.differ.Lts as lts
 
 abbrev Inv-loop : tie.InvT-loop
 Inv-loop a b i₀ i = Comparing a b i

@@ -5,12 +5,10 @@ use lib.ListN.{set, length-set}
 use native.Mathlib.Omega.{arith}
 use Rattle.format.specs.Limits.{variable-count}
 use Rattle.lines.specs.Contracts.Layout.{reduced-place}
-use Rattle.lines.specs.Theory.Place.{Storing, storing-start, storing-length, storing-next, storing-done}
+use Rattle.lines.specs.Theory.Placed.{Storing, storing-start, storing-length, storing-next, storing-done}
 use borrow.Author.Needs.{needs}
 use Rattle.lines.proofs.rebind.rebind.Statement.{statement}
 use Rattle.lines.proofs.rebind.rebind.Tie as tie
-use Rattle.lines.proofs.rebind.rebind.Reads as reads
-use Rattle.lines.proofs.rebind.rebind.Lts as lts
 
 abbrev Inv-loop : tie.InvT-loop
 Inv-loop memory₀ place bindings i₀ memory i = Storing variable-count bindings place memory₀ memory i

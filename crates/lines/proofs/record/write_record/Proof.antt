@@ -4,13 +4,11 @@ use lib.ListN.{length}
 use lib.Seq.{slice}
 use native.Mathlib.Omega.{arith}
 use Rattle.format.specs.Limits.{record-bytes}
-use Rattle.lines.specs.Theory.Place.{Storing, storing-length, storing-done}
-use Rattle.lines.proofs.Recording.{copied-part, recording-start, recording-next}
+use Rattle.lines.specs.Theory.Placed.{Storing, storing-length, storing-done}
+use Rattle.lines.proofs.Recording.{recording-start, recording-next}
 use borrow.Author.Needs.{needs}
 use Rattle.lines.proofs.record.write_record.Statement.{statement}
 use Rattle.lines.proofs.record.write_record.Tie as tie
-use Rattle.lines.proofs.record.write_record.Reads as reads
-use Rattle.lines.proofs.record.write_record.Lts as lts
 
 abbrev Inv-loop : tie.InvT-loop
 Inv-loop memory₀ from to i₀ memory i = (to ≤ from) × (from + record-bytes ≤ length memory₀) × Storing record-bytes (slice from (from + record-bytes) memory₀) to memory₀ memory i

@@ -4,7 +4,7 @@ use native.Mathlib.Omega.{arith}
 use borrow.Author.Needs.{needs}
 use lib.ListN.{length}
 use mathlib.Core.Path.{subst}
-use Rattle.scanning.specs.Contracts.Cursor.{LineRead}
+use Rattle.scanning.specs.Contracts.Digits.{LineRead}
 use Rattle.reading.proofs.Lines.{Passing, passing-start, line-broken, line-body, line-some, line-refused, line-next, no-equations, all-accepted, by-refused-at}
 use Rattle.reading.proofs.read.read_lines.Statement.{statement}
 use Rattle.reading.proofs.read.read_lines.Tie as tie
@@ -22,8 +22,9 @@ returns : tie.Need-returns Inv-loop μ-loop
 returns c =
     let ended = c .before .before .before in
     let loop = ended .before .before .loop in
+    let start = ended .before .before .before .before .before in
     by-refused-at _ _ _ (c .refused-at .ensures) (line-broken _ _ _ _ (loop .inv) (subst (LineRead _ _) (c .before .enum-told .given .1) (ended .line-end .ensures)))
-    (omega (arith, loop .inv .counted, ended .before .loop-test .taken, ended .before .before .before .before .before .pre .1))
+    (omega (arith, loop .inv .counted, ended .before .loop-test .taken, start .pre .1))
 
 read-frame-requires : tie.Need-read-frame-requires Inv-loop μ-loop
 read-frame-requires c κs =
@@ -37,9 +38,10 @@ returns-2 c =
     let frame = c .before .before .before .before in
     let ended = frame .before .before .before .before in
     let loop = ended .before .before .loop in
+    let start = ended .before .before .before .before .before in
     let line = subst (LineRead _ _) (frame .before .before .end .given .1) (ended .line-end .ensures) in
     by-refused-at _ _ _ (c .refused-at2 .ensures) (line-refused _ _ _ _ (loop .inv) _ line _ _ (frame .read-frame .ensures) (c .before .before .status .given .1))
-    (omega (arith, loop .inv .counted, ended .before .loop-test .taken, ended .before .before .before .before .before .pre .1))
+    (omega (arith, loop .inv .counted, ended .before .loop-test .taken, start .pre .1))
 
 loop-less : tie.Need-loop-less Inv-loop μ-loop
 loop-less c =

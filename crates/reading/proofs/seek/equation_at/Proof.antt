@@ -20,8 +20,9 @@ decode-requires c κs = let start = c .before .before .before .before .before in
 
 returns : tie.Need-returns
 returns c = λ q h.
-    let start = c .before .before .before .before .before .before .before .before in
-    c .before .before .decode .ensures _ (equation-spans _ _ _ (start .pre .0) (start .pre .1) _ _ (c .before .before .before .before .before .frame-at .ensures) q h)
+    let found = c .before .before .before .before .before in
+    let start = found .before .before .before in
+    c .before .before .decode .ensures _ (equation-spans _ _ _ (start .pre .0) (start .pre .1) _ _ (found .frame-at .ensures) q h)
 
 pub equation-at-spec : {M : Type 1} → statement M
 equation-at-spec = tie.close (tie.spec add-frame-at frame-at-requires add-decode decode-requires (λ c. search needs) returns)

@@ -1,7 +1,7 @@
 -- `reading::seek::frame_at` finds the digits of a line that is a frame: such a line is not broken.
 use mathlib.Core.Path.{subst}
 use borrow.Author.Needs.{needs}
-use Rattle.scanning.specs.Contracts.Cursor.{LineRead}
+use Rattle.scanning.specs.Contracts.Digits.{LineRead}
 use Rattle.reading.proofs.Seeking.{found-inside, found-spans, found-whole}
 use Rattle.reading.proofs.seek.frame_at.Statement.{statement}
 use Rattle.reading.proofs.seek.frame_at.Tie as tie

@@ -1,4 +1,4 @@
--- `reading::symbols::arities` reads the arities. The loop's invariant, `Filled`: those passed are known and low.
+-- `reading::symbols::arities` reads the arities. The loop's invariant, `AritiesFilled`: those passed are known and low.
 
 use Prim.Native.Nat.{_-_}
 use mathlib.Core.Path.{refl, _∙_}
@@ -6,12 +6,12 @@ use native.Mathlib.Omega.{arith}
 use borrow.Author.Needs.{needs}
 use Rattle.reading.specs.Contracts.Symbols.{ArityBytes}
 use Rattle.reading.proofs.Refused.{by-refused}
-use Rattle.reading.proofs.Arities.{Filled, filled-start, filled-next, too-high, with-constant, without-constant}
+use Rattle.reading.proofs.Arities.{AritiesFilled, filled-start, filled-next, too-high, with-constant, without-constant}
 use Rattle.reading.proofs.symbols.arities.Statement.{statement}
 use Rattle.reading.proofs.symbols.arities.Tie as tie
 
 abbrev Inv-loop : tie.InvT-loop
-Inv-loop s from n known₀ i₀ known i = Filled s from n known i
+Inv-loop s from n known₀ i₀ known i = AritiesFilled s from n known i
 
 abbrev μ-loop : tie.MeasureT-loop
 μ-loop s from n known₀ i₀ known i = n - i
@@ -37,7 +37,7 @@ cast-known : tie.Need-cast-known Inv-loop μ-loop
 cast-known c = omega arith
 
 element-write-known : tie.Need-element-write-known Inv-loop μ-loop
-element-write-known c = omega (arith, c .before .before .before .before .before .before .pre .few-symbols)
+element-write-known c = let start = c .before .before .before .before .before .before in omega (arith, start .pre .few-symbols)
 
 loop-again : tie.Need-loop-again Inv-loop μ-loop
 loop-again c = let start = c .before .before .before .before .before .before in filled-next _ _ _ (start .pre) _ _ _ (c .before .before .before .loop .inv) (c .before .before .loop-test .taken) (c .before .byte-at .ensures) (c .if1 .left)
@@ -50,9 +50,10 @@ returns-2 c = let start = c .before .before .before .before .before .before in w
 
 returns-3 : tie.Need-returns-3 Inv-loop μ-loop
 returns-3 c =
-    let start = c .before .before .before .before .before .before .before .before in
+    let done = c .before .before .before .before in
+    let start = done .before .before .before .before in
     by-refused (ArityBytes _ _) (c .refused2 .ensures)
-    (without-constant _ _ _ (start .pre) _ _ (c .before .before .before .before .before .loop .inv) (c .before .before .before .before .loop-test .left) (c .before .before .before .has-constant .ensures ∙ c .before .before .if2 .left), refl)
+    (without-constant _ _ _ (start .pre) _ _ (done .before .loop .inv) (done .loop-test .left) (c .before .before .before .has-constant .ensures ∙ c .before .before .if2 .left), refl)
 
 pub arities-spec : {M : Type 1} → statement M
 arities-spec =

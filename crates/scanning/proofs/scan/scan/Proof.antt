@@ -1,10 +1,9 @@
 -- `scanning::scan::scan` is the definition's `scan`. The loop's invariant, `Scanning`: what is left to read decides, and the numbers stay small.
 
-use mathlib.Core.Path.{subst}
 use native.Mathlib.Omega.{arith}
 use borrow.Author.Needs.{needs}
 use Rattle.scanning.specs.Contracts.Scan.{listed}
-use Rattle.scanning.proofs.Scanning.{Scanning, scanning-start, stop-done, stop-early, stop-full, stop-refused, next-small, next-inside, scanning-next, scanning-declared, told-after, told-width}
+use Rattle.scanning.proofs.Scanning.{Scanning, scanning-start, stop-done, stop-early, stop-full, stop-other, next-small, next-inside, scanning-variable, scanning-declared}
 use Rattle.scanning.proofs.scan.scan.Statement.{statement}
 use Rattle.scanning.proofs.scan.scan.Tie as tie
 
@@ -36,52 +35,49 @@ byte-at-requires c κs =
 add-at : tie.Need-add-at Inv-loop μ-loop
 add-at c =
     let read = c .before .before in
-    let loop = read .before .before .before .before .loop in
+    let round = read .before .before .before in
+    let loop = round .before .loop in
     omega (arith, next-inside _ _ _ _ (loop .at) (loop .need) (loop .room) (loop .widest) (loop .inv) (read .before .before .if1 .left))
 
 loop-again : tie.Need-loop-again Inv-loop μ-loop
 loop-again c =
     let read = c .before .before in
-    let loop = read .before .before .before .before .loop in
-    scanning-declared _ _ _ _ _ (loop .at) (loop .need) (loop .room) (loop .widest) (loop .inv) (read .before .before .if1 .left) (read .before .before .before .loop-test .taken) (read .before .if2 .left)
-    (read .before .before .before .before .before .before .before .pre .few-symbols) (read .byte-at .ensures) (c .before .if3 .taken) (c .wide .ensures .0) (c .wide .ensures .1)
+    let round = read .before .before .before in
+    let loop = round .before .loop in
+    scanning-declared _ _ _ _ _ (loop .at) (loop .need) (loop .room) (loop .widest) (loop .inv) (read .before .before .if1 .left) (round .loop-test .taken) (read .before .if2 .left)
+    (round .before .before .before .before .pre .few-symbols) (read .byte-at .ensures) (c .before .if3 .taken) (c .wide .ensures .0) (c .wide .ensures .1)
 
-cast-classify : tie.Need-cast-classify Inv-loop μ-loop
-cast-classify c =
+cast-other-node : tie.Need-cast-other-node Inv-loop μ-loop
+cast-other-node c =
     let read = c .before in
-    let loop = read .before .before .before .before .loop in
+    let round = read .before .before .before in
+    let loop = round .before .loop in
     omega (arith, read .byte-at .ensures, next-small _ _ _ _ (loop .at) (loop .need) (loop .room) (loop .widest) (loop .inv) (read .before .before .if1 .left))
-
-terms-after-requires : tie.Need-terms-after-requires Inv-loop μ-loop
-terms-after-requires c κs =
-    let read = c .before .before .before in
-    omega (arith, read .before .before .before .before .loop .inv .few, read .before .before .before .before .before .before .before .pre .few-symbols)
 
 returns-3 : tie.Need-returns-3 Inv-loop μ-loop
 returns-3 c =
     let call = c .before .before .before in
-    let read = call .before .before .before .before in
-    let loop = read .before .before .before .before .loop in
-    stop-refused _ _ _ _ (loop .at) (loop .need) (loop .room) (loop .widest) (loop .inv) (read .before .before .if1 .left) (read .before .before .before .loop-test .taken)
-    (read .before .if2 .left) _ (told-after _ _ _ (read .byte-at .ensures) (call .before .before .classify .ensures) (call .terms-after .ensures .0) (c .before .r .given .1))
+    let read = call .before .before in
+    let round = read .before .before .before in
+    let loop = round .before .loop in
+    stop-other _ _ _ _ _ (loop .at) (loop .need) (loop .room) (loop .widest) (loop .inv) (read .before .before .if1 .left) (round .loop-test .taken) (read .before .if2 .left)
+    (read .byte-at .ensures) (call .before .if3 .left) (call .other-node .result) (call .other-node .ensures) (c .before .r .given .1)
 
 add-at-2 : tie.Need-add-at-2 Inv-loop μ-loop
 add-at-2 c =
-    let read = c .before .before .before .before .before .before .before in
-    let loop = read .before .before .before .before .loop in
+    let read = c .before .before .before .before .before in
+    let round = read .before .before .before in
+    let loop = round .before .loop in
     omega (arith, next-inside _ _ _ _ (loop .at) (loop .need) (loop .room) (loop .widest) (loop .inv) (read .before .before .if1 .left))
 
 loop-again-2 : tie.Need-loop-again-2 Inv-loop μ-loop
 loop-again-2 c =
-    let call = c .before .before .before .before .before in
-    let read = call .before .before .before .before in
-    let loop = read .before .before .before .before .loop in
-    let n = c .before .before .before .n .given in
-    let most = subst (Rattle.scanning.specs.Contracts.Scan.NeedAtMost _) (n .1) (call .terms-after .ensures .1) in
-    let next =
-    scanning-next _ _ _ _ (loop .at) (loop .need) (loop .room) (loop .widest) (loop .inv) (read .before .before .if1 .left) (read .before .before .before .loop-test .taken)
-    (read .before .if2 .left) (n .0 .0) (told-after _ _ _ (read .byte-at .ensures) (call .before .before .classify .ensures) (call .terms-after .ensures .0) (n .1)) most in
-    subst (Scanning _ _ _ _ _ _ _) (told-width (loop .widest) (read .byte-at .ensures) (call .before .before .classify .ensures) (c .before .node-width .ensures) (c .greater .ensures)) next
+    let call = c .before .before .before .before in
+    let read = call .before .before in
+    let round = read .before .before .before in
+    let loop = round .before .loop in
+    scanning-variable _ _ _ _ _ (loop .at) (loop .need) (loop .room) (loop .widest) (loop .inv) (read .before .before .if1 .left) (round .loop-test .taken) (read .before .if2 .left)
+    (read .byte-at .ensures) (call .before .if3 .left) (call .other-node .result) (call .other-node .ensures) (c .before .before .w .given .1) (c .greater .ensures)
 
 returns-4 : tie.Need-returns-4 Inv-loop μ-loop
 returns-4 c =
@@ -106,16 +102,14 @@ scan-spec =
     add-at
     (λ c. search needs)
     loop-again
-    cast-classify
+    cast-other-node
     (λ c κs. search needs)
-    (λ c. search needs)
-    terms-after-requires
     (λ c. search needs)
     returns-3
     (λ c. search needs)
     (λ c. search needs)
+    (λ c. search needs)
     add-at-2
-    (λ c κs. search needs)
     (λ c κs. search needs)
     (λ c. search needs)
     loop-again-2

@@ -1,8 +1,8 @@
 -- `scanning::text::block_digits` tells a block of digits. The loop's invariant, `Tested`: what is tested are digits, if `all` says so.
 use Prim.Native.Nat.{_-_}
 use borrow.Author.Needs.{needs}
-use Rattle.scanning.specs.Contracts.Cursor.{block}
-use Rattle.scanning.proofs.Cursor.{Tested, tested-start, tested-next, tested-all}
+use Rattle.scanning.specs.Contracts.Digits.{block}
+use Rattle.scanning.proofs.Digits.{Tested, tested-start, tested-next, tested-all}
 use Rattle.scanning.proofs.text.block_digits.Statement.{statement}
 use Rattle.scanning.proofs.text.block_digits.Tie as tie
 
@@ -17,8 +17,8 @@ loop-holds c = tested-start _ _
 
 loop-again : tie.Need-loop-again Inv-loop μ-loop
 loop-again c =
-    let loop = c .before .before .before .before .loop in
-    tested-next _ _ _ _ _ _ (loop .inv) (c .before .before .before .before .before .before .pre) (c .before .before .before .loop-test .taken) (c .before .is-digit .ensures) (c .both .ensures)
+    let round = c .before .before .before in
+    tested-next _ _ _ _ _ _ (round .before .loop .inv) (round .before .before .before .pre) (round .loop-test .taken) (c .before .is-digit .ensures) (c .both .ensures)
 
 returns : tie.Need-returns Inv-loop μ-loop
 returns c = tested-all _ _ _ _ (c .before .loop .inv) (c .loop-test .left)

@@ -2,8 +2,8 @@
 use Prim.Native.Nat.{_-_}
 use borrow.Author.Needs.{needs}
 use lib.ListN.{length}
-use Rattle.scanning.specs.Contracts.Cursor.{DigitsTo}
-use Rattle.scanning.proofs.Cursor.{digits-to-start, digits-to-block}
+use Rattle.scanning.specs.Contracts.Digits.{DigitsTo}
+use Rattle.scanning.proofs.Digits.{digits-to-start, digits-to-block}
 use Rattle.scanning.proofs.text.blocks_end.Statement.{statement}
 use Rattle.scanning.proofs.text.blocks_end.Tie as tie
 

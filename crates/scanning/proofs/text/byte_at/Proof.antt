@@ -3,12 +3,12 @@ use Prim.Native.Nat.{_+_}
 use native.Mathlib.Omega.{arith}
 use borrow.Author.Needs.{needs}
 use lib.ListN.{getD}
-use Rattle.scanning.proofs.Cursor.{number-most}
+use Rattle.scanning.proofs.Digits.{number-most}
 use Rattle.scanning.proofs.text.byte_at.Statement.{statement}
 use Rattle.scanning.proofs.text.byte_at.Tie as tie
 
 mul-result : tie.Need-mul-result
-mul-result c = omega (arith, number-most (getD (c .before .before .before .before .before .args .s .now) (c .before .before .before .before .before .args .at) 0))
+mul-result c = let start = c .before .before .before .before .before in omega (arith, number-most (getD (start .args .s .now) (start .args .at) 0))
 
 add-result : tie.Need-add-result
 add-result c =

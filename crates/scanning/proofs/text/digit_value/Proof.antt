@@ -2,7 +2,7 @@
 use mathlib.Core.Path.{sym}
 use native.Mathlib.Omega.{arith}
 use borrow.Author.Needs.{needs}
-use Rattle.scanning.proofs.Cursor.{digit-decimal, digit-letter, digit-low, digit-between, digit-high, number-some, number-none}
+use Rattle.scanning.proofs.Digits.{digit-decimal, digit-letter, digit-low, digit-between, digit-high, number-some, number-none}
 use Rattle.scanning.proofs.text.digit_value.Statement.{statement}
 use Rattle.scanning.proofs.text.digit_value.Tie as tie
 

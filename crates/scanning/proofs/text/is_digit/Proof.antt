@@ -1,6 +1,6 @@
 -- `scanning::text::is_digit` tells the digits, by the differences to the first of each range.
 use borrow.Author.Needs.{needs}
-use Rattle.scanning.proofs.Cursor.{decimal-told, letter-told}
+use Rattle.scanning.proofs.Digits.{decimal-told, letter-told}
 use Rattle.scanning.proofs.text.is_digit.Statement.{statement}
 use Rattle.scanning.proofs.text.is_digit.Tie as tie
 

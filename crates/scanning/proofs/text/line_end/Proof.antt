@@ -3,8 +3,8 @@ use Prim.Native.Nat.{_-_}
 use native.Mathlib.Omega.{arith}
 use borrow.Author.Needs.{needs}
 use lib.ListN.{length}
-use Rattle.scanning.specs.Contracts.Cursor.{DigitsTo}
-use Rattle.scanning.proofs.Cursor.{digits-to-next, digits-to-ended, digits-to-other, digits-to-long, digits-to-unended, digit-no-end}
+use Rattle.scanning.specs.Contracts.Digits.{DigitsTo}
+use Rattle.scanning.proofs.Digits.{digits-to-next, digits-to-ended, digits-to-other, digits-to-long, digits-to-unended, digit-no-end}
 use Rattle.scanning.proofs.text.line_end.Statement.{statement}
 use Rattle.scanning.proofs.text.line_end.Tie as tie
 
@@ -19,23 +19,23 @@ loop-holds c = c .blocks-end .ensures
 
 returns : tie.Need-returns Inv-loop μ-loop
 returns c =
-    let loop = c .before .before .before .before .before .before .loop in
-    digits-to-ended _ _ _ (loop .inv) (c .before .before .before .before .before .loop-test .taken) (c .before .if2 .taken) (c .ended-at .result) (c .ended-at .ensures)
+    let round = c .before .before .before .before .before in
+    digits-to-ended _ _ _ (round .before .loop .inv) (round .loop-test .taken) (c .before .if2 .taken) (c .ended-at .result) (c .ended-at .ensures)
 
 returns-2 : tie.Need-returns-2 Inv-loop μ-loop
 returns-2 c =
-    let loop = c .before .before .before .before .before .loop in
-    digits-to-other _ _ _ (loop .inv) (c .before .before .before .before .loop-test .taken) (c .if2 .left) (omega (arith, c .before .before .digit-value .ensures, c .before .if1 .taken))
+    let round = c .before .before .before .before in
+    digits-to-other _ _ _ (round .before .loop .inv) (round .loop-test .taken) (c .if2 .left) (omega (arith, c .before .before .digit-value .ensures, c .before .if1 .taken))
 
 returns-3 : tie.Need-returns-3 Inv-loop μ-loop
 returns-3 c =
-    let loop = c .before .before .before .before .before .loop in
-    digits-to-long _ _ _ (loop .inv) (c .before .before .before .before .loop-test .taken) (digit-no-end _ (omega (arith, c .before .before .digit-value .ensures, c .before .if1 .left))) (c .if3 .taken)
+    let round = c .before .before .before .before in
+    digits-to-long _ _ _ (round .before .loop .inv) (round .loop-test .taken) (digit-no-end _ (omega (arith, c .before .before .digit-value .ensures, c .before .if1 .left))) (c .if3 .taken)
 
 loop-again : tie.Need-loop-again Inv-loop μ-loop
 loop-again c =
-    let loop = c .before .before .before .before .before .loop in
-    digits-to-next _ _ _ (loop .inv) (c .before .before .before .before .loop-test .taken) (omega (arith, c .before .before .digit-value .ensures, c .before .if1 .left)) (c .if3 .left)
+    let round = c .before .before .before .before in
+    digits-to-next _ _ _ (round .before .loop .inv) (round .loop-test .taken) (omega (arith, c .before .before .digit-value .ensures, c .before .if1 .left)) (c .if3 .left)
 
 returns-4 : tie.Need-returns-4 Inv-loop μ-loop
 returns-4 c = digits-to-unended _ _ _ (c .before .loop .inv) (c .loop-test .left) (c .before .before .before .before .pre)

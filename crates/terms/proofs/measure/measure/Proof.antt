@@ -2,12 +2,12 @@
 use mathlib.Core.Path.{_≡_}
 use native.Mathlib.Omega.{arith}
 use borrow.Author.Needs.{needs}
-use Rattle.terms.proofs.Filled.{Filled, filled-none, filled-same-length, first-asks, filled-more}
+use Rattle.terms.proofs.Filled.{SizesFilled, filled-none, filled-same-length, first-asks, filled-more}
 use Rattle.terms.proofs.measure.measure.Statement.{statement}
 use Rattle.terms.proofs.measure.measure.Tie as tie
 
 abbrev Inv-loop : tie.InvT-loop
-Inv-loop nodes arities before from end i₀ sizes i = Filled arities nodes before from end sizes i
+Inv-loop nodes arities before from end i₀ sizes i = SizesFilled arities nodes before from end sizes i
 
 abbrev μ-loop : tie.MeasureT-loop
 μ-loop nodes arities before from end i₀ sizes i = i
@@ -22,16 +22,25 @@ part-first-size-end-2 c =
 
 first-size-requires : tie.Need-first-size-requires Inv-loop μ-loop
 first-size-requires c κs =
-    let q = first-asks (c .before .before .before .before .before .before .before .before .pre) (c .before .before .before .before .loop .inv) (c .before .before .before .loop-test .taken) in
+    let start = c .before .before .before .before .before .before .before .before in
+    let loop = c .before .before .before .before .loop in
+    let q = first-asks (start .pre) (loop .inv) (c .before .before .before .loop-test .taken) in
     (q .0, (q .1, q .2))
 
 slice-write-sizes : tie.Need-slice-write-sizes Inv-loop μ-loop
 slice-write-sizes c =
-    let f = c .before .before .before .before .before .loop .inv in
-    omega (arith, f .high, filled-same-length (c .before .before .before .before .before .before .before .before .before .pre) f, c .before .before .before .before .before .before .before .before .before .pre .sizes-room, c .before .before .before .before .loop-test .taken)
+    let loop = c .before .before .before .before .before .loop in
+    let start = c .before .before .before .before .before .before .before .before .before in
+    let loop-test = c .before .before .before .before .loop-test in
+    let f = loop .inv in
+    omega (arith, f .high, filled-same-length (start .pre) f, start .pre .sizes-room, loop-test .taken)
 
 loop-again : tie.Need-loop-again Inv-loop μ-loop
-loop-again c = filled-more (c .before .before .before .before .before .before .before .before .before .pre) (c .before .before .before .before .before .loop .inv) (c .before .before .before .before .loop-test .taken) (c .first-size .ensures)
+loop-again c =
+    let start = c .before .before .before .before .before .before .before .before .before in
+    let loop = c .before .before .before .before .before .loop in
+    let loop-test = c .before .before .before .before .loop-test in
+    filled-more (start .pre) (loop .inv) (loop-test .taken) (c .first-size .ensures)
 
 same-length : tie.Need-same-length Inv-loop μ-loop
 same-length c = filled-same-length (c .before .before .before .before .before .pre) (c .before .loop .inv)

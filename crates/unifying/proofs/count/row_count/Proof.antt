@@ -1,4 +1,4 @@
--- `walking::count::row_count` counts the terms of a row. The loop's invariant, `Counting`: those passed are counted.
+-- `row_count` counts the terms of a row. The loop's invariant, `Counting`: those passed are counted.
 use Prim.Native.Nat.{_-_}
 use native.Mathlib.Omega.{arith}
 use Rattle.unifying.proofs.Rows.{Counting, counting-start, counting-size, counting-next, counting-done}

@@ -1,4 +1,4 @@
--- `walking::occurs::first_met` meets its contract. The loop's invariant: no variable below `w` is still to be looked through.
+-- `first_met` meets its contract. The loop's invariant: no variable below `w` is still to be looked through.
 use Prim.Native.Nat.{ℕ, _-_, _≤_, _<_}
 use mathlib.Core.Path.{_≡_}
 use borrow.Author.Count.{below-more}

@@ -1,4 +1,4 @@
--- `walking::occurs::occurs_at` meets its contract. The loop's invariant is `Search`; the marks rise with each turn, so that their `weight` falls.
+-- `occurs_at` meets its contract. The loop's invariant is `Search`; the marks rise with each turn, so that their `weight` falls.
 use Prim.Native.Nat.{_<_}
 use borrow.Author.Needs.{needs}
 use native.Mathlib.Omega.{arith}

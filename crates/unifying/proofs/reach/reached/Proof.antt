@@ -26,12 +26,17 @@ wide-requires : tie.Need-wide-requires Inv-loop μ-loop
 wide-requires c κs = search needs
 
 shared-slice-read-next : tie.Need-shared-slice-read-next Inv-loop μ-loop
-shared-slice-read-next c = let f = c .before .before .before .before .before .loop .inv in omega (arith, slot-there (c .before .before .before .before .before .before .before .before .before .pre .0) (f .within) (c .before .before .if1 .left), c .before .wide .ensures .0)
+shared-slice-read-next c =
+    let loop = c .before .before .before .before .before .loop in
+    let start = c .before .before .before .before .before .before .before .before .before in
+    let f = loop .inv in omega (arith, slot-there (start .pre .0) (f .within) (c .before .before .if1 .left), c .before .wide .ensures .0)
 
 returns-2 : tie.Need-returns-2 Inv-loop μ-loop
 returns-2 c =
-    let f = c .before .before .before .before .before .before .loop .inv in
-    let s = slot-there (c .before .before .before .before .before .before .before .before .before .before .pre .0) (f .within) (c .before .before .before .if1 .left) in
+    let loop = c .before .before .before .before .before .before .loop in
+    let start = c .before .before .before .before .before .before .before .before .before .before in
+    let f = loop .inv in
+    let s = slot-there (start .pre .0) (f .within) (c .before .before .before .if1 .left) in
     (reached-free (c .before .before .wide .result) f (c .before .before .before .if1 .left) (c .before .before .wide .ensures .0) (omega (arith, s, c .before .before .wide .ensures .0)) (c .if2 .taken), f .within)
 
 wide-requires-2 : tie.Need-wide-requires-2 Inv-loop μ-loop
@@ -45,10 +50,14 @@ loop-less c = search needs
 
 loop-again : tie.Need-loop-again Inv-loop μ-loop
 loop-again c =
-    let f = c .before .before .before .before .before .before .before .loop .inv in
-    let s = slot-there (c .before .before .before .before .before .before .before .before .before .before .before .pre .0) (f .within) (c .before .before .before .before .if1 .left) in
+    let loop = c .before .before .before .before .before .before .before .loop in
+    let start = c .before .before .before .before .before .before .before .before .before .before .before in
+    let if1 = c .before .before .before .before .if1 in
+    let loop-test = c .before .before .before .before .before .before .loop-test in
+    let f = loop .inv in
+    let s = slot-there (start .pre .0) (f .within) (if1 .left) in
     let q = c .wide2 .result in
-    following-on (c .before .before .before .wide .result) q _ (c .before .before .before .before .before .before .before .before .before .before .before .pre .0) f (omega (arith, c .before .before .before .before .before .before .loop-test .taken)) (c .before .before .before .before .if1 .left) (c .before .before .before .wide .ensures .0)
+    following-on (c .before .before .before .wide .result) q _ (start .pre .0) f (omega (arith, loop-test .taken)) (if1 .left) (c .before .before .before .wide .ensures .0)
     (omega (arith, s, c .before .before .before .wide .ensures .0)) (c .wide2 .ensures .0) (not-unbound (c .wide2 .ensures .0) (c .wide2 .ensures .1) (c .before .if2 .left))
 
 returns-3 : tie.Need-returns-3 Inv-loop μ-loop

@@ -1,4 +1,4 @@
--- `walking::unifier::unify_positions` meets its contract. The loop's invariant, `Fronting`: the bindings passed are copied.
+-- `unify_positions` meets its contract. The loop's invariant, `Fronting`: the bindings passed are copied.
 use Prim.Native.Nat.{_-_}
 use mathlib.Core.Path.{refl, sym}
 use native.Mathlib.Omega.{arith}
@@ -16,15 +16,12 @@ Inv-loop nodes sizes bindings p q own₀ i₀ own i = Fronting variable-count bi
 abbrev μ-loop : tie.MeasureT-loop
 μ-loop nodes sizes bindings p q own₀ i₀ own i = variable-count - i
 
--- src/unifier.rt:27:5
 loop-holds : tie.Need-loop-holds Inv-loop μ-loop
 loop-holds c = fronting-start _ _ _ (readable-slots (c .before .before .before .pre .0)) (omega arith)
 
--- src/unifier.rt:28:18
 shared-slice-read-own : tie.Need-shared-slice-read-own Inv-loop μ-loop
 shared-slice-read-own c = search needs
 
--- src/unifier.rt:28:9
 array-write-own : tie.Need-array-write-own Inv-loop μ-loop
 array-write-own c = search needs
 
@@ -32,25 +29,20 @@ array-write-own c = search needs
 add-i : tie.Need-add-i Inv-loop μ-loop
 add-i c = search needs
 
--- src/unifier.rt:27:5
 loop-less : tie.Need-loop-less Inv-loop μ-loop
 loop-less c = search needs
 
--- src/unifier.rt:27:5
 loop-again : tie.Need-loop-again Inv-loop μ-loop
 loop-again c = fronting-next (c .before .before .loop .inv) (c .before .loop-test .taken)
 
--- src/unifier.rt:30:44
 slice-aggregate-unify-terms : tie.Need-slice-aggregate-unify-terms Inv-loop μ-loop
 slice-aggregate-unify-terms c = sym (fronting-length (c .before .before .loop .inv))
 
--- src/unifier.rt:30:9
 unify-terms-requires : tie.Need-unify-terms-requires Inv-loop μ-loop
 unify-terms-requires c κs =
     let start = c .before .before .before .before .before .before in
     ((rw (fronting-whole (c .before .before .loop .inv) (c .before .loop-test .left) refl) (start .pre .0)), start .pre .1)
 
--- src/unifier.rt:21:1
 returns : tie.Need-returns Inv-loop μ-loop
 returns c =
     let loop = c .before .before .before .before .loop in

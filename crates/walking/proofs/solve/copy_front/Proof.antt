@@ -8,8 +8,6 @@ use Rattle.unifying.specs.Theory.Front.{Fronting, fronting-start, fronting-leng
 use Rattle.walking.proofs.Begin.{front-next, front-done}
 use Rattle.walking.proofs.solve.copy_front.Statement.{statement}
 use Rattle.walking.proofs.solve.copy_front.Tie as tie
-use Rattle.walking.proofs.solve.copy_front.Reads as reads
-use Rattle.walking.proofs.solve.copy_front.Lts as lts
 
 abbrev Inv-loop : tie.InvT-loop
 Inv-loop from to₀ n i₀ to i = Fronting n (take n from) to₀ to i
@@ -17,15 +15,12 @@ Inv-loop from to₀ n i₀ to i = Fronting n (take n from) to₀ to i
 abbrev μ-loop : tie.MeasureT-loop
 μ-loop from to₀ n i₀ to i = n - i
 
--- src/solve.rt:88:5
 loop-holds : tie.Need-loop-holds Inv-loop μ-loop
 loop-holds c = fronting-start (c .args .n) (take (c .args .n) (c .args .from .now)) (c .args .to .now) (length-take-le (c .args .n) (c .args .from .now) (c .pre .0)) (c .pre .1)
 
--- src/solve.rt:89:17
 shared-slice-read-to : tie.Need-shared-slice-read-to Inv-loop μ-loop
 shared-slice-read-to c = search needs
 
--- src/solve.rt:89:9
 slice-write-to : tie.Need-slice-write-to Inv-loop μ-loop
 slice-write-to c = let f = c .before .before .loop .inv in omega (arith, fronting-length f, f .room, c .before .loop-test .taken)
 
@@ -33,19 +28,15 @@ slice-write-to c = let f = c .before .before .loop .inv in omega (arith, frontin
 add-i : tie.Need-add-i Inv-loop μ-loop
 add-i c = search needs
 
--- src/solve.rt:88:5
 loop-less : tie.Need-loop-less Inv-loop μ-loop
 loop-less c = search needs
 
--- src/solve.rt:88:5
 loop-again : tie.Need-loop-again Inv-loop μ-loop
 loop-again c = let a = c .before .before .before in front-next (a .args .n) (c .before .before .loop .i) (a .args .from .now) (a .args .to .now) (c .before .before .loop .to) (c .before .before .loop .inv) (c .before .loop-test .taken)
 
--- src/solve.rt:83:1
 same-length : tie.Need-same-length Inv-loop μ-loop
 same-length c = fronting-length (c .before .loop .inv)
 
--- src/solve.rt:83:1
 returns : tie.Need-returns Inv-loop μ-loop
 returns c = let a = c .before .before in front-done (a .args .n) (c .before .loop .i) (a .args .from .now) (a .args .to .now) (c .before .loop .to) (c .before .loop .inv) (c .loop-test .left)
 

@@ -4,63 +4,50 @@ use native.Mathlib.Omega.{arith}
 use denote.Enum.Declared.{tagOf}
 use Rattle.walking.proofs.walk.Progress.{the-type}
 use Rattle.walking.specs.Contracts.Walking.{left-to-do}
-use Rattle.walking.proofs.Begin.{Coming, coming-start, coming-on, coming-falls, coming-refused, coming-ends}
+use Rattle.walking.proofs.Begin.{Underway, underway-start, underway-on, underway-falls, underway-refused, underway-ends}
 use borrow.Author.Needs.{needs}
 use Rattle.walking.proofs.solve.go_on.Statement.{statement}
 use Rattle.walking.proofs.solve.go_on.Tie as tie
-use Rattle.walking.proofs.solve.go_on.Reads as reads
-use Rattle.walking.proofs.solve.go_on.Lts as lts
-use Rattle.walking.proofs.walk.Walk.turn.Reads as turn-reads
-use Rattle.walking.proofs.walk.going.Reads as going-reads
 
 abbrev Inv-loop : tie.InvT-loop
-Inv-loop nodes sizes memory₀ cursor₀ memory cursor = Coming nodes sizes memory cursor₀ cursor
+Inv-loop nodes sizes memory₀ cursor₀ memory cursor = Underway nodes sizes memory cursor₀ cursor
 
 abbrev μ-loop : tie.MeasureT-loop
 μ-loop nodes sizes memory₀ cursor₀ memory cursor = left-to-do cursor
 
--- src/solve.rt:71:5
 loop-holds : tie.Need-loop-holds Inv-loop μ-loop
-loop-holds c = coming-start (c .before .before .before .args .walk) (c .before .before .before .pre)
+loop-holds c = underway-start (c .before .before .before .args .walk) (c .before .before .before .pre)
 
--- src/solve.rt:72:13
 turn-requires : tie.Need-turn-requires Inv-loop μ-loop
 turn-requires c κs = (c .before .before .before .loop .inv .walking, c .before .if1 .taken)
 
 enum-told : tie.Need-enum-told Inv-loop μ-loop
 enum-told c = search needs
 
--- src/solve.rt:75:13
 enum-told-2 : tie.Need-enum-told-2 Inv-loop μ-loop
 enum-told-2 c = search needs
 
--- src/solve.rt:75:13
 same-length : tie.Need-same-length Inv-loop μ-loop
 same-length c = c .before .before .before .before .turn .kept .1 .1 .1 .0 ∙ (c .before .before .before .before .before .before .before .before .loop .inv .walking .holds .length-is ∙ sym (c .before .before .before .before .before .before .before .before .before .before .before .before .pre .holds .length-is))
 
--- src/solve.rt:75:13
 returns : tie.Need-returns Inv-loop μ-loop
-returns c = coming-refused (c .before .before .before .before .before .before .before .before .loop .inv) (c .before .before .before .before .turn .result) (c .before .before .before .before .turn .ensures) (λ z. omega (arith, c .before .match .keys2, ap (tagOf the-type) z))
+returns c = underway-refused (c .before .before .before .before .before .before .before .before .loop .inv) (c .before .before .before .before .turn .result) (c .before .before .before .before .turn .ensures) (λ z. omega (arith, c .before .match .keys2, ap (tagOf the-type) z))
 
--- src/solve.rt:71:5
 loop-less : tie.Need-loop-less Inv-loop μ-loop
-loop-less c = coming-falls (c .before .before .before .before .before .turn .result) (c .before .before .before .before .before .turn .ensures) (c .before .enum-told .given .1)
+loop-less c = underway-falls (c .before .before .before .before .before .turn .result) (c .before .before .before .before .before .turn .ensures) (c .before .enum-told .given .1)
 
--- src/solve.rt:71:5
 loop-again : tie.Need-loop-again Inv-loop μ-loop
-loop-again c = coming-on (c .before .before .before .before .before .before .before .before .before .loop .inv) (c .before .before .before .before .before .turn .result) (c .before .before .before .before .before .turn .ensures) (c .before .enum-told .given .1)
+loop-again c = underway-on (c .before .before .before .before .before .before .before .before .before .loop .inv) (c .before .before .before .before .before .turn .result) (c .before .before .before .before .before .turn .ensures) (c .before .enum-told .given .1)
 
 -- src/solve.rt:79:5
 going-requires : tie.Need-going-requires Inv-loop μ-loop
 going-requires c κs = search needs
 
--- src/solve.rt:66:1
 same-length-2 : tie.Need-same-length-2 Inv-loop μ-loop
 same-length-2 c = c .before .before .before .loop .inv .walking .holds .length-is ∙ sym (c .before .before .before .before .before .before .before .pre .holds .length-is)
 
--- src/solve.rt:66:1
 returns-2 : tie.Need-returns-2 Inv-loop μ-loop
-returns-2 c = rw (c .going .ensures) (coming-ends (c .before .before .before .loop .inv) (c .before .if1 .left))
+returns-2 c = rw (c .going .ensures) (underway-ends (c .before .before .before .loop .inv) (c .before .if1 .left))
 
 pub go-on-spec : {M : Type 1} → statement M
 go-on-spec =

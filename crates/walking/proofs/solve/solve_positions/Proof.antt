@@ -4,25 +4,16 @@ use Rattle.walking.proofs.Begin.{places-within, solved-tells, refused-t
 use borrow.Author.Needs.{needs}
 use Rattle.walking.proofs.solve.solve_positions.Statement.{statement}
 use Rattle.walking.proofs.solve.solve_positions.Tie as tie
-use Rattle.walking.proofs.solve.solve_positions.Reads as reads
-use Rattle.walking.proofs.solve.solve_positions.Lts as lts
-use Rattle.walking.proofs.solve.begin_walk.Reads as begin-walk-reads
-use Rattle.walking.proofs.solve.copy_front.Reads as copy-front-reads
-use Rattle.walking.proofs.solve.go_on.Reads as go-on-reads
 
--- src/solve.rt:107:9
 begin-walk-requires : tie.Need-begin-walk-requires
 begin-walk-requires c κs = search needs
 
--- src/solve.rt:108:9
 go-on-requires : tie.Need-go-on-requires
 go-on-requires c κs = search needs
 
--- src/solve.rt:113:24
 enum-told : tie.Need-enum-told
 enum-told c = search needs
 
--- src/solve.rt:113:39
 mul-copy-front : tie.Need-mul-copy-front
 mul-copy-front c =
     let start = c .before .before .before .before .before .before .before .before .before .before .before .before .before .before .before .before .before .before in
@@ -31,7 +22,6 @@ mul-copy-front c =
     let within = places-within (start .args .source) (start .args .target) (begun .ensures .1 .0) (begun .ensures .1 .1) (walked .result) (walked .ensures) (c .before .before .before .enum-told .given .1) in
     omega (arith, within .0, within .1)
 
--- src/solve.rt:113:13
 copy-front-requires : tie.Need-copy-front-requires
 copy-front-requires c κs =
     let start = c .before .before .before .before .before .before .before .before .before .before .before .before .before .before .before .before .before .before in
@@ -40,19 +30,15 @@ copy-front-requires c κs =
     let within = places-within (start .args .source) (start .args .target) (begun .ensures .1 .0) (begun .ensures .1 .1) (walked .result) (walked .ensures) (c .before .before .before .enum-told .given .1) in
     (omega (arith, within .0, within .1, walked .kept .1 .1 .1 .0, begun .kept .1 .1 .1 .1 .0, start .pre .1 .1), omega (arith, within .0, within .1, start .pre .1 .0))
 
--- src/solve.rt:120:27
 enum-known-progress : tie.Need-enum-known-progress
 enum-known-progress c = search needs
 
--- src/solve.rt:95:1
 same-length : tie.Need-same-length
 same-length c = search needs
 
--- src/solve.rt:95:1
 same-length-2 : tie.Need-same-length-2
 same-length-2 c = search needs
 
--- src/solve.rt:95:1
 returns : tie.Need-returns
 returns c =
     let start = c .before .before .before .before .before .before .before .before .before .before .before .before .before .before .before .before .before .before .before .before .before in
@@ -60,11 +46,9 @@ returns c =
     let walked = c .before .before .before .before .before .before .before .before .before .before .before .go-on in
     solved-tells (start .args .source) (start .args .target) (begun .ensures .1 .0) (begun .ensures .1 .1) (walked .result) (walked .ensures) (c .before .before .before .before .before .before .enum-told .given .1) (start .args .table .now) (c .before .before .copy-front .last .1 .0) (c .before .before .copy-front .ensures)
 
--- src/solve.rt:95:1
 same-length-3 : tie.Need-same-length-3
 same-length-3 c = search needs
 
--- src/solve.rt:95:1
 returns-2 : tie.Need-returns-2
 returns-2 c =
     let start = c .before .before .before .before .before .before .before .before .before .before .before .before .before .before .before .before in

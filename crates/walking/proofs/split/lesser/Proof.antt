@@ -1,14 +1,10 @@
 -- `lesser` meets its contract.
 use mathlib.Core.Path.{sym}
 use native.Mathlib.Omega.{arith}
-use borrow.Author.Needs.{needs}
 use Rattle.walking.proofs.Children.{lesser-left, lesser-right}
 use Rattle.walking.proofs.split.lesser.Statement.{statement}
 use Rattle.walking.proofs.split.lesser.Tie as tie
-use Rattle.walking.proofs.split.lesser.Reads as reads
-use Rattle.walking.proofs.split.lesser.Lts as lts
 
--- src/split.rt:16:9
 returns : tie.Need-returns
 returns c = sym (lesser-left (c .before .args .a) (c .before .args .b) (omega (arith, c .if1 .taken)))
 

@@ -1,16 +1,11 @@
 -- `too_long` meets its contract.
-use borrow.Author.Needs.{needs}
 use Rattle.walking.proofs.Splitting.{too-long-none, too-long-some}
 use Rattle.walking.proofs.split.too_long.Statement.{statement}
 use Rattle.walking.proofs.split.too_long.Tie as tie
-use Rattle.walking.proofs.split.too_long.Reads as reads
-use Rattle.walking.proofs.split.too_long.Lts as lts
 
--- src/split.rt:42:9
 returns : tie.Need-returns
 returns c = too-long-none (c .before .args .last) (c .before .args .elements) (c .if1 .taken)
 
--- src/split.rt:38:1
 returns-2 : tie.Need-returns-2
 returns-2 c = too-long-some (c .before .args .last) (c .before .args .elements) (c .if1 .left)
 

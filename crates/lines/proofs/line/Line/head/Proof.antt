@@ -3,13 +3,10 @@ use Prim.Native.Nat.{_-_}
 use native.Mathlib.Omega.{arith}
 use mathlib.Core.Path.{refl}
 use Rattle.format.specs.Limits.{variable-count}
-use Rattle.lines.specs.Theory.Place.{Loading, loading-start, loading-next, loading-done}
+use Rattle.lines.specs.Theory.Placed.{Loading, loading-start, loading-next, loading-done}
 use borrow.Author.Needs.{needs}
 use Rattle.lines.proofs.line.Line.head.Statement.{statement}
 use Rattle.lines.proofs.line.Line.head.Tie as tie
-use Rattle.lines.proofs.line.Line.head.Reads as reads
-use Rattle.lines.proofs.line.Line.head.Lts as lts
-use Rattle.format.proofs.byte.wide.Reads as wide-reads
 
 abbrev Inv-loop : tie.InvT-loop
 Inv-loop memory place element bindings₀ i₀ bindings i = Loading variable-count memory place bindings₀ bindings i

@@ -1,15 +1,13 @@
--- `walking::line::Line::opening` makes the walk's first line.
+-- `Line::opening` makes the walk's first line.
 use mathlib.Core.Path.{refl}
 use native.Mathlib.Omega.{arith}
-use Rattle.lines.specs.Contracts.Named.{stored-of, opening-line}
+use Rattle.lines.specs.Contracts.Line.{resting-of, opening-line}
 use Rattle.lines.proofs.line.Line.opening.Statement.{statement}
 use Rattle.lines.proofs.line.Line.opening.Tie as tie
-use Rattle.lines.proofs.line.Line.opening.Reads as reads
-use Rattle.lines.proofs.line.Line.opening.Lts as lts
 
 -- src/line.rt:21:5
 returns : tie.Need-returns
-unfolding stored-of opening-line
+unfolding resting-of opening-line
 returns c = (refl, record { few = omega arith; fresh = refl; markable = tt })
 
 pub opening-spec : {M : Type 1} → statement M

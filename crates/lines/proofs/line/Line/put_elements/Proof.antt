@@ -7,9 +7,6 @@ use Rattle.lines.proofs.Sizes.{elements-places}
 use borrow.Author.Needs.{needs}
 use Rattle.lines.proofs.line.Line.put_elements.Statement.{statement}
 use Rattle.lines.proofs.line.Line.put_elements.Tie as tie
-use Rattle.lines.proofs.line.Line.put_elements.Reads as reads
-use Rattle.lines.proofs.line.Line.put_elements.Lts as lts
-use Rattle.lines.proofs.element.put_element.Reads as put-element-reads
 
 abbrev Inv-loop : tie.InvT-loop
 Inv-loop bytes₀ from to self count i₀ at₀ bytes i at = Putting self from to bytes₀ bytes i at

@@ -8,10 +8,6 @@ use Rattle.lines.proofs.Removing.{removal-elements, removed}
 use borrow.Author.Needs.{needs}
 use Rattle.lines.proofs.line.Line.put_without.Statement.{statement}
 use Rattle.lines.proofs.line.Line.put_without.Tie as tie
-use Rattle.lines.proofs.line.Line.put_without.Reads as reads
-use Rattle.lines.proofs.line.Line.put_without.Lts as lts
-use Rattle.lines.proofs.edit.put.Reads as put-reads
-use Rattle.lines.proofs.line.Line.put_elements.Reads as put-elements-reads
 
 -- src/line.rt:98:35
 add-put-elements : tie.Need-add-put-elements
@@ -33,19 +29,15 @@ add-put-elements-3 c = search needs
 put-elements-requires : tie.Need-put-elements-requires
 put-elements-requires c κs = removal-elements (c .before .before .pre) _ refl
 
--- src/line.rt:99:21
 add-put : tie.Need-add-put
 add-put c = search needs
 
--- src/line.rt:99:50
 sub-put : tie.Need-sub-put
 sub-put c = search needs
 
--- src/line.rt:99:45
 mul-put : tie.Need-mul-put
 mul-put c = search needs
 
--- src/line.rt:99:21
 add-put-2 : tie.Need-add-put-2
 add-put-2 c = search needs
 
@@ -53,19 +45,15 @@ add-put-2 c = search needs
 put-requires : tie.Need-put-requires
 put-requires c κs = search needs
 
--- src/line.rt:100:34
 sub-memory : tie.Need-sub-memory
 sub-memory c = search needs
 
--- src/line.rt:100:33
 cast-memory : tie.Need-cast-memory
 cast-memory c = search needs
 
--- src/line.rt:100:16
 add-memory : tie.Need-add-memory
 add-memory c = search needs
 
--- src/line.rt:100:9
 slice-write-memory : tie.Need-slice-write-memory
 slice-write-memory c = search needs
 
@@ -73,11 +61,9 @@ slice-write-memory c = search needs
 cast-memory-2 : tie.Need-cast-memory-2
 cast-memory-2 c = search needs
 
--- src/line.rt:101:16
 add-memory-2 : tie.Need-add-memory-2
 add-memory-2 c = search needs
 
--- src/line.rt:101:9
 slice-write-memory-2 : tie.Need-slice-write-memory-2
 slice-write-memory-2 c = let start = c .before .before .before .before .before .before .before .before .before in
     let put = c .before .before .put in

@@ -3,17 +3,11 @@ use mathlib.Core.Path.{refl, _∙_}
 use lib.ListN.{length-set}
 use native.Mathlib.Omega.{arith}
 use Rattle.lines.specs.Contracts.Layout.{count-place}
-use Rattle.lines.specs.Contracts.Stored.{marks}
 use Rattle.lines.proofs.Writing.{written-elements, line-written}
 use Rattle.lines.proofs.Sizes.{elements-places, bindings-slots}
 use borrow.Author.Needs.{needs}
 use Rattle.lines.proofs.line.Line.write.Statement.{statement}
 use Rattle.lines.proofs.line.Line.write.Tie as tie
-use Rattle.lines.proofs.line.Line.write.Reads as reads
-use Rattle.lines.proofs.line.Line.write.Lts as lts
-use Rattle.lines.proofs.line.Line.put_elements.Reads as put-elements-reads
-use Rattle.lines.proofs.line.pad.Reads as pad-reads
-use Rattle.lines.proofs.rebind.rebind.Reads as rebind-reads
 
 -- src/line.rt:70:25
 slice-aggregate-rebind : tie.Need-slice-aggregate-rebind

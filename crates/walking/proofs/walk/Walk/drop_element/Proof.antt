@@ -5,12 +5,7 @@ use Rattle.walking.proofs.Treating.{treating-top, removal-fits, element
 use borrow.Author.Needs.{needs}
 use Rattle.walking.proofs.walk.Walk.drop_element.Statement.{statement}
 use Rattle.walking.proofs.walk.Walk.drop_element.Tie as tie
-use Rattle.walking.proofs.walk.Walk.drop_element.Reads as reads
-use Rattle.walking.proofs.walk.Walk.drop_element.Lts as lts
-use Rattle.lines.proofs.line.Line.put_without.Reads as put-without-reads
-use Rattle.walking.proofs.walk.Walk.turned.Reads as turned-reads
 
--- src/walk.rt:95:34
 mul-put-without : tie.Need-mul-put-without
 mul-put-without c = omega (arith, treating-top (c .before .before .before .before .before .pre .0 .treating))
 

@@ -4,9 +4,6 @@ use Rattle.walking.proofs.Treating.{finishing-fits, finishing-done, fin
 use borrow.Author.Needs.{needs}
 use Rattle.walking.proofs.walk.Walk.finish.Statement.{statement}
 use Rattle.walking.proofs.walk.Walk.finish.Tie as tie
-use Rattle.walking.proofs.walk.Walk.finish.Reads as reads
-use Rattle.walking.proofs.walk.Walk.finish.Lts as lts
-use Rattle.lines.proofs.record.write_record.Reads as write-record-reads
 
 -- src/walk.rt:66:30
 mul-write-record : tie.Need-mul-write-record

@@ -10,14 +10,6 @@ use Rattle.walking.proofs.Searching.{Filling, Searching, filling-start,
 use borrow.Author.Needs.{needs}
 use Rattle.walking.proofs.walk.Walk.turn.Statement.{statement}
 use Rattle.walking.proofs.walk.Walk.turn.Tie as tie
-use Rattle.walking.proofs.walk.Walk.turn.Reads as reads
-use Rattle.walking.proofs.walk.Walk.turn.Lts as lts
-use Rattle.lines.proofs.element.element_at.Reads as element-at-reads
-use Rattle.lines.proofs.line.Line.head.Reads as head-reads
-use Rattle.walking.proofs.treat.treatment_of.Reads as treatment-of-reads
-use Rattle.walking.proofs.walk.Walk.finish.Reads as finish-reads
-use Rattle.walking.proofs.walk.Walk.treat.Reads as treat-reads
-use Rattle.walking.proofs.walk.going.Reads as going-reads
 
 abbrev Inv-loop : tie.InvT-loop
 Inv-loop self nodes sizes memory place line₀ bindings count i₀ line i = Filling memory place line₀ line i
@@ -31,15 +23,12 @@ Inv-loop2 self nodes sizes memory₀ place line bindings count i₀ memory i = (
 abbrev μ-loop2 : tie.MeasureT-loop2
 μ-loop2 self nodes sizes memory₀ place line bindings count i₀ memory i = count - i
 
--- src/walk.rt:183:21
 mul-place : tie.Need-mul-place Inv-loop μ-loop Inv-loop2 μ-loop2
 mul-place c = search needs
 
--- src/walk.rt:184:24
 head-requires : tie.Need-head-requires Inv-loop μ-loop Inv-loop2 μ-loop2
 head-requires c κs = place-there (c .before .before .before .before .before .pre .0) (c .before .before .before .before .before .pre .1)
 
--- src/walk.rt:188:9
 loop-holds : tie.Need-loop-holds Inv-loop μ-loop Inv-loop2 μ-loop2
 loop-holds c = filling-start _ _ _ (c .before .head .ensures .places)
 
@@ -55,7 +44,6 @@ mul-element-at c = omega (arith, head-few (c .before .before .before .before .be
 add-element-at-2 : tie.Need-add-element-at-2 Inv-loop μ-loop Inv-loop2 μ-loop2
 add-element-at-2 c = omega (arith, head-few (c .before .before .before .before .before .before .before .before .before .before .pre .0) (c .before .before .before .before .before .before .before .before .before .before .pre .1) (c .before .before .before .before .head .ensures), place-there (c .before .before .before .before .before .before .before .before .before .before .pre .0) (c .before .before .before .before .before .before .before .before .before .before .pre .1))
 
--- src/walk.rt:189:32
 element-at-requires : tie.Need-element-at-requires Inv-loop μ-loop Inv-loop2 μ-loop2
 element-at-requires c κs = omega (arith, head-few (c .before .before .before .before .before .before .before .before .before .before .pre .0) (c .before .before .before .before .before .before .before .before .before .before .pre .1) (c .before .before .before .before .head .ensures), place-there (c .before .before .before .before .before .before .before .before .before .before .pre .0) (c .before .before .before .before .before .before .before .before .before .before .pre .1))
 
@@ -67,15 +55,12 @@ mul-t23 c = omega (arith, head-few (c .before .before .before .before .before .b
 element-set-from-line : tie.Need-element-set-from-line Inv-loop μ-loop Inv-loop2 μ-loop2
 element-set-from-line c = omega (arith, head-few (c .before .before .before .before .before .before .before .before .before .before .before .pre .0) (c .before .before .before .before .before .before .before .before .before .before .before .pre .1) (c .before .before .before .before .before .head .ensures))
 
--- src/walk.rt:190:17
 add-i : tie.Need-add-i Inv-loop μ-loop Inv-loop2 μ-loop2
 add-i c = search needs
 
--- src/walk.rt:188:9
 loop-less : tie.Need-loop-less Inv-loop μ-loop Inv-loop2 μ-loop2
 loop-less c = search needs
 
--- src/walk.rt:188:9
 loop-again : tie.Need-loop-again Inv-loop μ-loop Inv-loop2 μ-loop2
 loop-again c = filling-next (c .before .before .before .loop .inv) (omega (arith, head-few (c .before .before .before .before .before .before .before .before .before .before .before .pre .0) (c .before .before .before .before .before .before .before .before .before .before .before .pre .1) (c .before .before .before .before .before .head .ensures))) _ (c .element-at .ensures)
 
@@ -91,7 +76,6 @@ mul-element c = omega (arith, head-few (c .before .before .before .before .befor
 element-copy-out-element : tie.Need-element-copy-out-element Inv-loop μ-loop Inv-loop2 μ-loop2
 element-copy-out-element c = omega (arith, head-few (c .before .before .before .before .before .before .before .before .before .before .before .pre .0) (c .before .before .before .before .before .before .before .before .before .before .before .pre .1) (c .before .before .before .before .before .head .ensures))
 
--- src/walk.rt:195:56
 slice-aggregate-treatment-of :
     tie.Need-slice-aggregate-treatment-of Inv-loop μ-loop Inv-loop2 μ-loop2
 slice-aggregate-treatment-of c = search needs
@@ -108,7 +92,6 @@ treatment-of-requires c κs =
 enum-told : tie.Need-enum-told Inv-loop μ-loop Inv-loop2 μ-loop2
 enum-told c = search needs
 
--- src/walk.rt:197:63
 cast-treat : tie.Need-cast-treat Inv-loop μ-loop Inv-loop2 μ-loop2
 cast-treat c = omega (arith, head-few (c .before .before .before .before .before .before .before .before .before .before .before .before .before .before .before .before .pre .0) (c .before .before .before .before .before .before .before .before .before .before .before .before .before .before .before .before .pre .1) (c .before .before .before .before .before .before .before .before .before .before .head .ensures))
 
@@ -131,7 +114,6 @@ same-length c = c .before .before .treat .kept .1 .1 .1 .1 .0 ∙ ap length (c .
 returns : tie.Need-returns Inv-loop μ-loop Inv-loop2 μ-loop2
 returns c = c .before .before .treat .ensures
 
--- src/walk.rt:199:17
 add-i-2 : tie.Need-add-i-2 Inv-loop μ-loop Inv-loop2 μ-loop2
 add-i-2 c = search needs
 
@@ -150,7 +132,6 @@ loop2-again c =
     let loop = c .before .before .before .before .before .before .loop2 in
     (loop .inv .0, head-next (start .pre .0) (start .pre .1) head filled full (loop .inv .1) (c .before .before .before .before .before .loop2-test .taken) (found .result) (found .ensures) (c .enum-told .given .1))
 
--- src/walk.rt:201:15
 finish-requires : tie.Need-finish-requires Inv-loop μ-loop Inv-loop2 μ-loop2
 finish-requires c κs =
     let start = c .before .before .before .before .before .before .before .before .before .before .before .before in
@@ -164,11 +145,9 @@ finish-requires c κs =
 going-requires : tie.Need-going-requires Inv-loop μ-loop Inv-loop2 μ-loop2
 going-requires c κs = search needs
 
--- src/walk.rt:179:5
 same-length-2 : tie.Need-same-length-2 Inv-loop μ-loop Inv-loop2 μ-loop2
 same-length-2 c = c .before .before .before .finish .kept .1 .1 .1 .0 ∙ ap length (c .before .before .before .before .before .before .loop2 .inv .0)
 
--- src/walk.rt:179:5
 returns-2 : tie.Need-returns-2 Inv-loop μ-loop Inv-loop2 μ-loop2
 returns-2 c = rw (c .going .ensures) (record { outcome = c .before .before .before .finish .ensures })
 

@@ -1,96 +1,89 @@
 -- `unify` meets its contract: failure deletes the line, success the element, and other bindings are put back.
-use mathlib.Core.Path.{refl, sym, ap, _∙_}
+use mathlib.Core.Path.{refl, sym}
 use native.Mathlib.Omega.{arith}
 use Rattle.walking.proofs.Treating.{treating-top, treating-place, line-slots, removal-fits, equal-within, line-readable, unify-failed, unify-kept, unify-changed}
 use borrow.Author.Needs.{needs}
 use Rattle.walking.proofs.walk.Walk.unify.Statement.{statement}
 use Rattle.walking.proofs.walk.Walk.unify.Tie as tie
-use Rattle.walking.proofs.walk.Walk.unify.Reads as reads
-use Rattle.walking.proofs.walk.Walk.unify.Lts as lts
-use Rattle.lines.proofs.line.Line.put_without.Reads as put-without-reads
-use Rattle.lines.proofs.rebind.differ.Reads as differ-reads
-use Rattle.lines.proofs.rebind.rebind.Reads as rebind-reads
-use Rattle.unifying.proofs.unifier.unify_positions.Reads as unify-positions-reads
-use Rattle.walking.proofs.walk.Walk.turned.Reads as turned-reads
 
--- src/walk.rt:104:21
+-- src/walk.rt:119:21
 mul-place : tie.Need-mul-place
 mul-place c = omega (arith, treating-top (c .before .before .before .before .pre .0 .treating))
 
--- src/walk.rt:106:53
+-- src/walk.rt:121:53
 slice-aggregate-unify-positions : tie.Need-slice-aggregate-unify-positions
 slice-aggregate-unify-positions c = search needs
 
--- src/walk.rt:106:13
+-- src/walk.rt:121:13
 unify-positions-requires : tie.Need-unify-positions-requires
-unify-positions-requires c κs = let start = c .before .before .before .before .before .before in (line-readable (start .pre .0) (start .pre .1) _ _ refl, equal-within (start .pre .0) (start .pre .1) _ _ refl)
+unify-positions-requires c κs = let start = c .before .before .before .before .before .before in (line-readable (start .pre .0) (start .pre .1) _ refl, equal-within (start .pre .0) (start .pre .1) _ refl)
 
 enum-told : tie.Need-enum-told
 enum-told c = search needs
 
--- src/walk.rt:109:32
+-- src/walk.rt:124:32
 enum-told-2 : tie.Need-enum-told-2
 enum-told-2 c = search needs
 
--- src/walk.rt:109:32
+-- src/walk.rt:124:32
 add-turned : tie.Need-add-turned
 add-turned c = search needs
 
--- src/walk.rt:109:13
+-- src/walk.rt:124:13
 turned-requires : tie.Need-turned-requires
 turned-requires c κs = search needs
 
--- src/walk.rt:109:13
+-- src/walk.rt:124:13
 returns : tie.Need-returns
-returns c = rw (c .turned .ensures) (unify-failed (c .before .before .before .before .before .before .before .before .before .before .before .pre .0) (c .before .before .before .before .before .before .before .before .before .before .before .pre .1) _ _ refl (c .before .before .before .before .unify-positions .result) (c .before .before .before .before .unify-positions .ensures) (c .before .before .enum-told2 .given .1))
+returns c = rw (c .turned .ensures) (unify-failed (c .before .before .before .before .before .before .before .before .before .before .before .pre .0) (c .before .before .before .before .before .before .before .before .before .before .before .pre .1) _ refl (c .before .before .before .before .unify-positions .result) (c .before .before .before .before .unify-positions .ensures) (c .before .before .enum-told2 .given .1))
 
--- src/walk.rt:111:9
+-- src/walk.rt:126:9
 put-without-requires : tie.Need-put-without-requires
 put-without-requires c κs = removal-fits (c .before .before .before .before .before .before .before .before .before .before .pre .0)
 
--- src/walk.rt:113:19
+-- src/walk.rt:128:19
 slice-aggregate-differ : tie.Need-slice-aggregate-differ
 slice-aggregate-differ c = sym (line-slots (c .before .before .before .before .before .before .before .before .before .before .before .before .before .before .before .pre .0))
 
--- src/walk.rt:113:30
+-- src/walk.rt:128:30
 slice-aggregate-differ-2 : tie.Need-slice-aggregate-differ-2
 slice-aggregate-differ-2 c = search needs
 
--- src/walk.rt:113:12
+-- src/walk.rt:128:12
 differ-requires : tie.Need-differ-requires
 differ-requires c κs = (line-slots (c .before .before .before .before .before .before .before .before .before .before .before .before .before .before .before .before .pre .0), c .before .before .before .before .before .before .before .before .before .unify-positions .ensures .whole)
 
--- src/walk.rt:114:35
+-- src/walk.rt:129:35
 slice-aggregate-rebind : tie.Need-slice-aggregate-rebind
 slice-aggregate-rebind c = search needs
 
--- src/walk.rt:114:13
+-- src/walk.rt:129:13
 rebind-requires : tie.Need-rebind-requires
 rebind-requires c κs = (omega (arith, treating-place (c .before .before .before .before .before .before .before .before .before .before .before .before .before .before .before .before .before .before .before .before .pre .0 .treating), c .before .before .before .before .before .before .before .before .before .put-without .kept .1 .0), c .before .before .before .before .before .before .before .before .before .before .before .before .before .unify-positions .ensures .whole)
 
--- src/walk.rt:115:13
+-- src/walk.rt:130:13
 turned-requires-2 : tie.Need-turned-requires-2
 turned-requires-2 c κs = search needs
 
--- src/walk.rt:115:13
+-- src/walk.rt:130:13
 same-length : tie.Need-same-length
 same-length c = search needs
 
--- src/walk.rt:115:13
+-- src/walk.rt:130:13
 returns-2 : tie.Need-returns-2
-returns-2 c = rw (c .turned2 .ensures) (unify-changed (c .before .before .before .before .before .before .before .before .before .before .before .before .before .before .before .before .before .before .before .before .before .before .before .before .pre .0) (c .before .before .before .before .before .before .before .before .before .before .before .before .before .before .before .before .before .before .before .before .before .before .before .before .pre .1) _ _ refl (c .before .before .before .before .before .before .before .before .before .before .before .before .before .before .before .before .before .unify-positions .result) (c .before .before .before .before .before .before .before .before .before .before .before .before .before .before .before .before .before .unify-positions .ensures) (c .before .before .before .before .before .before .before .before .before .before .before .before .before .before .before .enum-told .given .1) _ _ (c .before .before .before .before .before .before .before .before .before .before .before .before .before .put-without .ensures) (c .before .before .before .rebind .ensures))
+returns-2 c = rw (c .turned2 .ensures) (unify-changed (c .before .before .before .before .before .before .before .before .before .before .before .before .before .before .before .before .before .before .before .before .before .before .before .before .pre .0) (c .before .before .before .before .before .before .before .before .before .before .before .before .before .before .before .before .before .before .before .before .before .before .before .before .pre .1) _ refl (c .before .before .before .before .before .before .before .before .before .before .before .before .before .before .before .before .before .unify-positions .result) (c .before .before .before .before .before .before .before .before .before .before .before .before .before .before .before .before .before .unify-positions .ensures) (c .before .before .before .before .before .before .before .before .before .before .before .before .before .before .before .enum-told .given .1) _ _ (c .before .before .before .before .before .before .before .before .before .before .before .before .before .put-without .ensures) (c .before .before .before .rebind .ensures))
 
--- src/walk.rt:117:9
+-- src/walk.rt:132:9
 turned-requires-3 : tie.Need-turned-requires-3
 turned-requires-3 c κs = search needs
 
--- src/walk.rt:100:5
+-- src/walk.rt:107:5
 same-length-2 : tie.Need-same-length-2
 same-length-2 c = search needs
 
--- src/walk.rt:100:5
+-- src/walk.rt:107:5
 returns-3 : tie.Need-returns-3
-returns-3 c = rw (c .turned3 .ensures) (unify-kept (c .before .before .before .before .before .before .before .before .before .before .before .before .before .before .before .before .before .before .before .pre .0) (c .before .before .before .before .before .before .before .before .before .before .before .before .before .before .before .before .before .before .before .pre .1) _ _ refl (c .before .before .before .before .before .before .before .before .before .before .before .before .unify-positions .result) (c .before .before .before .before .before .before .before .before .before .before .before .before .unify-positions .ensures) (c .before .before .before .before .before .before .before .before .before .before .enum-told .given .1) _ (c .before .before .differ .ensures .same (c .before .if1 .left)) (c .before .before .before .before .before .before .before .before .put-without .ensures))
+returns-3 c = rw (c .turned3 .ensures) (unify-kept (c .before .before .before .before .before .before .before .before .before .before .before .before .before .before .before .before .before .before .before .pre .0) (c .before .before .before .before .before .before .before .before .before .before .before .before .before .before .before .before .before .before .before .pre .1) _ refl (c .before .before .before .before .before .before .before .before .before .before .before .before .unify-positions .result) (c .before .before .before .before .before .before .before .before .before .before .before .before .unify-positions .ensures) (c .before .before .before .before .before .before .before .before .before .before .enum-told .given .1) _ (c .before .before .differ .ensures .same (c .before .if1 .left)) (c .before .before .before .before .before .before .before .before .put-without .ensures))
 
 pub unify-spec : {M : Type 1} → statement M
 unify-spec =

@@ -1,4 +1,4 @@
--- What the reading code's contracts cite: the text between two places, as the bytes of a frame.
+-- Digits, the bytes that they write, and the end of a line: what the contracts of the code that reads digits cite.
 use Prim.Native.Nat.{ℕ, suc, _+_, _-_, _*_, _≤_, _<_}
 use mathlib.Core.Path.{_≡_}
 use mathlib.Core.Logic.{_⊎_}
@@ -6,7 +6,7 @@ use mathlib.Core.Option.{none, some, Option·getD}
 use mathlib.Core.List.{List, [], _∷_}
 use lib.ListN.{length, getD, take, drop}
 use Rattle.format.specs.Limits.{max-line-digits}
-use Rattle.format.specs.Theory.Lists.{Every}
+use Rattle.format.specs.Lists.{Every}
 use Rattle.sheet.specs.Contracts.Bytes.{Bytes}
 use Rattle.scanning.specs.declared.text.Span.{Span}
 use Rattle.scanning.specs.declared.text.LineEnd.{LineEnd}

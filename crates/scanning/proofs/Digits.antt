@@ -1,4 +1,4 @@
--- Laws of the text between two places, for the reading code.
+-- Lemmas for the code that reads digits and finds the end of a line.
 use Prim.Native.Nat.{ℕ, zero, suc, _+_, _-_, _*_, _%_, _≤_, _<_}
 use mathlib.Core.Path.{_≡_, refl, sym, ap, subst, _∙_}
 use mathlib.Core.Bool.{Bool, true, false, _&&_}
@@ -16,7 +16,7 @@ use Rattle.format.specs.Theory.Lists.{every-append}
 use Rattle.sheet.specs.Text.{base, LF, ended, unended, lines-of, digit, byte-of, put-first, bytes-of, frame-of}
 use Rattle.scanning.specs.declared.text.LineEnd.{LineEnd}
 use Rattle.scanning.specs.declared.text.LineEnd.the-variants.{At, Broken}
-use Rattle.scanning.specs.Contracts.Cursor.{digit-number, Digits, block, DigitsTo, decoded, bytes-between, LineTo, NoFrame, LineRead, CountRead}
+use Rattle.scanning.specs.Contracts.Digits.{digit-number, Digits, block, DigitsTo, decoded, bytes-between, LineTo, NoFrame, LineRead, CountRead}
 use Rattle.sheet.specs.Theory.Text.{digit-small}
 use Rattle.sheet.specs.Theory.Lines.{NoLF, content, lines-ended, Begins, lines-begin, lines-unended, frame-none-digit, frame-none-long}
 
@@ -25,7 +25,8 @@ pub digit-decimal : (c : ℕ) → 0x30 ≤ c → c ≤ 0x39 → digit c ≡ some
 unfolding digit
 digit-decimal c h i = go (leb 0x30 c) (leb c 0x39) (le-leb 0x30 c h) (le-leb c 0x39 i)
   where
-    go : (a b : Bool) → a ≡ true → b ≡ true → _≡_ {A = Option ℕ} (elim (a && b) [ true ↦ some (c - 0x30) | false ↦ elim (leb 0x61 c && leb c 0x66) [ true ↦ some (10 + (c - 0x61)) | false ↦ none ] ]) (some (c - 0x30))
+    go : (a b : Bool) → a ≡ true → b ≡ true
+        → _≡_ {A = Option ℕ} (elim (a && b) [ true ↦ some (c - 0x30) | false ↦ elim (leb 0x61 c && leb c 0x66) [ true ↦ some (10 + (c - 0x61)) | false ↦ none ] ]) (some (c - 0x30))
     go true true d e = refl
     go true false d e = let z : _≡_ {A = ℕ} 0 1 = cc in absurd (omega arith)
     go false b d e = let z : _≡_ {A = ℕ} 0 1 = cc in absurd (omega arith)
@@ -41,7 +42,8 @@ pub digit-letter : (c : ℕ) → 0x61 ≤ c → c ≤ 0x66 → digit c ≡ some 
 unfolding digit
 digit-letter c h i = go (leb 0x30 c && leb c 0x39) (leb 0x61 c) (leb c 0x66) (not-decimal c (omega arith)) (le-leb 0x61 c h) (le-leb c 0x66 i)
   where
-    go : (a b d : Bool) → a ≡ false → b ≡ true → d ≡ true → _≡_ {A = Option ℕ} (elim a [ true ↦ some (c - 0x30) | false ↦ elim (b && d) [ true ↦ some (10 + (c - 0x61)) | false ↦ none ] ]) (some (10 + (c - 0x61)))
+    go : (a b d : Bool) → a ≡ false → b ≡ true → d ≡ true
+        → _≡_ {A = Option ℕ} (elim a [ true ↦ some (c - 0x30) | false ↦ elim (b && d) [ true ↦ some (10 + (c - 0x61)) | false ↦ none ] ]) (some (10 + (c - 0x61)))
     go true b d x y z = let w : _≡_ {A = ℕ} 0 1 = cc in absurd (omega arith)
     go false false d x y z = let w : _≡_ {A = ℕ} 0 1 = cc in absurd (omega arith)
     go false true false x y z = let w : _≡_ {A = ℕ} 0 1 = cc in absurd (omega arith)
@@ -51,7 +53,8 @@ digit-other : (c : ℕ) → (leb 0x30 c && leb c 0x39) ≡ false → (leb 0x61 c
 unfolding digit
 digit-other c h i = go (leb 0x30 c && leb c 0x39) (leb 0x61 c && leb c 0x66) h i
   where
-    go : (a b : Bool) → a ≡ false → b ≡ false → _≡_ {A = Option ℕ} (elim a [ true ↦ some (c - 0x30) | false ↦ elim b [ true ↦ some (10 + (c - 0x61)) | false ↦ none ] ]) none
+    go : (a b : Bool) → a ≡ false → b ≡ false
+        → _≡_ {A = Option ℕ} (elim a [ true ↦ some (c - 0x30) | false ↦ elim b [ true ↦ some (10 + (c - 0x61)) | false ↦ none ] ]) none
     go true b x y = let w : _≡_ {A = ℕ} 0 1 = cc in absurd (omega arith)
     go false true x y = let w : _≡_ {A = ℕ} 0 1 = cc in absurd (omega arith)
     go false false x y = refl
@@ -250,7 +253,8 @@ module _ (s : List ℕ) (at i : ℕ) (below : at ≤ i) (inside : i ≤ length s
 pub digits-to-start : (s : List ℕ) (at : ℕ) → at < length s → DigitsTo s at at
 digits-to-start s at h = let e : at - at ≡ 0 = omega arith in record { begun = omega arith; inside = omega arith; few = omega arith; digits = rw e tt }
 
-pub digits-to-next : (s : List ℕ) (at i : ℕ) → DigitsTo s at i → i < length s → digit-number (getD s i 0) < base → (i - at ≡ max-line-digits → ⊥) → DigitsTo s at (i + 1)
+pub digits-to-next : (s : List ℕ) (at i : ℕ) → DigitsTo s at i → i < length s → digit-number (getD s i 0) < base → (i - at ≡ max-line-digits → ⊥)
+    → DigitsTo s at (i + 1)
 digits-to-next s at i p h d n =
     let e : i + 1 - at ≡ suc (i - at) = omega (arith, p .begun) in
     let same : getD (drop at s) (i - at) 0 ≡ getD s i 0 = getD-drop at s (i - at) 0 ∙ ap (λ j. getD s j 0) (omega (arith, p .begun)) in
@@ -274,13 +278,18 @@ pub record Tested (s : List ℕ) (at : ℕ) (all : Bool) (i : ℕ) : Type 0 wher
 pub tested-start : (s : List ℕ) (at : ℕ) → Tested s at true 0
 tested-start s at = record { few = omega arith; digits = λ e. tt }
 
-pub tested-next : (s : List ℕ) (at i : ℕ) (all one both : Bool) → Tested s at all i → at + block ≤ length s → i < block → one ≡ ltb (digit-number (getD s (at + i) 0)) base → both ≡ (all && one) → Tested s at both (i + 1)
+pub tested-next : (s : List ℕ) (at i : ℕ) (all one both : Bool) → Tested s at all i → at + block ≤ length s → i < block
+    → one ≡ ltb (digit-number (getD s (at + i) 0)) base → both ≡ (all && one) → Tested s at both (i + 1)
 tested-next s at i all one both t l h d e = record { few = omega arith; digits = go all one (t .digits) d e }
   where
     more : take (i + 1) (drop at s) ≡ take i (drop at s) ++ (getD s (at + i) 0 ∷ [])
-    more = ap (λ m. take m (drop at s)) (add-one i) ∙ take-suc (drop at s) i 0 (omega (arith, length-drop at s)) ∙ ap (λ x. take i (drop at s) ++ (x ∷ [])) (getD-drop at s i 0)
+    more =
+        ap (λ m. take m (drop at s)) (add-one i)
+        ∙ take-suc (drop at s) i 0 (omega (arith, length-drop at s))
+        ∙ ap (λ x. take i (drop at s) ++ (x ∷ [])) (getD-drop at s i 0)
 
-    go : (a o : Bool) → (a ≡ true → Digits (take i (drop at s))) → o ≡ ltb (digit-number (getD s (at + i) 0)) base → both ≡ (a && o) → both ≡ true → Digits (take (i + 1) (drop at s))
+    go : (a o : Bool) → (a ≡ true → Digits (take i (drop at s))) → o ≡ ltb (digit-number (getD s (at + i) 0)) base → both ≡ (a && o) → both ≡ true
+        → Digits (take (i + 1) (drop at s))
     go true true f x y z = rw more (every-append (λ c. digit-number c < base) (take i (drop at s)) (getD s (at + i) 0 ∷ []) (f refl) (ltb-true _ base (sym x), tt))
     go true false f x y z = let w : _≡_ {A = ℕ} 0 1 = cc in absurd (omega arith)
     go false o f x y z = let w : _≡_ {A = ℕ} 0 1 = cc in absurd (omega arith)
@@ -288,7 +297,8 @@ tested-next s at i all one both t l h d e = record { few = omega arith; digits =
 pub tested-all : (s : List ℕ) (at i : ℕ) (all : Bool) → Tested s at all i → block ≤ i → all ≡ true → Digits (take block (drop at s))
 tested-all s at i all t h e = let d : i ≡ block = omega (arith, t .few) in subst (λ n. Digits (take n (drop at s))) d (t .digits e)
 
-pub digits-to-block : (s : List ℕ) (at i : ℕ) → DigitsTo s at i → i + block ≤ length s → i + block - at ≤ max-line-digits → Digits (take block (drop i s)) → DigitsTo s at (i + block)
+pub digits-to-block : (s : List ℕ) (at i : ℕ) → DigitsTo s at i → i + block ≤ length s → i + block - at ≤ max-line-digits → Digits (take block (drop i s))
+    → DigitsTo s at (i + block)
 digits-to-block s at i p h l d =
     let e : i + block - at ≡ i - at + block = omega (arith, p .begun) in
     let j : at + (i - at) ≡ i = omega (arith, p .begun) in

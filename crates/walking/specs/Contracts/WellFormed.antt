@@ -9,14 +9,14 @@ use Rattle.solving.specs.Walk.{enough, fully-reduced, treat}
 use Rattle.solving.specs.Contracts.Within.{AllWithin}
 use Rattle.unifying.specs.Contracts.PrefixForm.{view-of}
 use Rattle.unifying.specs.Contracts.Bindings.{bindings-of, Readable}
-use Rattle.lines.specs.Contracts.Stored.{Stored}
+use Rattle.lines.specs.Contracts.Resting.{RestingLine}
 
 -- All of these elements are fully reduced under the bindings.
 abbrev pub AllReduced : (nodes sizes bindings : List ℕ) → List Element → Type 0
 AllReduced nodes sizes bs [] = Unit {0}
 AllReduced nodes sizes bs (e ∷ es) = (treat enough (view-of nodes sizes) (bindings-of bs) e ≡ fully-reduced) × AllReduced nodes sizes bs es
 
-pub record Sound (nodes sizes : List ℕ) (l : Stored) : Type 0 where
+pub record WellFormed (nodes sizes : List ℕ) (l : RestingLine) : Type 0 where
   pub readable : Readable nodes sizes (l .bindings)
   pub within : AllWithin (length nodes) (l .elements)
   pub few : length (l .elements) ≤ max-elements

@@ -8,7 +8,7 @@ use native.Mathlib.Nat.{add-zero, zero-add, suc-add}
 use native.Mathlib.Numerals.{add-one}
 use native.Mathlib.Omega.{arith}
 use Rattle.lines.specs.Contracts.Layout.{line-bytes, placed}
-use Rattle.lines.specs.Contracts.Place.{Gap}
+use Rattle.lines.specs.Contracts.Room.{Gap}
 
 -- One more element of a part.
 pub slice-suc : (f t : ℕ) (l : List ℕ) → f ≤ t → t < length l → slice f (suc t) l ≡ slice f t l ++ (getD l t 0 ∷ [])

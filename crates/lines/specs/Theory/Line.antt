@@ -1,18 +1,18 @@
 -- The laws of a line by its named parts.
 use Prim.Native.Nat.{ℕ, _+_, _-_, _≤_, _<_}
 use mathlib.Core.Path.{_≡_, refl, sym, ap, _∙_}
-use mathlib.Core.List.{List, [], _∷_, map}
+use mathlib.Core.List.{[], _∷_, map}
 use lib.ListN.{length, getD, take, drop, length-map, length-drop, List·getD-map}
-use lib.Seq.{slice, length-slice, length-take-le, getD-take, getD-drop, ext-getD}
+use lib.Seq.{slice, length-slice, getD-take, getD-drop, ext-getD}
 use native.Mathlib.Omega.{arith}
-use Rattle.format.specs.Limits.{variable-count, max-elements}
-use Rattle.solving.specs.Line.{Element, greater, line, no-bindings}
+use Rattle.format.specs.Limits.{max-elements}
+use Rattle.solving.specs.Line.{greater, line, no-bindings}
 use Rattle.unifying.specs.Contracts.Bindings.{bindings-of}
 use Rattle.lines.specs.declared.element.Relation.the-variants.{Greater}
 use Rattle.lines.specs.declared.element.Element.{Element as Held}
-use Rattle.lines.specs.declared.line.Line.{Line as Named}
-use Rattle.lines.specs.Contracts.Stored.{said, meaning, Stored, line-of}
-use Rattle.lines.specs.Contracts.Named.{opening-line, elements-from, Holds}
+use Rattle.lines.specs.declared.line.Line.{Line as LineValue}
+use Rattle.lines.specs.Contracts.Resting.{said, meaning, RestingLine, line-of}
+use Rattle.lines.specs.Contracts.Line.{opening-line, elements-from, Holds}
 
 -- The walk's first line.
 pub opening-means : (s t : ℕ) → line-of (opening-line s t) ≡ line no-bindings (greater s t ∷ [])
@@ -24,7 +24,7 @@ abbrev pub unfilled : Held
 unfilled = record { relation = Greater 0 0 }
 
 -- A line holds what rests if each of its elements from `reduced` on does.
-pub elements-hold : (l : Named) (s : Stored) → length (l .elements) ≡ max-elements → length (s .elements) ≤ max-elements → l .bindings ≡ s .bindings → l .count ≡ length (s .elements)
+pub elements-hold : (l : LineValue) (s : RestingLine) → length (l .elements) ≡ max-elements → length (s .elements) ≤ max-elements → l .bindings ≡ s .bindings → l .count ≡ length (s .elements)
     → l .reduced ≡ s .reduced → ((i : ℕ) → s .reduced ≤ i → i < l .count → meaning (getD (l .elements) i unfilled) ≡ getD (s .elements) i (greater 0 0)) → Holds l s
 unfolding elements-from meaning said
 elements-hold l s places few b c r e = record {

@@ -1,27 +1,20 @@
--- `last_count` meets its contract, by the order of the symbols.
+-- `count_last_choices` meets its contract, by the order of the symbols.
 use borrow.Author.Needs.{needs}
 use Rattle.walking.proofs.Splitting.{last-more, last-same, last-none}
-use Rattle.walking.proofs.split.last_count.Statement.{statement}
-use Rattle.walking.proofs.split.last_count.Tie as tie
-use Rattle.walking.proofs.split.last_count.Reads as reads
-use Rattle.walking.proofs.split.last_count.Lts as lts
-use Rattle.walking.proofs.split.lesser.Reads as lesser-reads
+use Rattle.walking.proofs.split.count_last_choices.Statement.{statement}
+use Rattle.walking.proofs.split.count_last_choices.Tie as tie
 
--- src/split.rt:26:9
 returns : tie.Need-returns
 returns c = last-more (c .before .args .f) (c .before .args .g) (c .before .args .m) (c .before .args .n) (c .if1 .taken)
 
--- src/split.rt:29:9
 lesser-requires : tie.Need-lesser-requires
 lesser-requires c κs = search needs
 
--- src/split.rt:29:9
 returns-2 : tie.Need-returns-2
 returns-2 c = last-same (c .before .before .before .args .f) (c .before .before .before .args .g) (c .before .before .before .args .m) (c .before .before .before .args .n) (c .lesser .result) (c .before .if2 .taken) (c .lesser .ensures)
 
--- src/split.rt:22:1
 returns-3 : tie.Need-returns-3
 returns-3 c = last-none (c .before .before .args .f) (c .before .before .args .g) (c .before .before .args .m) (c .before .before .args .n) (c .before .if1 .left) (c .if2 .left)
 
-pub last-count-spec : {M : Type 1} → statement M
-last-count-spec = tie.close (tie.spec returns lesser-requires returns-2 returns-3)
+pub count-last-choices-spec : {M : Type 1} → statement M
+count-last-choices-spec = tie.close (tie.spec returns lesser-requires returns-2 returns-3)

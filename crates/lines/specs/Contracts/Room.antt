@@ -6,13 +6,13 @@ use lib.ListN.{length, getD, drop}
 use Rattle.format.specs.Limits.{variable-count, max-elements, no-position}
 use Rattle.solving.specs.Line.{Element}
 use Rattle.lines.specs.Contracts.Layout.{count-place, line-bytes}
-use Rattle.lines.specs.Contracts.Stored.{marks, padding, Stored, stored-bytes}
+use Rattle.lines.specs.Contracts.Resting.{marks, padding, RestingLine, resting-bytes}
 
 -- The bytes of lines, one behind the other.
-unfoldable pub lines-bytes : List Stored → List ℕ
-unfolding stored-bytes
+unfoldable pub lines-bytes : List RestingLine → List ℕ
+unfolding resting-bytes
 lines-bytes [] = []
-lines-bytes (l ∷ ls) = stored-bytes l ++ lines-bytes ls
+lines-bytes (l ∷ ls) = resting-bytes l ++ lines-bytes ls
 
 -- A line's bytes with room for `n` elements between `front` and `back`.
 pub record Gap (line front : List ℕ) (n : ℕ) (back : List ℕ) : Type 0 where
@@ -49,5 +49,5 @@ pub record WideningFits (i n : ℕ) (line : List ℕ) : Type 0 where
 -- Room for `n` elements in the place of element `i`.
 pub record Widened (i n : ℕ) (before after : List ℕ) : Type 0 where
   pub opens : (bindings : List ℕ) (pre post : List Element) (e : Element) (r : ℕ) → length bindings ≡ variable-count → length pre ≡ i
-      → before ≡ stored-bytes (record { bindings = bindings; elements = pre ++ e ∷ post; reduced = r })
+      → before ≡ resting-bytes (record { bindings = bindings; elements = pre ++ e ∷ post; reduced = r })
       → Gap after (front-bytes bindings (length pre + n + length post) pre) n (back-bytes (length pre + n + length post) post (length pre))

@@ -6,26 +6,24 @@ use lib.ListN.{length, getD, take, drop, replicate}
 use lib.Seq.{slice}
 use Rattle.format.specs.Limits.{variable-count, max-elements, no-position}
 use Rattle.solving.specs.Line.{Element, greater}
-use Rattle.lines.specs.declared.element.Relation.the-variants.{Greater}
-use Rattle.lines.specs.declared.element.Element.{Element as Held}
 use Rattle.lines.specs.declared.line.Line.{Line}
 use Rattle.lines.specs.Contracts.Layout.{count-place, reduced-place, line-bytes, placed}
-use Rattle.lines.specs.Contracts.Stored.{meaning, Markable, Stored, stored-bytes}
+use Rattle.lines.specs.Contracts.Resting.{meaning, Markable, RestingLine, resting-bytes}
 
 -- "up to 40 elements": the first `count` of its places.
-unfoldable pub stored-of : Line → Stored
+unfoldable pub resting-of : Line → RestingLine
 unfolding meaning
-stored-of l = record { bindings = l .bindings; elements = map meaning (take (l .count) (l .elements)); reduced = l .reduced }
+resting-of l = record { bindings = l .bindings; elements = map meaning (take (l .count) (l .elements)); reduced = l .reduced }
 
 -- "at first the one line with s > t and no binding"
-unfoldable pub opening-line : (s t : ℕ) → Stored
+unfoldable pub opening-line : (s t : ℕ) → RestingLine
 opening-line s t = record { bindings = replicate variable-count no-position; elements = greater s t ∷ []; reduced = 0 }
 
 -- The line's bytes can be written: none of its elements is known to be fully reduced.
 pub record Writable (l : Line) : Type 0 where
   pub few : l .count ≤ max-elements
   pub fresh : l .reduced ≡ 0
-  pub markable : Markable (stored-of l .elements)
+  pub markable : Markable (resting-of l .elements)
 
 -- The bindings and the counts of the line that rests at `place`.
 pub record HasHead (memory : List ℕ) (place : ℕ) (l : Line) : Type 0 where
@@ -46,21 +44,21 @@ pub record ElementsFit (l : Line) (from to : ℕ) (bytes : List ℕ) : Type 0 wh
   pub room : to + 2 * (l .count - from) ≤ length bytes
 
 -- The line holds what rests: the bindings, the counts, and each element that is not known to be fully reduced.
-pub record Holds (l : Line) (s : Stored) : Type 0 where
+pub record Holds (l : Line) (s : RestingLine) : Type 0 where
   pub bindings-are : l .bindings ≡ s .bindings
   pub count-is : l .count ≡ length (s .elements)
   pub reduced-is : l .reduced ≡ s .reduced
   pub elements-are : (from : ℕ) → s .reduced ≤ from → elements-from l from ≡ drop from (s .elements)
 
 -- The line without its element `at`; those in front of it are known to be fully reduced.
-abbrev pub without : (at : ℕ) → Stored → Stored
+abbrev pub without : (at : ℕ) → RestingLine → RestingLine
 without at s = record { bindings = s .bindings; elements = take at (s .elements) ++ drop (at + 1) (s .elements); reduced = at }
 
 -- The line rests at `place`, and element `at` is one of those that it holds.
 pub record RemovalFits (l : Line) (place at : ℕ) (memory : List ℕ) : Type 0 where
-  pub resting : Stored
+  pub resting : RestingLine
   pub holds : Holds l resting
-  pub there : slice place (place + line-bytes) memory ≡ stored-bytes resting
+  pub there : slice place (place + line-bytes) memory ≡ resting-bytes resting
   pub whole : place + line-bytes ≤ length memory
   pub slots : length (resting .bindings) ≡ variable-count
   pub few : length (resting .elements) ≤ max-elements
@@ -69,5 +67,5 @@ pub record RemovalFits (l : Line) (place at : ℕ) (memory : List ℕ) : Type 0 
   pub inside : at < length (resting .elements)
 
 pub record Removes (l : Line) (place at : ℕ) (before after : List ℕ) : Type 0 where
-  pub removes : (s : Stored) → Holds l s → slice place (place + line-bytes) before ≡ stored-bytes s → length (s .bindings) ≡ variable-count → length (s .elements) ≤ max-elements
-      → at < length (s .elements) → s .reduced ≤ at → after ≡ placed place (stored-bytes (without at s)) before
+  pub removes : (s : RestingLine) → Holds l s → slice place (place + line-bytes) before ≡ resting-bytes s → length (s .bindings) ≡ variable-count → length (s .elements) ≤ max-elements
+      → at < length (s .elements) → s .reduced ≤ at → after ≡ placed place (resting-bytes (without at s)) before

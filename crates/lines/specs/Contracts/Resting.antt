@@ -40,12 +40,12 @@ Markable (equal p q ∷ es) = (p < equality-mark) × Markable es
 Markable (greater p q ∷ es) = Markable es
 
 -- A line that rests.
-pub record Stored : Type 0 where
+pub record RestingLine : Type 0 where
   pub bindings : List ℕ
   pub elements : List Element
   pub reduced : ℕ
 
-unfoldable pub line-of : Stored → Line
+unfoldable pub line-of : RestingLine → Line
 unfolding bindings-of
 line-of l = line (bindings-of (l .bindings)) (l .elements)
 
@@ -53,6 +53,6 @@ line-of l = line (bindings-of (l .bindings)) (l .elements)
 unfoldable pub padding : ℕ → List ℕ
 padding count = replicate (2 * (max-elements - count)) no-position
 
-unfoldable pub stored-bytes : Stored → List ℕ
+unfoldable pub resting-bytes : RestingLine → List ℕ
 unfolding marks padding
-stored-bytes l = l .bindings ++ (length (l .elements) ∷ (marks (l .elements) ++ (padding (length (l .elements)) ++ (l .reduced ∷ []))))
+resting-bytes l = l .bindings ++ (length (l .elements) ∷ (marks (l .elements) ++ (padding (length (l .elements)) ++ (l .reduced ∷ []))))
