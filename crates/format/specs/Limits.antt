@@ -1,6 +1,10 @@
 -- The fixed numbers of document 01, each named here and nowhere else.
 use Prim.Native.Nat.{ℕ, _+_, _*_}
 
+-- "A node is one byte." The greatest byte.
+abbrev pub max-byte : ℕ
+max-byte = 0xff
+
 -- 'The sheet'.
 -- "A sheet is text of 1 to 16,384 bytes."
 abbrev pub max-text : ℕ

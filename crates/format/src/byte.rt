@@ -1,12 +1,14 @@
 // The classes of node bytes.
+use crate::limits::Limits;
 ghost use mathlib.Core.Path.{_≡_};
 ghost use Prim.Native.Nat.{_≤_};
+ghost use Rattle.format.specs.Limits.{max-byte};
 ghost use Rattle.format.specs.Byte.{class-of};
 
 // A byte as a number of any use.
 pub fn wide(x: u8) -> usize
     ensures { λ r. ⌜ r ≡ x ⌝ }
-    ensures { λ r. ⌜ r ≤ 255 ⌝ }
+    ensures { λ r. ⌜ r ≤ max-byte ⌝ }
 {
     x as usize
 }
@@ -23,7 +25,7 @@ pub fn classify(b: u8) -> Class
 {
     match b {
         0..=15 => Class::Symbol(b),
-        128..=135 => Class::Variable(b - 128),
+        128..=135 => Class::Variable(b - Limits::FIRST_VARIABLE),
         _ => Class::Foreign,
     }
 }

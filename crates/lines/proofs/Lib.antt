@@ -1,7 +1,3 @@
-pub mod Arguments
-pub mod Exceeding
-pub mod Lexicographic
-pub mod Marked
 pub mod Rebinding
 pub mod Shifting
 pub mod Sizes

@@ -1,6 +1,5 @@
 -- What the contracts of the code cite.
 pub mod Rebind
-pub mod Choices
 pub mod Layout
 pub mod Line
 pub mod Resting

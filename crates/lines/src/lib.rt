@@ -1,5 +1,4 @@
 // Lines: their elements, a line by its named parts, and the bytes of lines in the memory of the walk.
-pub mod choices;
 pub mod edit;
 pub mod element;
 pub mod layout;

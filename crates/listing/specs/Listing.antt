@@ -13,7 +13,7 @@ use Rattle.terms.specs.Term.{Term, Values}
 use Rattle.terms.specs.Equation.{Equation, Direction, left-right, right-left, direction-number, term-at}
 use Rattle.terms.specs.Prefix.{prefix}
 use Rattle.ordering.specs.Verdict.{verdict, verdict-number}
-use Rattle.sheet.specs.Text.{LF}
+use Rattle.sheet.specs.Text.{LF, base}
 use Rattle.sheet.specs.Sheet.{Task, run, judgement, comparison, Sheet}
 use Rattle.sheet.specs.Reading.{Reading, refused-at, accepted, read}
 use Rattle.solving.specs.Line.{Bindings, Element, equal, greater, Line, line}
@@ -29,7 +29,7 @@ digit-byte n = elim (ltb n 10) [ true ↦ 0x30 + n | false ↦ 0x57 + n ]
 unfoldable pub digits : List ℕ → List ℕ
 unfolding digit-byte
 digits [] = []
-digits (b ∷ bs) = digit-byte (b / 16) ∷ digit-byte (b % 16) ∷ digits bs
+digits (b ∷ bs) = digit-byte (b / base) ∷ digit-byte (b % base) ∷ digits bs
 
 unfoldable pub printed : (frames : List (List ℕ)) → List ℕ
 unfolding digits

@@ -82,7 +82,9 @@ none-next k i g h n = record {
 }
 
 pub zero-found : (k : Known) (i : ℕ) → i < k .symbols → getD (k .arities) i 0 ≡ 0 → any (λ a. eqb a 0) (known-arities k) ≡ true
-zero-found k i h e = any-at (λ a. eqb a 0) (known-arities k) i (omega (arith, length-listed (k .symbols) (k .arities))) (eq-eqb (getD (known-arities k) i 0) 0 (getD-listed (k .symbols) (k .arities) i h ∙ e))
+zero-found k i h e =
+    any-at (λ a. eqb a 0) (known-arities k) i (omega (arith, length-listed (k .symbols) (k .arities)))
+    (eq-eqb (getD (known-arities k) i 0) 0 (getD-listed (k .symbols) (k .arities) i h ∙ e))
 
 pub none-found : (k : Known) (i : ℕ) → NoneZero k i → k .symbols ≤ i → any (λ a. eqb a 0) (known-arities k) ≡ false
 none-found k i g h = let e : k .symbols ≡ i = omega (arith, g .inside) in ap (λ m. any (λ a. eqb a 0) (listed m (k .arities))) e ∙ g .none
@@ -92,15 +94,21 @@ pub length-between : (text : List ℕ) (n at : ℕ) → at + 2 * n ≤ length te
 length-between text zero at h = ap length (between-end text at (at + 2 * 0) (omega arith))
 length-between text (suc n) at h =
     let e : at + 2 * suc n ≡ at + 2 + 2 * n = omega arith in
-    ap length (between-cons text at (at + 2 * suc n) (omega arith) h) ∙ ap suc (ap (λ m. length (bytes-between text (at + 2) m)) e ∙ length-between text n (at + 2) (omega arith))
+    ap length (between-cons text at (at + 2 * suc n) (omega arith) h)
+    ∙ ap suc (ap (λ m. length (bytes-between text (at + 2) m)) e ∙ length-between text n (at + 2) (omega arith))
 
 getD-between : (text : List ℕ) (n at i : ℕ) → at + 2 * n ≤ length text → i < n → getD (bytes-between text at (at + 2 * n)) i 0 ≡ pair-at text (at + 2 * i)
 getD-between text zero at i h l = absurd (omega arith)
-getD-between text (suc n) at zero h l = let e : at + 2 * 0 ≡ at = omega arith in ap (λ bs. getD bs 0 0) (between-cons text at (at + 2 * suc n) (omega arith) h) ∙ ap (pair-at text) (sym e)
+getD-between text (suc n) at zero h l =
+    let e : at + 2 * 0 ≡ at = omega arith in
+    ap (λ bs. getD bs 0 0) (between-cons text at (at + 2 * suc n) (omega arith) h) ∙ ap (pair-at text) (sym e)
 getD-between text (suc n) at (suc i) h l =
     let e : at + 2 * suc n ≡ at + 2 + 2 * n = omega arith in
     let d : at + 2 + 2 * i ≡ at + 2 * suc i = omega arith in
-    ap (λ bs. getD bs (suc i) 0) (between-cons text at (at + 2 * suc n) (omega arith) h) ∙ ap (λ m. getD (bytes-between text (at + 2) m) i 0) e ∙ getD-between text n (at + 2) i (omega arith) (omega arith) ∙ ap (pair-at text) d
+    ap (λ bs. getD bs (suc i) 0) (between-cons text at (at + 2 * suc n) (omega arith) h)
+    ∙ ap (λ m. getD (bytes-between text (at + 2) m) i 0) e
+    ∙ getD-between text n (at + 2) i (omega arith) (omega arith)
+    ∙ ap (pair-at text) d
 
 module _ (text : List ℕ) (from n : ℕ) where
   pub body : List ℕ
@@ -151,7 +159,9 @@ module _ (text : List ℕ) (from n : ℕ) (r : AritiesReady text from n) where
 
   right-tests : symbols-right n (body text from n) ≡ (all (λ a. leb a max-arity) (body text from n) && any (λ a. eqb a 0) (body text from n))
   unfolding symbols-right
-  right-tests = go (leb 1 n) (leb n max-symbols) (eqb (length (body text from n)) n) (le-leb 1 n (r .some-symbol)) (le-leb n max-symbols (r .few-symbols)) (eq-eqb (length (body text from n)) n length-body)
+  right-tests =
+      go (leb 1 n) (leb n max-symbols) (eqb (length (body text from n)) n) (le-leb 1 n (r .some-symbol)) (le-leb n max-symbols (r .few-symbols))
+      (eq-eqb (length (body text from n)) n length-body)
     where
       go : (a b c : Bool) → a ≡ true → b ≡ true → c ≡ true
           → (a && b && c && all (λ a. leb a max-arity) (body text from n) && any (λ a. eqb a 0) (body text from n)) ≡ (all (λ a. leb a max-arity) (body text from n) && any (λ a. eqb a 0) (body text from n))
@@ -215,14 +225,18 @@ no-body text from end e = ap symbols-body (between-end text from end (omega arit
 
 module _ (text : List ℕ) (from end : ℕ) (r : BodyReady text from end) (some-byte : from ≡ end → ⊥) where
   length-rest : (n : ℕ) → end - (from + 2) ≡ 2 * n → length (bytes-between text (from + 2) end) ≡ n
-  length-rest n e = let d : end ≡ from + 2 + 2 * n = omega (arith, two-more text from end r some-byte) in ap (λ m. length (bytes-between text (from + 2) m)) d ∙ length-between text n (from + 2) (omega (arith, r .inside))
+  length-rest n e =
+      let d : end ≡ from + 2 + 2 * n = omega (arith, two-more text from end r some-byte) in
+      ap (λ m. length (bytes-between text (from + 2) m)) d ∙ length-between text n (from + 2) (omega (arith, r .inside))
 
   wrong-body : symbols-right (pair-at text from) (bytes-between text (from + 2) end) ≡ false → symbols-body (bytes-between text from end) ≡ refuse SymbolFrame
   wrong-body e = ap symbols-body (first-byte text from end r some-byte) ∙ count-wrong (pair-at text from) (bytes-between text (from + 2) end) e
 
   pub no-symbols : {n : ℕ} → n ≡ pair-at text from → n ≡ 0 → symbols-body (bytes-between text from end) ≡ refuse SymbolFrame
   unfolding symbols-right
-  no-symbols {n} e d = wrong-body (and-five (leb 1 m) (leb m max-symbols) (eqb (length as′) m) _ _ (ap (λ x. x && leb m max-symbols && eqb (length as′) m) (lt-leb 1 m (omega arith))))
+  no-symbols {n} e d =
+      wrong-body
+      (and-five (leb 1 m) (leb m max-symbols) (eqb (length as′) m) _ _ (ap (λ x. x && leb m max-symbols && eqb (length as′) m) (lt-leb 1 m (omega arith))))
     where
       m : ℕ
       m = pair-at text from

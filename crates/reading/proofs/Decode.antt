@@ -9,7 +9,7 @@ use native.Mathlib.Omega.{arith}
 use Rattle.format.specs.Buffer.{written}
 use Rattle.scanning.specs.Contracts.Digits.{BodyReady, pair-at, bytes-between}
 use Rattle.reading.specs.Contracts.Seek.{Spans, Decoded}
-use Rattle.sheet.specs.Contracts.Bytes.{max-byte}
+use Rattle.format.specs.Limits.{max-byte}
 use Rattle.scanning.specs.Theory.Between.{between-end, two-more, first-byte, byte-small, body-behind}
 
 -- 1. The first of the bytes written, and those behind it.

@@ -44,7 +44,8 @@ long-text text h = ap (λ t. sized text (leb 1 (length text) && t)) (lt-leb (len
 
 right-text : (text : List ℕ) → 1 ≤ length text → length text ≤ max-text → read text ≡ read-lines start 0 (lines-of text)
 unfolding read sized
-right-text text n h = ap (sized text) (both (leb 1 (length text)) (leb (length text) max-text) (le-leb 1 (length text) (omega arith)) (le-leb (length text) max-text h))
+right-text text n h =
+    ap (sized text) (both (leb 1 (length text)) (leb (length text) max-text) (le-leb 1 (length text) (omega arith)) (le-leb (length text) max-text h))
   where
     both : (x y : Bool) → x ≡ true → y ≡ true → (x && y) ≡ true
     both x y d e = ap (_&& y) d ∙ e
@@ -83,7 +84,10 @@ module _ (text : List ℕ) (k : Known) (at line : ℕ) (p : Passing text k at li
   pub line-broken : NoFrame text at → read text ≡ refused-at Digits (line + 1)
   unfolding after-line
   line-broken n =
-      p .same ∙ ap (read-lines (p .state) line) (n .is-first) ∙ lines-step (p .state) line (n .line) (n .more) (refuse Digits) (broken-line (p .state) (n .line) (n .no-frame)) ∙ ap (refused-at Digits) (sym (add-one line))
+      p .same
+      ∙ ap (read-lines (p .state) line) (n .is-first)
+      ∙ lines-step (p .state) line (n .line) (n .more) (refuse Digits) (broken-line (p .state) (n .line) (n .no-frame))
+      ∙ ap (refused-at Digits) (sym (add-one line))
 
   module _ (end : ℕ) (l : LineTo text at end) where
     text-line : TextLine
@@ -105,7 +109,10 @@ module _ (text : List ℕ) (k : Known) (at line : ℕ) (p : Passing text k at li
     unfolding text-line after-line
     line-refused k′ o {x} h d =
         let r : read-frame (p .state) (bytes-between text at end) ≡ refuse x = subst (FrameRead (read-frame (p .state) (bytes-between text at end)) k′) d (h (p .state) (p .knows)) in
-        p .same ∙ ap (read-lines (p .state) line) (l .is-first) ∙ lines-step (p .state) line text-line (lines-of (drop (end + 1) text)) (refuse x) (text-line-is ∙ r) ∙ ap (refused-at x) (sym (add-one line))
+        p .same
+        ∙ ap (read-lines (p .state) line) (l .is-first)
+        ∙ lines-step (p .state) line text-line (lines-of (drop (end + 1) text)) (refuse x) (text-line-is ∙ r)
+        ∙ ap (refused-at x) (sym (add-one line))
 
     pub line-next : (k′ : Known) (o : ReadStatus) → ((state : State) → Knows k state → FrameRead (read-frame state (bytes-between text at end)) k′ o) → o ≡ Done
         → Passing text k′ (end + 1) (line + 1)

@@ -8,10 +8,9 @@ use Rattle.format.specs.Kind.{kind-byte, kind-of}
 use Rattle.format.specs.declared.kind.FrameKind.{FrameKind}
 use Rattle.format.specs.declared.kind.FrameKind.the-variants.{Equation as equation-kind, Run as run-kind, Judgement as judgement-kind, Comparison as comparison-kind}
 use Rattle.format.specs.Theory.Kind.{kind-of-byte}
-use Rattle.format.specs.Limits.{max-equations, max-tasks, position-count}
+use Rattle.format.specs.Limits.{max-equations, max-tasks, position-count, max-byte}
 use Rattle.terms.specs.Equation.{Equation, direction-number}
 use Rattle.terms.specs.Prefix.{prefix, prefixes, equation-bytes}
-use Rattle.sheet.specs.Contracts.Bytes.{max-byte}
 use Rattle.scanning.specs.declared.known.Known.{Known}
 use Rattle.reading.specs.declared.seek.TaskHead.the-variants.{Run, Judgement, Comparison}
 use Rattle.sheet.specs.Sheet.{Task, run, judgement, comparison}
@@ -34,7 +33,9 @@ module _ (text : List ℕ) (known : Known) (e : ℕ) (a : Accepts text known) (l
   module _ (from end : ℕ) (f : (frame : List ℕ) → FrameIn text (e + 1) frame → Spans text from end frame) where
     pub equation-inside : from + 2 ≤ length text
     unfolding equation-frame
-    equation-inside = let (q, h) = equation-asked text known e a l in spans-inside text from end (kind-byte equation-kind) (equation-bytes q) (f (equation-frame q) (equation-line text e q h))
+    equation-inside =
+        let (q, h) = equation-asked text known e a l in
+        spans-inside text from end (kind-byte equation-kind) (equation-bytes q) (f (equation-frame q) (equation-line text e q h))
 
     pub equation-spans : (q : Equation) → EquationIn text e q → Spans text (from + 2) end (equation-bytes q)
     unfolding equation-frame

@@ -9,7 +9,7 @@ use lib.Dec.{leb, ltb, eqb}
 use borrow.Author.Tests.{le-leb, lt-leb, lt-ltb, le-ltb, eq-eqb, ne-eqb}
 use native.Mathlib.Numerals.{add-one}
 use native.Mathlib.Omega.{arith}
-use Rattle.format.specs.Limits.{max-symbols, max-equations, max-tasks, variable-count}
+use Rattle.format.specs.Limits.{max-symbols, max-equations, max-tasks, variable-count, max-byte}
 use Rattle.format.specs.Kind.{kind-of}
 use Rattle.format.specs.declared.kind.FrameKind.{FrameKind}
 use Rattle.format.specs.declared.kind.FrameKind.the-variants.{Symbols as symbols-kind, Equation as equation-kind, Run as run-kind, Judgement as judgement-kind, Comparison as comparison-kind, Unknown as unknown-kind}
@@ -28,7 +28,7 @@ use Rattle.scanning.specs.Contracts.Scan.{listed, known-arities, Matches, Equat
 use Rattle.scanning.specs.Contracts.Known.{KnowsSheet}
 use Rattle.reading.specs.Contracts.Symbols.{symbols-only, SymbolsRead}
 use Rattle.reading.specs.Contracts.Reader.{Knows, FrameRead}
-use Rattle.sheet.specs.Contracts.Bytes.{Bytes, max-byte}
+use Rattle.sheet.specs.Contracts.Bytes.{Bytes}
 use Rattle.scanning.specs.Theory.Listed.{length-listed, listed-more, listed-set}
 use Rattle.scanning.specs.Theory.Between.{two-more, first-byte, byte-small, body-behind}
 use Rattle.scanning.specs.Theory.Status.{matches-map}
@@ -84,7 +84,9 @@ module _ (k : Known) (s : Sheet) (knows : KnowsSheet k s) where
   module _ (a : k .tasks ≤ 0) (b : k .equations < max-equations) where
     takes : takes-equation s ≡ true
     unfolding takes-equation
-    takes = both (eqb (length (s .tasks)) 0) (ltb (length (s .equations)) max-equations) (eq-eqb (length (s .tasks)) 0 (omega (arith, knows .tasks-are))) (lt-ltb (length (s .equations)) max-equations (omega (arith, knows .equations-are)))
+    takes =
+        both (eqb (length (s .tasks)) 0) (ltb (length (s .equations)) max-equations) (eq-eqb (length (s .tasks)) 0 (omega (arith, knows .tasks-are)))
+        (lt-ltb (length (s .equations)) max-equations (omega (arith, knows .equations-are)))
       where
         both : (x y : Bool) → x ≡ true → y ≡ true → (x && y) ≡ true
         both x y d e = ap (_&& y) d ∙ e
@@ -134,7 +136,9 @@ module _ (k : Known) (s : Sheet) (knows : KnowsSheet k s) where
 
   pub before-equations : k .equations ≡ 0 → (kind : FrameKind) → (kind ≡ equation-kind → ⊥) → (bs : List ℕ) → read-kind (within s) kind bs ≡ refuse FrameOrder
   unfolding takes-task
-  before-equations h kind n bs = unordered (within s) kind bs (not-task (ap (_&& ltb (length (s .tasks)) max-tasks) (lt-leb 1 (length (s .equations)) (omega (arith, knows .equations-are)))) kind n)
+  before-equations h kind n bs =
+      unordered (within s) kind bs
+      (not-task (ap (_&& ltb (length (s .tasks)) max-tasks) (lt-leb 1 (length (s .equations)) (omega (arith, knows .equations-are)))) kind n)
 
   pub tasks-full : max-tasks ≤ k .tasks → (kind : FrameKind) → (kind ≡ equation-kind → ⊥) → (bs : List ℕ) → read-kind (within s) kind bs ≡ refuse FrameOrder
   unfolding takes-task
@@ -143,7 +147,9 @@ module _ (k : Known) (s : Sheet) (knows : KnowsSheet k s) where
   module _ (a : k .equations ≡ 0 → ⊥) (b : k .tasks < max-tasks) (kind : FrameKind) (n : kind ≡ equation-kind → ⊥) where
     takes-one : takes-task s ≡ true
     unfolding takes-task
-    takes-one = both (leb 1 (length (s .equations))) (ltb (length (s .tasks)) max-tasks) (le-leb 1 (length (s .equations)) (omega (arith, knows .equations-are))) (lt-ltb (length (s .tasks)) max-tasks (omega (arith, knows .tasks-are)))
+    takes-one =
+        both (leb 1 (length (s .equations))) (ltb (length (s .tasks)) max-tasks) (le-leb 1 (length (s .equations)) (omega (arith, knows .equations-are)))
+        (lt-ltb (length (s .tasks)) max-tasks (omega (arith, knows .tasks-are)))
       where
         both : (x y : Bool) → x ≡ true → y ≡ true → (x && y) ≡ true
         both x y d e = ap (_&& y) d ∙ e

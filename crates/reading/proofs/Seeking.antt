@@ -51,14 +51,16 @@ module _ (text : List ℕ) (n at left : ℕ) (g : Seeking text n at left) where
 
   pub seeking-line : 0 < left → getD text at 0 ≡ LF → Seeking text n (at + 1) (left - 1)
   unfolding entry
-  seeking-line h e = moved (ap (λ t. entry (lines-of t) left) (here ∙ ap (_∷ drop (at + 1) text) e) ∙ ap (λ rs. entry rs left) (lines-LF (drop (at + 1) text)) ∙ next left h)
+  seeking-line h e =
+      moved (ap (λ t. entry (lines-of t) left) (here ∙ ap (_∷ drop (at + 1) text) e) ∙ ap (λ rs. entry rs left) (lines-LF (drop (at + 1) text)) ∙ next left h)
     where
       next : (m : ℕ) → 0 < m → entry (ended [] ∷ lines-of (drop (at + 1) text)) m ≡ entry (lines-of (drop (at + 1) text)) (m - 1)
       next zero h = absurd (omega arith)
       next (suc m) h = let z : suc m - 1 ≡ m = omega arith in ap (entry (lines-of (drop (at + 1) text))) (sym z)
 
   pub seeking-byte : 0 < left → (getD text at 0 ≡ LF → ⊥) → Seeking text n (at + 1) left
-  seeking-byte h e = moved (ap (λ t. entry (lines-of t) left) here ∙ ap (λ rs. entry rs left) (lines-byte (getD text at 0) (drop (at + 1) text) e) ∙ next left h)
+  seeking-byte h e =
+      moved (ap (λ t. entry (lines-of t) left) here ∙ ap (λ rs. entry rs left) (lines-byte (getD text at 0) (drop (at + 1) text) e) ∙ next left h)
     where
       next : (m : ℕ) → 0 < m → entry (put-byte (getD text at 0) (lines-of (drop (at + 1) text))) m ≡ entry (lines-of (drop (at + 1) text)) m
       next zero h = absurd (omega arith)
@@ -128,7 +130,8 @@ module _ (text : List ℕ) (s : Sheet) (a : read text ≡ accepted s) where
   pub equation-line-is : (e : ℕ) {q : Equation} → entry (s .equations) e ≡ some q → FrameIn text (e + 1) (equation-frame q)
   unfolding frames-of entry
   equation-line-is e {q} h =
-      subst (λ n. FrameIn text n (equation-frame q)) (sym (add-one e)) (line-is (suc e) (entry-front (map equation-frame (s .equations)) (map task-frame (s .tasks)) e (entry-map equation-frame (s .equations) e h)))
+      subst (λ n. FrameIn text n (equation-frame q)) (sym (add-one e))
+      (line-is (suc e) (entry-front (map equation-frame (s .equations)) (map task-frame (s .tasks)) e (entry-map equation-frame (s .equations) e h)))
 
   pub task-line-is : (n k : ℕ) → n ≡ length (s .equations) → {t : Task} → entry (s .tasks) k ≡ some t → FrameIn text (n + k + 1) (task-frame t)
   unfolding frames-of entry

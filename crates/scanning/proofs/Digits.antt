@@ -123,7 +123,9 @@ letter-told c w v k l d e h = go (ltb v 6) refl
         place false false p q = digit-high c (omega (arith, ltb-false c 0x61 q))
 
     go : (t : Bool) → ltb v 6 ≡ t → t ≡ ltb (digit-number c) base
-    go true x = let i = ltb-true v 6 x in sym (lt-ltb (digit-number c) base (omega (arith, number-some c (10 + (c - 0x61)) (digit-letter c (omega (arith, i)) (omega (arith, i))))))
+    go true x =
+        let i = ltb-true v 6 x in
+        sym (lt-ltb (digit-number c) base (omega (arith, number-some c (10 + (c - 0x61)) (digit-letter c (omega (arith, i)) (omega (arith, i))))))
     go false x = sym (le-ltb (digit-number c) base (omega (arith, number-none c (no-digit (ltb-false v 6 x)))))
 
 -- 2. Lines, by their digits.
@@ -290,7 +292,8 @@ tested-next s at i all one both t l h d e = record { few = omega arith; digits =
 
     go : (a o : Bool) → (a ≡ true → Digits (take i (drop at s))) → o ≡ ltb (digit-number (getD s (at + i) 0)) base → both ≡ (a && o) → both ≡ true
         → Digits (take (i + 1) (drop at s))
-    go true true f x y z = rw more (every-append (λ c. digit-number c < base) (take i (drop at s)) (getD s (at + i) 0 ∷ []) (f refl) (ltb-true _ base (sym x), tt))
+    go true true f x y z =
+        rw more (every-append (λ c. digit-number c < base) (take i (drop at s)) (getD s (at + i) 0 ∷ []) (f refl) (ltb-true _ base (sym x), tt))
     go true false f x y z = let w : _≡_ {A = ℕ} 0 1 = cc in absurd (omega arith)
     go false o f x y z = let w : _≡_ {A = ℕ} 0 1 = cc in absurd (omega arith)
 
@@ -329,4 +332,6 @@ unfolding digit-number
 digit-no-end c h e = let d : digit-number LF < base = subst (λ c. digit-number c < base) e h in omega arith
 
 pub digits-to-unended : (s : List ℕ) (at i : ℕ) → DigitsTo s at i → length s ≤ i → at < length s → NoFrame s at
-digits-to-unended s at i p h l = let e : i ≡ length s = omega (arith, p .inside) in line-unended s at i (p .begun) (p .inside) (p .few) (p .digits) e (omega arith)
+digits-to-unended s at i p h l =
+    let e : i ≡ length s = omega (arith, p .inside) in
+    line-unended s at i (p .begun) (p .inside) (p .few) (p .digits) e (omega arith)

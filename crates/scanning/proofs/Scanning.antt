@@ -8,7 +8,7 @@ use lib.Dec.{ltb}
 use borrow.Author.Tests.{lt-ltb, le-ltb}
 use native.Mathlib.Numerals.{add-one}
 use native.Mathlib.Omega.{arith}
-use Rattle.format.specs.Limits.{max-symbols, variable-count}
+use Rattle.format.specs.Limits.{max-symbols, variable-count, max-byte}
 use Rattle.format.specs.Refusal.{Result, refuse, give}
 use Rattle.format.specs.declared.refusal.Refusal.{Refusal}
 use Rattle.format.specs.declared.refusal.Refusal.the-variants.{FrameBytes, NotGround}
@@ -16,7 +16,6 @@ use Rattle.format.specs.declared.byte.Class.{Class}
 use Rattle.format.specs.Byte.{class-of}
 use Rattle.format.specs.declared.byte.Class.the-variants.{Symbol as symbol, Variable as variable, Foreign as foreign}
 use Rattle.format.specs.Theory.Byte.{symbol-class, class-symbol, class-variable}
-use Rattle.sheet.specs.Contracts.Bytes.{max-byte}
 use Rattle.scanning.specs.declared.scan.OtherNode.{OtherNode}
 use Rattle.scanning.specs.declared.scan.OtherNode.the-variants.{Variable, Refused as Node-Refused}
 use Rattle.scanning.specs.declared.scan.ReadStatus.{ReadStatus}
@@ -151,11 +150,15 @@ module _ (text : List ℕ) (d : Span) (arities : List ℕ) (w : Wanted) where
 
     pub stop-done : need ≤ 0 → Stops Done
     unfolding rest
-    stop-done h = let e : need ≡ 0 = omega arith in scanning-stop Done (ap (λ n. scan arities (w .ground) rest n room) e ∙ scan-none arities (w .ground) rest room)
+    stop-done h =
+        let e : need ≡ 0 = omega arith in
+        scanning-stop Done (ap (λ n. scan arities (w .ground) rest n room) e ∙ scan-none arities (w .ground) rest room)
 
     pub stop-early : at ≡ d .end → 0 < need → Stops (Refused FrameBytes)
     unfolding rest
-    stop-early e h = scanning-stop (Refused FrameBytes) (ap (λ bs. scan arities (w .ground) bs need room) (between-end text at (d .end) (omega arith)) ∙ scan-early arities (w .ground) need room h)
+    stop-early e h =
+        scanning-stop (Refused FrameBytes)
+        (ap (λ bs. scan arities (w .ground) bs need room) (between-end text at (d .end) (omega arith)) ∙ scan-early arities (w .ground) need room h)
 
     module _ (more : at ≡ d .end → ⊥) where
       pub next-inside : at + 2 ≤ length text
@@ -174,7 +177,8 @@ module _ (text : List ℕ) (d : Span) (arities : List ℕ) (w : Wanted) where
 
         module _ (some-room : room ≡ 0 → ⊥) where
           pub stop-refused : (x : Refusal) → after-node arities (w .ground) (class-of (pair-at text at)) (need - 1) ≡ refuse x → Stops (Refused x)
-          stop-refused x e = scanning-stop (Refused x) (cc (is-cons, scan-refused arities (w .ground) (pair-at text at) behind need room x some-need (omega arith) e))
+          stop-refused x e =
+              scanning-stop (Refused x) (cc (is-cons, scan-refused arities (w .ground) (pair-at text at) behind need room x some-need (omega arith) e))
 
           pub scanning-next : (n : ℕ) → after-node arities (w .ground) (class-of (pair-at text at)) (need - 1) ≡ give n → n ≤ max-byte + (need - 1)
               → Scanning text d arities w (at + 2) n (room - 1) (max highest (node-width (class-of (pair-at text at))))
@@ -211,11 +215,14 @@ module _ (text : List ℕ) (d : Span) (symbols : ℕ) (xs : List ℕ) (w : Wante
     (more : at ≡ d .end → ⊥) (some-need : 0 < need) (some-room : room ≡ 0 → ⊥) {b : ℕ} (is-byte : b ≡ pair-at text at) (undeclared : symbols ≤ b) (r : OtherNode)
     (read : (arities : List ℕ) (n : ℕ) → length arities ≤ b → OtherRead arities (w .ground) b n r) where
   node-read : OtherRead (listed symbols xs) (w .ground) (pair-at text at) (need - 1) r
-  node-read = subst (λ x. OtherRead (listed symbols xs) (w .ground) x (need - 1) r) is-byte (read (listed symbols xs) (need - 1) (omega (arith, length-listed symbols xs)))
+  node-read =
+      subst (λ x. OtherRead (listed symbols xs) (w .ground) x (need - 1) r) is-byte
+      (read (listed symbols xs) (need - 1) (omega (arith, length-listed symbols xs)))
 
   pub stop-other : {x : Refusal} → r ≡ Node-Refused x → ScanRead text d (listed symbols xs) w (record { status = Refused x; at = at; width = highest })
   stop-other {x} e =
-      stop-refused text d (listed symbols xs) w at need room highest g more some-need some-room x (subst (OtherRead (listed symbols xs) (w .ground) (pair-at text at) (need - 1)) e node-read)
+      stop-refused text d (listed symbols xs) w at need room highest g more some-need some-room x
+      (subst (OtherRead (listed symbols xs) (w .ground) (pair-at text at) (need - 1)) e node-read)
 
   pub scanning-variable : {v : ℕ} → r ≡ Variable v → {u : ℕ} → u ≡ max highest v → Scanning text d (listed symbols xs) w (at + 2) (need - 1) (room - 1) u
   scanning-variable {v} e x =

@@ -78,7 +78,8 @@ module _ (k : Known) (s : Sheet) (knows : KnowsSheet k s) where
   -- 3. A comparison.
   pub comparison-read : (bs : List ℕ) (o : ReadStatus) → Matches (ground-terms (known-arities k) 2 bs) o → Matches (comparison-body s bs) o
   unfolding comparison-body
-  comparison-read bs o h = matches-map (λ ts. comparison (first-term ts) (second-term ts)) (ground-terms (s .arities) 2 bs) o (same-arities (λ as′. ground-terms as′ 2 bs) o h)
+  comparison-read bs o h =
+      matches-map (λ ts. comparison (first-term ts) (second-term ts)) (ground-terms (s .arities) 2 bs) o (same-arities (λ as′. ground-terms as′ 2 bs) o h)
 
   -- 4. A judgement.
   pub judgement-short : (text : List ℕ) (from end : ℕ) → BodyReady text from end → end - from < 4
@@ -88,7 +89,9 @@ module _ (k : Known) (s : Sheet) (knows : KnowsSheet k s) where
     where
       go : (m : ℕ) → end ≡ from + 2 * m → judgement-body s (bytes-between text from end) ≡ refuse FrameBytes
       go zero e = ap (judgement-body s) (between-end text from end (omega arith))
-      go (suc zero) e = ap (judgement-body s) (between-cons text from end (omega arith) (f .inside) ∙ ap (pair-at text from ∷_) (between-end text (from + 2) end (omega arith)))
+      go (suc zero) e =
+          ap (judgement-body s)
+          (between-cons text from end (omega arith) (f .inside) ∙ ap (pair-at text from ∷_) (between-end text (from + 2) end (omega arith)))
       go (suc (suc m)) e = absurd (omega arith)
 
   module _ (text : List ℕ) (from end : ℕ) (f : BodyReady text from end) (h : 4 ≤ end - from) where
@@ -99,7 +102,9 @@ module _ (k : Known) (s : Sheet) (knows : KnowsSheet k s) where
     not-end₂ e = omega arith
 
     pub behind-two : BodyReady text (from + 4) end
-    behind-two = let e : from + 2 + 2 ≡ from + 4 = omega arith in subst (λ n. BodyReady text n end) e (body-behind text (from + 2) end (body-behind text from end f not-end) not-end₂)
+    behind-two =
+        let e : from + 2 + 2 ≡ from + 4 = omega arith in
+        subst (λ n. BodyReady text n end) e (body-behind text (from + 2) end (body-behind text from end f not-end) not-end₂)
 
     two-bytes : bytes-between text from end ≡ pair-at text from ∷ pair-at text (from + 2) ∷ bytes-between text (from + 4) end
     two-bytes = let e : from + 2 + 2 ≡ from + 4 = omega arith in first-byte text from end f not-end ∙ ap (pair-at text from ∷_) (first-byte text (from + 2) end (body-behind text from end f not-end) not-end₂ ∙ ap (λ n. pair-at text (from + 2) ∷ bytes-between text n end) e)
@@ -132,7 +137,9 @@ module _ (k : Known) (s : Sheet) (knows : KnowsSheet k s) where
 
       -- A width is that of at most eight variables.
       pub width-few : getD (k .widths) e 0 ≤ variable-count
-      width-few = let (q, i) = named in omega (arith, width-known q i, equation-width-low q (every-entry (ValidEquation (s .arities)) (s .equations) e (knows .valid .equations) i .limits))
+      width-few =
+          let (q, i) = named in
+          omega (arith, width-known q i, equation-width-low q (every-entry (ValidEquation (s .arities)) (s .equations) e (knows .valid .equations) i .limits))
 
       pub judgement-read : {d : ℕ} → d ≡ pair-at text (from + 2) → d ≤ 1 → {w : ℕ} → w ≡ getD (k .widths) e 0 → (o : ReadStatus)
           → Matches (ground-terms (known-arities k) w (bytes-between text (from + 4) end)) o

@@ -23,10 +23,10 @@ use Rattle.lines.specs.Contracts.Line.{HasHead, elements-from, Holds}
 use Rattle.lines.specs.Theory.Resting.{count-there, reduced-there, bindings-there, element-there}
 use Rattle.lines.specs.Theory.InPlace.{slice-is}
 use Rattle.lines.specs.Theory.Line.{unfilled, elements-hold}
-use Rattle.walking.specs.declared.treat.Treatment.{Treatment}
-use Rattle.walking.specs.declared.treat.Treatment.the-variants.{Reduced}
+use Rattle.treating.specs.declared.treat.Treatment.{Treatment}
+use Rattle.treating.specs.declared.treat.Treatment.the-variants.{Reduced}
 use Rattle.walking.specs.declared.walk.Walk.{Walk}
-use Rattle.walking.specs.Contracts.Treatment.{Treated}
+use Rattle.treating.specs.Contracts.Treatment.{Treated}
 use Rattle.walking.specs.Contracts.WellFormed.{AllReduced, WellFormed}
 use Rattle.walking.specs.Contracts.Walking.{HoldsTable, whole-walk, Walking, Finishing, TreatingLine}
 use Rattle.walking.proofs.Walking.{first-there}

@@ -13,25 +13,26 @@ use Rattle.format.specs.declared.refusal.Refusal.the-variants.{TooManyElements 
 use Rattle.solving.specs.Line.{Element, greater, Line, line as line-with}
 use Rattle.solving.specs.Walk.{enough, becomes, refused, argument-choices, choices, treat, treat-line, crowded}
 use Rattle.solving.specs.Contracts.Within.{Within}
-use Rattle.walking.specs.declared.treat.Sides.{Sides}
-use Rattle.walking.specs.declared.treat.Treatment.the-variants.{Split}
-use Rattle.walking.specs.declared.split.Choices.{Choices}
+use Rattle.treating.specs.declared.treat.Sides.{Sides}
+use Rattle.treating.specs.declared.treat.Treatment.the-variants.{Split}
+use Rattle.treating.specs.declared.split.Choices.{Choices}
 use Rattle.walking.specs.declared.walk.Walk.{Walk}
 use Rattle.unifying.specs.Contracts.PrefixForm.{view-of, arguments-of, Row, none, more}
 use Rattle.unifying.specs.Contracts.Bindings.{bindings-of}
 use Rattle.lines.specs.Contracts.Resting.{RestingLine, line-of, resting-bytes}
 use Rattle.lines.specs.Contracts.Layout.{line-bytes, placed}
 use Rattle.lines.specs.Contracts.Room.{lines-bytes}
-use Rattle.walking.specs.Contracts.Treatment.{BothSymbols}
-use Rattle.walking.specs.Contracts.Children.{child}
-use Rattle.walking.specs.Contracts.Splitting.{AllLong, LastChoices, HasChoices, ChoicesOf, Splitting, ChoicesFit, PushesChoices}
+use Rattle.treating.specs.Contracts.Treatment.{BothSymbols}
+use Rattle.treating.specs.Contracts.Children.{child}
+use Rattle.treating.specs.Contracts.Splitting.{AllLong, LastChoices, HasChoices, ChoicesOf, Splitting, ChoicesFit, PushesChoices}
 use Rattle.walking.specs.Contracts.Walking.{AllWellFormed, whole-walk, Treating, TreatingCount, GoesOn}
 use Rattle.unifying.specs.Theory.PrefixForm.{arguments-there}
 use Rattle.unifying.specs.Theory.Bindings.{readable-slots}
-use Rattle.walking.proofs.Treatment.{split-becomes}
+use Rattle.treating.proofs.Treatment.{split-becomes}
 use Rattle.walking.proofs.Turn.{around}
 use Rattle.walking.proofs.Walking.{first-there, well-formed-short, refused-elements, refused-lines, turned}
-use Rattle.walking.proofs.Children.{first-treated, children-lines, element-within, length-split, Fitting, children-well-formed, fitting-append, fitting-all, argument-long, argument-count, crowded-first}
+use Rattle.treating.proofs.ChoiceLines.{argument-long, argument-count}
+use Rattle.walking.proofs.Children.{first-treated, children-lines, element-within, length-split, Fitting, children-well-formed, fitting-append, fitting-all, crowded-first}
 use Rattle.walking.proofs.Treating.{after-turn, few-elements}
 
 -- There are at most as many terms in a row as it has bytes.

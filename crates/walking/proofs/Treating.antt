@@ -12,6 +12,7 @@ use Rattle.format.specs.Limits.{variable-count, max-elements, max-lines, max-tu
 use Rattle.format.specs.declared.refusal.Refusal.the-variants.{TooManyTurns as too-many-turns}
 use Rattle.solving.specs.Line.{Bindings, Element, equal, greater, line as line-with, record-of}
 use Rattle.solving.specs.Walk.{enough, becomes, refused, unified, unify, treat, treat-line}
+use Rattle.solving.specs.Theory.Written.{Inequalities}
 use Rattle.solving.specs.Contracts.Within.{Within, AllWithin}
 use Rattle.unifying.specs.declared.unify.Answer.the-variants.{Unified, Failed}
 use Rattle.unifying.specs.declared.unifier.Unifier.{Unifier}
@@ -29,18 +30,25 @@ use Rattle.lines.specs.Contracts.Line.{RemovalFits, Removes}
 use Rattle.lines.specs.Theory.Placed.{placed-none}
 use Rattle.lines.specs.Theory.InPlace.{slice-is, rebound}
 use Rattle.lines.specs.Theory.Record.{record-written}
-use Rattle.walking.specs.declared.treat.Sides.{Sides}
-use Rattle.walking.specs.declared.treat.Treatment.{Treatment}
-use Rattle.walking.specs.declared.treat.Treatment.the-variants.{Reduced, DropLine, DropElement, Unify}
+use Rattle.treating.specs.declared.treat.Sides.{Sides}
+use Rattle.treating.specs.declared.treat.Treatment.{Treatment}
+use Rattle.treating.specs.declared.treat.Treatment.the-variants.{Reduced, DropLine, DropElement, Unify}
 use Rattle.walking.specs.declared.walk.Walk.{Walk}
-use Rattle.walking.specs.Contracts.Treatment.{Treated}
-use Rattle.walking.specs.Contracts.Children.{child}
-use Rattle.walking.specs.Contracts.WellFormed.{WellFormed}
+use Rattle.treating.specs.Contracts.Treatment.{Treated}
+use Rattle.treating.specs.Contracts.Children.{child}
+use Rattle.walking.specs.Contracts.WellFormed.{AllReduced, WellFormed}
 use Rattle.walking.specs.Contracts.Walking.{whole-walk, Finishing, Treating, TreatingLine, TreatingCount, GoesOn}
-use Rattle.walking.proofs.Treatment.{reduced-inequalities, asks-becomes}
+use Rattle.treating.proofs.Treatment.{unified-not, asks-becomes}
 use Rattle.walking.proofs.Turn.{around}
 use Rattle.walking.proofs.Walking.{first-there, refused-turns, turned, finished-on}
 use Rattle.walking.proofs.Children.{first-treated, children-lines, element-within, length-split, child-well-formed, rebound-well-formed}
+
+-- A finished line has inequalities only.
+pub reduced-inequalities : (nodes sizes bs : List ℕ) (es : List Element) → AllReduced nodes sizes bs es → Inequalities es
+unfolding treat
+reduced-inequalities nodes sizes bs [] h = tt
+reduced-inequalities nodes sizes bs (equal p q ∷ es) h = absurd (unified-not (unify enough (view-of nodes sizes) (enough .unify-depth) (bindings-of bs) p q) (h .0))
+reduced-inequalities nodes sizes bs (greater p q ∷ es) h = (tt, reduced-inequalities nodes sizes bs es (h .1))
 
 -- The walk a turn further on.
 abbrev pub after-turn : Walk → ℕ → Walk

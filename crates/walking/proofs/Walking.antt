@@ -24,7 +24,7 @@ use Rattle.walking.specs.Contracts.WellFormed.{AllReduced, WellFormed}
 use Rattle.walking.specs.Contracts.Walking.{AllWellFormed, HoldsTable, whole-walk, Walking, GoesOn}
 use Rattle.unifying.specs.Theory.Bindings.{length-bindings, readable-slots}
 use Rattle.lines.specs.Theory.Placed.{placed-length}
-use Rattle.lines.specs.Theory.InPlace.{slice-is}
+use Rattle.lines.specs.Theory.InPlace.{slice-is, lines-append}
 use Rattle.lines.specs.Theory.Resting.{length-resting}
 use Rattle.walking.proofs.Turn.{Settled, leftmost-none, finished-append, turn-none, turn-some, short-append, finished-short, crowded-middle, over-elements, over-lines, within-limits, walk-ends, walk-too-long, walk-over, walk-on}
 
@@ -47,11 +47,6 @@ pub length-lines : (nodes sizes : List ℕ) (ls : List RestingLine) → AllWellF
 unfolding lines-bytes
 length-lines nodes sizes [] h = refl
 length-lines nodes sizes (l ∷ ls) h = length-append (resting-bytes l) (lines-bytes ls) ∙ omega (arith, well-formed-length l (h .0), length-lines nodes sizes ls (h .1))
-
-pub lines-append : (xs ys : List RestingLine) → lines-bytes (xs ++ ys) ≡ lines-bytes xs ++ lines-bytes ys
-unfolding lines-bytes
-lines-append [] ys = refl
-lines-append (l ∷ xs) ys = ap (resting-bytes l ++_) (lines-append xs ys) ∙ sym (append-assoc (resting-bytes l) (lines-bytes xs) (lines-bytes ys))
 
 pub well-formed-append : (nodes sizes : List ℕ) (xs ys : List RestingLine) → AllWellFormed nodes sizes xs → AllWellFormed nodes sizes ys → AllWellFormed nodes sizes (xs ++ ys)
 well-formed-append nodes sizes [] ys h k = k

@@ -1,5 +1,3 @@
 // The walk that solves s > t, over an equation's bytes and the number of nodes of the term that starts at each.
 pub mod solve;
-pub mod split;
-pub mod treat;
 pub mod walk;

@@ -11,12 +11,6 @@
 //
 // A place holds a line as `lines::layout` lays it out: bindings, count, pairs of positions, filler, and last the count of elements known to be fully reduced.
 // A record is the line without that last byte, so that the records of finished lines never reach an unfinished one.
-use crate::split::choices_of;
-use crate::split::push_choices;
-use crate::split::too_long;
-use crate::treat::Sides;
-use crate::treat::Treatment;
-use crate::treat::treatment_of;
 use format::byte::wide;
 use format::limits::Limits;
 use format::refusal::Refusal;
@@ -28,12 +22,18 @@ use lines::line::Line;
 use lines::rebind::differ;
 use lines::rebind::rebind;
 use lines::record::write_record;
+use treating::split::choices_of;
+use treating::split::push_choices;
+use treating::split::too_long;
+use treating::treat::Sides;
+use treating::treat::Treatment;
+use treating::treat::treatment_of;
 use unifying::unifier::unify_positions;
 use unifying::unify::Answer;
 ghost use mathlib.Core.Path.{_≡_};
 ghost use Prim.Native.Nat.{_+_, _<_};
 ghost use Rattle.format.specs.Limits.{max-lines, max-turns};
-ghost use Rattle.walking.specs.declared.treat.Treatment.the-variants.{DropElement, Reduced, Split, Unify};
+ghost use Rattle.treating.specs.declared.treat.Treatment.the-variants.{DropElement, Reduced, Split, Unify};
 ghost use Rattle.walking.specs.declared.walk.Progress.the-variants.{Going};
 ghost use Rattle.walking.specs.Contracts.Walking.{Walking, Finishing, TreatingLine, TreatingCount, GoesOn, Advances};
 

@@ -8,6 +8,7 @@ use native.Mathlib.Nat.{add-zero}
 use native.Mathlib.Omega.{arith}
 use Rattle.format.specs.Limits.{variable-count, max-elements}
 use Rattle.lines.specs.Contracts.Layout.{count-place, reduced-place, line-bytes, placed}
+use Rattle.lines.specs.Contracts.Room.{lines-bytes}
 use Rattle.lines.specs.Contracts.Resting.{marks, padding, RestingLine, resting-bytes}
 use Rattle.lines.specs.Theory.Placed.{set-placed}
 use Rattle.lines.specs.Theory.Resting.{length-marks, length-resting}
@@ -102,3 +103,9 @@ rebound place bs l memory h slots few w =
         let e : length (bs ++ (length (l .elements) ∷ mid)) ≡ reduced-place = omega (arith, length-append bs (length (l .elements) ∷ mid), length-mid l few) in
         ap (λ b. set b reduced-place 0) (sym (append-assoc bs (length (l .elements) ∷ mid) (l .reduced ∷ [])))
         ∙ (set-at (bs ++ (length (l .elements) ∷ mid)) (l .reduced) [] 0 reduced-place e ∙ append-assoc bs (length (l .elements) ∷ mid) (0 ∷ []))
+
+-- The bytes of lines, one behind the other.
+pub lines-append : (xs ys : List RestingLine) → lines-bytes (xs ++ ys) ≡ lines-bytes xs ++ lines-bytes ys
+unfolding lines-bytes
+lines-append [] ys = refl
+lines-append (l ∷ xs) ys = ap (resting-bytes l ++_) (lines-append xs ys) ∙ sym (append-assoc (resting-bytes l) (lines-bytes xs) (lines-bytes ys))

@@ -3,7 +3,7 @@ use Prim.Native.Nat.{ℕ, zero, suc, _+_, _*_, _≤_, max}
 use mathlib.Core.Path.{_≡_}
 use mathlib.Core.Bool.{Bool, false}
 use mathlib.Core.List.{List, [], _∷_}
-use Rattle.format.specs.Limits.{max-symbols, variable-count, max-side-nodes, max-task-nodes}
+use Rattle.format.specs.Limits.{max-symbols, variable-count, max-side-nodes, max-task-nodes, max-byte}
 use Rattle.format.specs.declared.kind.FrameKind.{FrameKind}
 use Rattle.format.specs.declared.kind.FrameKind.the-variants.{Symbols as symbols-kind, Equation as equation-kind, Run as run-kind, Judgement as judgement-kind, Comparison as comparison-kind, Unknown as unknown-kind}
 use Rattle.format.specs.declared.refusal.Refusal.the-variants.{FrameOrder}
@@ -11,7 +11,6 @@ use Rattle.format.specs.Refusal.{Result, refuse, give}
 use Rattle.format.specs.declared.byte.Class.{Class}
 use Rattle.format.specs.declared.byte.Class.the-variants.{Symbol as symbol, Variable as variable, Foreign as foreign}
 use Rattle.format.specs.Byte.{class-of}
-use Rattle.sheet.specs.Contracts.Bytes.{max-byte}
 use Rattle.scanning.specs.declared.known.Known.{Known}
 use Rattle.scanning.specs.declared.scan.OtherNode.{OtherNode}
 use Rattle.scanning.specs.declared.scan.OtherNode.the-variants.{Variable, Refused as Node-Refused}

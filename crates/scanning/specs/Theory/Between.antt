@@ -4,7 +4,8 @@ use mathlib.Core.Path.{_≡_, refl, ap, subst, _∙_}
 use mathlib.Core.List.{List, [], _∷_}
 use lib.ListN.{length, getD, take, drop, length-drop}
 use native.Mathlib.Omega.{arith}
-use Rattle.sheet.specs.Contracts.Bytes.{max-byte, Bytes}
+use Rattle.sheet.specs.Contracts.Bytes.{Bytes}
+use Rattle.format.specs.Limits.{max-byte}
 use Rattle.scanning.specs.Contracts.Digits.{decoded, pair-at, bytes-between, BodyReady}
 
 pub between-end : (text : List ℕ) (at end : ℕ) → end ≤ at → bytes-between text at end ≡ []

@@ -167,9 +167,15 @@ body-kept (within s) next symbols-kind bs small v o e = let z : _≡_ {A = ℕ} 
 body-kept (within s) next equation-kind bs small v o e =
     let (q, x, y) = mapped (with-equation s) (equation-body (s .arities) bs) next e in
     subst ValidState y (equation-kept s q v o (equation-given (s .arities) (v .symbols .few-symbols) bs q x .valid))
-body-kept (within s) next run-kind bs small v o e = let (t, x, y) = mapped (with-task s) (run-body s bs) next e in subst ValidState y (task-kept s t v o (run-given s v bs t small x))
-body-kept (within s) next judgement-kind bs small v o e = let (t, x, y) = mapped (with-task s) (judgement-body s bs) next e in subst ValidState y (task-kept s t v o (judgement-given s v bs t x))
-body-kept (within s) next comparison-kind bs small v o e = let (t, x, y) = mapped (with-task s) (comparison-body s bs) next e in subst ValidState y (task-kept s t v o (comparison-given s v bs t x))
+body-kept (within s) next run-kind bs small v o e =
+    let (t, x, y) = mapped (with-task s) (run-body s bs) next e in
+    subst ValidState y (task-kept s t v o (run-given s v bs t small x))
+body-kept (within s) next judgement-kind bs small v o e =
+    let (t, x, y) = mapped (with-task s) (judgement-body s bs) next e in
+    subst ValidState y (task-kept s t v o (judgement-given s v bs t x))
+body-kept (within s) next comparison-kind bs small v o e =
+    let (t, x, y) = mapped (with-task s) (comparison-body s bs) next e in
+    subst ValidState y (task-kept s t v o (comparison-given s v bs t x))
 body-kept (within s) next unknown-kind bs small v o e = let z : _≡_ {A = ℕ} 0 1 = cc in absurd (omega arith)
 
 pub kind-kept : (state next : State) (kind : FrameKind) (bs : List ℕ) → Bytes bs → ValidState state → read-kind state kind bs ≡ give next → ValidState next

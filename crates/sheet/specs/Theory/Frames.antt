@@ -97,7 +97,8 @@ task-added : (s : Sheet) (t : Task) → frames-so-far (with-task s t) ≡ frames
 unfolding with-task frames-of
 task-added s t =
     let es = map equation-frame (s .equations) in
-    ap (symbols-frame (s .arities) ∷_) (ap (es ++_) (map-append task-frame (s .tasks) (t ∷ [])) ∙ sym (append-assoc es (map task-frame (s .tasks)) (task-frame t ∷ [])))
+    ap (symbols-frame (s .arities) ∷_)
+    (ap (es ++_) (map-append task-frame (s .tasks) (t ∷ [])) ∙ sym (append-assoc es (map task-frame (s .tasks)) (task-frame t ∷ [])))
 
 symbols-added : (bs : List ℕ) (state : State) → symbols-body bs ≡ give state → frames-so-far state ≡ (kind-byte symbols-kind ∷ bs) ∷ []
 unfolding symbols-body frames-of symbols-frame
@@ -109,7 +110,8 @@ symbols-added (n ∷ arities) state e = go (symbols-right n arities) refl e
         → frames-so-far state ≡ (kind-byte symbols-kind ∷ n ∷ arities) ∷ []
     go true d e =
         let x : within (record { arities = arities; equations = []; tasks = [] }) ≡ state = cc in
-        subst (λ st. frames-so-far st ≡ (kind-byte symbols-kind ∷ n ∷ arities) ∷ []) x (ap (λ m. (kind-byte symbols-kind ∷ m ∷ arities) ∷ []) (symbols-counted n arities d))
+        subst (λ st. frames-so-far st ≡ (kind-byte symbols-kind ∷ n ∷ arities) ∷ []) x
+        (ap (λ m. (kind-byte symbols-kind ∷ m ∷ arities) ∷ []) (symbols-counted n arities d))
     go false d e = let z : _≡_ {A = ℕ} 0 1 = cc in absurd (omega arith)
 
 equation-spelled : (e : Equation) (bs : List ℕ) → bs ≡ prefix (e .left) ++ prefix (e .right) → equation-frame e ≡ kind-byte equation-kind ∷ bs
@@ -145,7 +147,10 @@ body-added (within s) next unknown-kind bs v o e = let z : _≡_ {A = ℕ} 0 1 =
 kind-known : (state : State) (kind : FrameKind) → in-order state kind ≡ true → kind ≡ unknown-kind → ⊥
 unfolding in-order
 kind-known start kind o e = let d : in-order start unknown-kind ≡ true = subst (λ k. in-order start k ≡ true) e o in let z : _≡_ {A = ℕ} 0 1 = cc in omega arith
-kind-known (within s) kind o e = let d : in-order (within s) unknown-kind ≡ true = subst (λ k. in-order (within s) k ≡ true) e o in let z : _≡_ {A = ℕ} 0 1 = cc in omega arith
+kind-known (within s) kind o e =
+    let d : in-order (within s) unknown-kind ≡ true = subst (λ k. in-order (within s) k ≡ true) e o in
+    let z : _≡_ {A = ℕ} 0 1 = cc in
+    omega arith
 
 frame-added : (state next : State) (bs : List ℕ) → ValidState state → read-frame state bs ≡ give next → frames-so-far next ≡ frames-so-far state ++ (bs ∷ [])
 unfolding read-frame read-kind

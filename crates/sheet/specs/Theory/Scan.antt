@@ -80,10 +80,15 @@ module _ (arities : List ℕ) where
     where
       go : (t : Bool) → ltb f (length arities) ≡ t → elim t as (λ t. Result ℕ) [ true ↦ give (arity arities f + need) | false ↦ refuse frame-bytes ] ≡ give n
           → Spells arities ground (b ∷ bs) (suc need) (suc room) rest
-      go true k d = let x : arity arities f + need ≡ n = cc in rw (class-symbol b f e .0) (put-symbol ground f bs need room rest (ltb-true f (length arities) k) (rw x s))
+      go true k d =
+          let x : arity arities f + need ≡ n = cc in
+          rw (class-symbol b f e .0) (put-symbol ground f bs need room rest (ltb-true f (length arities) k) (rw x s))
       go false k d = let z : _≡_ {A = ℕ} 0 1 = cc in absurd (omega arith)
   put-node-byte true b (variable v) bs need n room rest e d s = let z : _≡_ {A = ℕ} 0 1 = cc in absurd (omega arith)
-  put-node-byte false b (variable v) bs need n room rest e d s = let x : need ≡ n = cc in let (y, small) = class-variable b v e in put-variable v bs need room rest b (ap (_∷ []) y) small (rw x s)
+  put-node-byte false b (variable v) bs need n room rest e d s =
+      let x : need ≡ n = cc in
+      let (y, small) = class-variable b v e in
+      put-variable v bs need room rest b (ap (_∷ []) y) small (rw x s)
   put-node-byte ground b foreign bs need n room rest e d s = let z : _≡_ {A = ℕ} 0 1 = cc in absurd (omega arith)
 
   nothing-scanned : (ground : Bool) (bs : List ℕ) (room : ℕ) (rest : List ℕ) → _≡_ {A = Result (List ℕ)} (give bs) (give rest)

@@ -8,8 +8,8 @@ use lib.ListN.{length}
 use lib.Dec.{leb}
 use borrow.Author.Tests.{leb-true}
 use native.Mathlib.Omega.{arith}
-use Rattle.format.specs.Limits.{max-line-digits}
-use Rattle.sheet.specs.Contracts.Bytes.{max-byte, Bytes}
+use Rattle.format.specs.Limits.{max-line-digits, max-byte}
+use Rattle.sheet.specs.Contracts.Bytes.{Bytes}
 use Rattle.sheet.specs.Text.{base, TextLine, ended, unended, digit, byte-of, put-first, bytes-of, frame-of}
 
 pub digit-small : (c n : ℕ) → digit c ≡ some n → n < base

@@ -3,7 +3,7 @@ use Prim.Native.Nat.{ℕ, zero, suc, _*_, _-_, _≤_, _<_}
 use mathlib.Core.Path.{_≡_, refl, _∙_}
 use mathlib.Core.Option.{none, some}
 use mathlib.Core.List.{List, [], _∷_, _++_, map}
-use lib.ListN.{length, getD, replicate, length-append, length-map, length-replicate}
+use lib.ListN.{length, replicate, length-append, length-map, length-replicate}
 use native.Mathlib.Omega.{arith}
 use Rattle.format.specs.Limits.{max-elements, max-lines, record-bytes, table-bytes, no-position}
 use Rattle.solving.specs.Line.{Bindings, lookup, Element, equal, greater, Line, line, binding-byte, element-bytes, record-of, records}

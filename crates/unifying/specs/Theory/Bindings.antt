@@ -7,7 +7,7 @@ use lib.ListN.{length, getD, set, length-map}
 use borrow.Author.Tests.{lt-ltb, le-ltb}
 use native.Mathlib.Decide.{decLt}
 use native.Mathlib.Omega.{arith}
-use Rattle.format.specs.Limits.{variable-count, no-position}
+use Rattle.format.specs.Limits.{variable-count, no-position, max-byte}
 use Rattle.solving.specs.Line.{lookup, bind}
 use Rattle.unifying.specs.Contracts.Bindings.{binding-of, bindings-of, Readable}
 use Rattle.unifying.specs.Theory.PrefixForm.{getD-any}
@@ -44,7 +44,7 @@ unfolding bindings-of
 length-bindings bs = length-map bs binding-of
 
 -- A byte that is not ff is less.
-pub not-unbound : {q b : ℕ} → q ≡ b → q ≤ 255 → (b ≡ no-position → ⊥) → q < no-position
+pub not-unbound : {q b : ℕ} → q ≡ b → q ≤ max-byte → (b ≡ no-position → ⊥) → q < no-position
 not-unbound {q} {b} e l n = go (decLt q no-position)
   where
     go : Dec (q < no-position) → q < no-position

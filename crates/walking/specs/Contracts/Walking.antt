@@ -9,7 +9,7 @@ use Rattle.format.specs.Limits.{max-lines, max-turns, record-bytes}
 use Rattle.solving.specs.Line.{Element, Line, records}
 use Rattle.terms.specs.Position.{Node}
 use Rattle.solving.specs.Walk.{enough, treat-line, crowded, Walked, refused, walk-from, walk}
-use Rattle.walking.specs.declared.treat.Treatment.{Treatment}
+use Rattle.treating.specs.declared.treat.Treatment.{Treatment}
 use Rattle.walking.specs.declared.walk.Walk.{Walk}
 use Rattle.walking.specs.declared.walk.Progress.{Progress}
 use Rattle.walking.specs.declared.walk.Progress.the-variants.{Going, Refused}
@@ -20,7 +20,7 @@ use Rattle.lines.specs.declared.line.Line.{Line as LineValue}
 use Rattle.lines.specs.Contracts.Layout.{line-bytes}
 use Rattle.lines.specs.Contracts.Room.{lines-bytes}
 use Rattle.lines.specs.Contracts.Line.{Holds}
-use Rattle.walking.specs.Contracts.Treatment.{Treated}
+use Rattle.treating.specs.Contracts.Treatment.{Treated}
 use Rattle.walking.specs.Contracts.WellFormed.{AllReduced, WellFormed}
 
 -- 255 places for lines.

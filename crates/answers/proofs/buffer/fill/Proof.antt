@@ -1,4 +1,4 @@
--- `calls::buffer::fill` fills the front of a buffer. The loop's invariant: the first `i` bytes are filled, the rest as before.
+-- `fill` fills the front of a buffer. The loop's invariant: the first `i` bytes are filled, the rest as before.
 use Prim.Native.Nat.{_-_, _≤_}
 use mathlib.Core.Path.{_≡_, ap, _∙_}
 use native.Mathlib.Omega.{arith}

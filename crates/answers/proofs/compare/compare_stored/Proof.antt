@@ -1,4 +1,4 @@
--- `calls::compare::compare_stored` gives the verdict of the two terms that stand in the nodes.
+-- `compare_stored` gives the verdict of the two terms that stand in the nodes.
 use mathlib.Core.Path.{refl, sym, _∙_}
 use native.Mathlib.Omega.{arith}
 use borrow.Author.Needs.{needs}

@@ -1,4 +1,4 @@
--- `calls::compare::compare_task` is compare on an accepted sheet.
+-- `compare_task` is compare on an accepted sheet.
 
 use mathlib.Core.Path.{_∙_}
 use native.Mathlib.Omega.{arith}

@@ -1,4 +1,4 @@
--- `calls::compare::compare_terms` gives the verdict of the two terms that the digits write.
+-- `compare_terms` gives the verdict of the two terms that the digits write.
 use mathlib.Core.Path.{refl}
 use Rattle.format.specs.Limits.{node-count}
 use borrow.Author.Needs.{needs}

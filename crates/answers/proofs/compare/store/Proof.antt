@@ -1,9 +1,10 @@
--- `calls::compare::store` leaves the two terms of the task in the nodes.
+-- `store` leaves the two terms of the task in the nodes.
 use Prim.Native.Nat.{_+_, _-_}
 use lib.ListN.{length, drop}
 use mathlib.Core.Path.{ap, _∙_}
 use native.Mathlib.Omega.{arith}
 use borrow.Author.Needs.{needs}
+use Rattle.format.specs.Limits.{position-count}
 use Rattle.comparing.specs.Theory.Cells.{symbols-drop, symbols-take}
 use Rattle.answers.proofs.Stored.{placed}
 use Rattle.answers.proofs.Stored.{placed-symbols, pair-few, pair-symbols, pair-measurable, pair-stands}
@@ -30,18 +31,20 @@ measure-requires c κs =
     pair-measurable (has .is) _ _ _ (placed (start .args .nodes .now) _ _ _ _ (omega (arith, start .pre .1 .0)) (decoded .1)) (decoded .0) (c .before .before .before .nodes .given .1 ∙ start .pre .1 .0) (start .pre .1 .1)
 
 add-result : tie.Need-add-result
-add-result c = omega (arith, c .wide .ensures .0, c .before .slice-known5 .given 64)
+add-result c = omega (arith, c .wide .ensures .0, c .before .slice-known5 .given position-count)
 
 returns : tie.Need-returns
 returns c =
     let start = c .before .before .before .before .before .before .before .before .before .before .before .before .before .before .before in
     let decode = c .before .before .before .before .before .before .before .before .before .decode in
     let nodes = start .args .nodes .now in
-    let symbols = start .pre .1 .2 in (
-      placed-symbols nodes _ _ _ _ symbols (pair-symbols (start .pre .0 .is)) (symbols-take (length nodes - 64) (drop 64 nodes) (symbols-drop 64 nodes symbols)) (symbols-drop (length nodes - 64) (drop 64 nodes) (symbols-drop 64 nodes symbols)) (decode .ensures _ (start .pre .0 .is .spans) .1),
+    let symbols = start .pre .1 .2 in
+    let behind = symbols-drop position-count nodes symbols in (
+      placed-symbols nodes _ _ _ _ symbols (pair-symbols (start .pre .0 .is)) (symbols-take (length nodes - position-count) (drop position-count nodes) behind)
+          (symbols-drop (length nodes - position-count) (drop position-count nodes) behind) (decode .ensures _ (start .pre .0 .is .spans) .1),
       λ s t p.
           let decoded = decode .ensures _ (p .spans) in
-          pair-stands p _ (start .args .sizes .now) _ _ _ _ (placed (start .args .nodes .now) _ _ _ _ (omega (arith, start .pre .1 .0)) (decoded .1)) (decoded .0) (omega (arith, start .pre .1 .1)) (c .before .before .before .before .measure .ensures) (ap (64 +_) (c .wide .ensures .0)),
+          pair-stands p _ (start .args .sizes .now) _ _ _ _ (placed (start .args .nodes .now) _ _ _ _ (omega (arith, start .pre .1 .0)) (decoded .1)) (decoded .0) (omega (arith, start .pre .1 .1)) (c .before .before .before .before .measure .ensures) (ap (position-count +_) (c .wide .ensures .0)),
     )
 
 pub store-spec : {M : Type 1} → statement M

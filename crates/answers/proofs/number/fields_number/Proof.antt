@@ -1,4 +1,4 @@
--- `calls::number::fields_number` puts three fields above the lowest byte.
+-- `fields_number` puts three fields above the lowest byte.
 use native.Mathlib.Omega.{arith}
 use borrow.Author.Needs.{needs}
 use Rattle.outcomes.specs.Buffer.{fields}

@@ -1,4 +1,4 @@
--- `calls::number::refusal_number` puts the line above the refusal's number.
+-- `refusal_number` puts the line above the refusal's number.
 use native.Mathlib.Omega.{arith}
 use borrow.Author.Needs.{needs}
 use Rattle.outcomes.specs.Buffer.{refusal-number, fields}

@@ -1,4 +1,4 @@
--- `calls::solve::solve_bytes` is solve on an equation's bytes.
+-- `solve_bytes` is solve on an equation's bytes.
 use native.Mathlib.Omega.{arith}
 use borrow.Author.Needs.{needs}
 use Rattle.answers.proofs.SolveTask.{walk-cleared, walk-solved, walk-refused, counts-low, some-direction}

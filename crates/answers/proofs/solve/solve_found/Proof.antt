@@ -1,4 +1,4 @@
--- `calls::solve::solve_found` is solve on an accepted sheet that has the equation.
+-- `solve_found` is solve on an accepted sheet that has the equation.
 use borrow.Author.Needs.{needs}
 use Rattle.reading.specs.Theory.Found.{equation-low}
 use Rattle.answers.proofs.Arities.{symbols-room, symbols-taken}

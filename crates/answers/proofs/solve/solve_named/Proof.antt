@@ -1,4 +1,4 @@
--- `calls::solve::solve_named` is solve on an accepted sheet.
+-- `solve_named` is solve on an accepted sheet.
 use borrow.Author.Needs.{needs}
 use Rattle.answers.proofs.SolveTask.{equation-absent, direction-absent}
 use Rattle.answers.proofs.solve.solve_named.Statement.{statement}

@@ -28,7 +28,8 @@ returns-3 c = λ sheet knows.
 returns-4 : tie.Need-returns-4
 returns-4 c = λ sheet knows.
     let body = c .before .before .before in
-    equation-done _ sheet knows (body .before .before .before .if1 .left) (body .before .if2 .left) _ (body .before .before .before .before .before .before .pre .0 .body .are-bytes) _
+    equation-done _ sheet knows (body .before .before .before .if1 .left) (body .before .if2 .left) _
+    (body .before .before .before .before .before .before .pre .0 .body .are-bytes) _
     (subst (EquationGiven _ _ _) (c .before .enum-told .given .1) (body .equation-body .ensures)) (c .with-equation .ensures)
 
 pub equation-frame-spec : {M : Type 1} → statement M

@@ -25,7 +25,8 @@ returns c =
     let kind = c .before .before .before in
     let start = kind .before .before .before in
     let frame = c .first-frame in
-    read-first _ _ (start .pre .0) (start .pre .1) _ (kind .kind-of .ensures ∙ ap kind-of (kind .before .byte-at .ensures)) (c .before .if1 .taken) (frame .result .known) (frame .result .status) (frame .ensures)
+    read-first _ _ (start .pre .0) (start .pre .1) _ (kind .kind-of .ensures ∙ ap kind-of (kind .before .byte-at .ensures)) (c .before .if1 .taken)
+    (frame .result .known) (frame .result .status) (frame .ensures)
 
 equation-frame-requires : tie.Need-equation-frame-requires
 equation-frame-requires c κs =
@@ -45,7 +46,8 @@ returns-2 c =
     let kind = told .before .before .before .before in
     let start = kind .before .before .before in
     let frame = c .equation-frame in
-    read-later _ _ (start .pre .0) (start .pre .1) _ (kind .kind-of .ensures ∙ ap kind-of (kind .before .byte-at .ensures)) (told .before .before .if1 .left) (told .enum-told .given .1)
+    read-later _ _ (start .pre .0) (start .pre .1) _ (kind .kind-of .ensures ∙ ap kind-of (kind .before .byte-at .ensures)) (told .before .before .if1 .left)
+    (told .enum-told .given .1)
     (frame .result .known) (frame .result .status) (frame .ensures)
 
 returns-3 : tie.Need-returns-3

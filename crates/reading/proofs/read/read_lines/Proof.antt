@@ -23,7 +23,8 @@ returns c =
     let ended = c .before .before .before in
     let loop = ended .before .before .loop in
     let start = ended .before .before .before .before .before in
-    by-refused-at _ _ _ (c .refused-at .ensures) (line-broken _ _ _ _ (loop .inv) (subst (LineRead _ _) (c .before .enum-told .given .1) (ended .line-end .ensures)))
+    by-refused-at _ _ _ (c .refused-at .ensures)
+    (line-broken _ _ _ _ (loop .inv) (subst (LineRead _ _) (c .before .enum-told .given .1) (ended .line-end .ensures)))
     (omega (arith, loop .inv .counted, ended .before .loop-test .taken, start .pre .1))
 
 read-frame-requires : tie.Need-read-frame-requires Inv-loop μ-loop
@@ -40,7 +41,8 @@ returns-2 c =
     let loop = ended .before .before .loop in
     let start = ended .before .before .before .before .before in
     let line = subst (LineRead _ _) (frame .before .before .end .given .1) (ended .line-end .ensures) in
-    by-refused-at _ _ _ (c .refused-at2 .ensures) (line-refused _ _ _ _ (loop .inv) _ line _ _ (frame .read-frame .ensures) (c .before .before .status .given .1))
+    by-refused-at _ _ _ (c .refused-at2 .ensures)
+    (line-refused _ _ _ _ (loop .inv) _ line _ _ (frame .read-frame .ensures) (c .before .before .status .given .1))
     (omega (arith, loop .inv .counted, ended .before .loop-test .taken, start .pre .1))
 
 loop-less : tie.Need-loop-less Inv-loop μ-loop
@@ -57,7 +59,8 @@ loop-again c =
     let ended = frame .before .before .before .before in
     let loop = ended .before .before .loop in
     let line = subst (LineRead _ _) (frame .before .before .end .given .1) (ended .line-end .ensures) in
-    line-next _ _ _ _ (loop .inv) _ line (frame .read-frame .result .known) (frame .read-frame .result .status) (frame .read-frame .ensures) (c .before .enum-told2 .given .1)
+    line-next _ _ _ _ (loop .inv) _ line (frame .read-frame .result .known) (frame .read-frame .result .status) (frame .read-frame .ensures)
+    (c .before .enum-told2 .given .1)
 
 add-at : tie.Need-add-at Inv-loop μ-loop
 add-at c =
@@ -69,7 +72,8 @@ add-at c =
 returns-3 : tie.Need-returns-3 Inv-loop μ-loop
 returns-3 c =
     let loop = c .before .before .before .before .loop in
-    by-refused-at _ _ _ (c .refused-at3 .ensures) (no-equations _ _ _ _ (loop .inv) (c .before .before .before .loop-test .left) (c .before .if1 .taken)) (omega (arith, loop .inv .counted, loop .inv .inside, c .before .before .before .before .before .before .before .pre .1))
+    by-refused-at _ _ _ (c .refused-at3 .ensures) (no-equations _ _ _ _ (loop .inv) (c .before .before .before .loop-test .left) (c .before .if1 .taken))
+    (omega (arith, loop .inv .counted, loop .inv .inside, c .before .before .before .before .before .before .before .pre .1))
 
 returns-4 : tie.Need-returns-4 Inv-loop μ-loop
 returns-4 c = all-accepted _ _ _ _ (c .before .before .before .loop .inv) (c .before .before .loop-test .left) (c .if1 .left)

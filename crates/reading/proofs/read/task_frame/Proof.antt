@@ -32,7 +32,8 @@ returns-4 : tie.Need-returns-4
 returns-4 c = λ sheet knows.
     let body = c .before .before .before in
     let start = body .before .before .before .before .before .before in
-    task-done _ sheet knows (body .before .before .before .if1 .left) (body .before .if2 .left) _ (start .pre .2) _ (start .pre .0 .body .are-bytes) (subst (Matches _) (c .before .enum-told .given .1) (body .task-body .ensures sheet knows))
+    task-done _ sheet knows (body .before .before .before .if1 .left) (body .before .if2 .left) _ (start .pre .2) _ (start .pre .0 .body .are-bytes)
+    (subst (Matches _) (c .before .enum-told .given .1) (body .task-body .ensures sheet knows))
     (c .with-task .ensures)
 
 pub task-frame-spec : {M : Type 1} → statement M

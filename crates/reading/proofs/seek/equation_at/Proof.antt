@@ -13,10 +13,14 @@ frame-at-requires : tie.Need-frame-at-requires
 frame-at-requires c κs = let start = c .before .before in equation-wanted _ _ _ (start .pre .0) (start .pre .1)
 
 add-decode : tie.Need-add-decode
-add-decode c = let start = c .before .before .before .before in omega (arith, equation-inside _ _ _ (start .pre .0) (start .pre .1) _ _ (c .before .frame-at .ensures))
+add-decode c =
+    let start = c .before .before .before .before in
+    omega (arith, equation-inside _ _ _ (start .pre .0) (start .pre .1) _ _ (c .before .frame-at .ensures))
 
 decode-requires : tie.Need-decode-requires
-decode-requires c κs = let start = c .before .before .before .before .before in equation-room _ _ _ (start .pre .0) (start .pre .1) _ _ (c .before .before .frame-at .ensures) (start .pre .2)
+decode-requires c κs =
+    let start = c .before .before .before .before .before in
+    equation-room _ _ _ (start .pre .0) (start .pre .1) _ _ (c .before .before .frame-at .ensures) (start .pre .2)
 
 returns : tie.Need-returns
 returns c = λ q h.

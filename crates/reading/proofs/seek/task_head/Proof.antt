@@ -41,7 +41,8 @@ returns-2 : tie.Need-returns-2
 returns-2 c =
     let told = c .before .before in
     let kind = told .before .before in
-    judgement-found _ _ _ (kind .kind-of .ensures ∙ ap kind-of (kind .before .byte-at .ensures)) (told .enum-told2 .given .1) (c .before .byte-at3 .ensures) (c .byte-at4 .ensures)
+    judgement-found _ _ _ (kind .kind-of .ensures ∙ ap kind-of (kind .before .byte-at .ensures)) (told .enum-told2 .given .1) (c .before .byte-at3 .ensures)
+    (c .byte-at4 .ensures)
 
 returns-3 : tie.Need-returns-3
 returns-3 c =

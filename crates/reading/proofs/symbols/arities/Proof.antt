@@ -17,7 +17,9 @@ abbrev μ-loop : tie.MeasureT-loop
 μ-loop s from n known₀ i₀ known i = n - i
 
 loop-holds : tie.Need-loop-holds Inv-loop μ-loop
-loop-holds c = let k = c .nothing .ensures in filled-start _ _ _ _ refl (k .1) (k .2) (record { arities-room = k .3 .arities-room; widths-room = k .3 .widths-room })
+loop-holds c =
+    let k = c .nothing .ensures in
+    filled-start _ _ _ _ refl (k .1) (k .2) (record { arities-room = k .3 .arities-room; widths-room = k .3 .widths-room })
 
 mul-byte-at : tie.Need-mul-byte-at Inv-loop μ-loop
 mul-byte-at c = omega (arith, c .before .before .before .before .pre .few-symbols)
@@ -40,13 +42,19 @@ element-write-known : tie.Need-element-write-known Inv-loop μ-loop
 element-write-known c = let start = c .before .before .before .before .before .before in omega (arith, start .pre .few-symbols)
 
 loop-again : tie.Need-loop-again Inv-loop μ-loop
-loop-again c = let start = c .before .before .before .before .before .before in filled-next _ _ _ (start .pre) _ _ _ (c .before .before .before .loop .inv) (c .before .before .loop-test .taken) (c .before .byte-at .ensures) (c .if1 .left)
+loop-again c =
+    let start = c .before .before .before .before .before .before in
+    filled-next _ _ _ (start .pre) _ _ _ (c .before .before .before .loop .inv) (c .before .before .loop-test .taken) (c .before .byte-at .ensures)
+    (c .if1 .left)
 
 has-constant-requires : tie.Need-has-constant-requires Inv-loop μ-loop
 has-constant-requires c κs = omega (arith, c .before .loop .inv .symbols-are, c .before .before .before .before .pre .few-symbols)
 
 returns-2 : tie.Need-returns-2 Inv-loop μ-loop
-returns-2 c = let start = c .before .before .before .before .before .before in with-constant _ _ _ (start .pre) _ _ (c .before .before .before .loop .inv) (c .before .before .loop-test .left) (c .before .has-constant .ensures ∙ c .if2 .taken)
+returns-2 c =
+    let start = c .before .before .before .before .before .before in
+    with-constant _ _ _ (start .pre) _ _ (c .before .before .before .loop .inv) (c .before .before .loop-test .left)
+    (c .before .has-constant .ensures ∙ c .if2 .taken)
 
 returns-3 : tie.Need-returns-3 Inv-loop μ-loop
 returns-3 c =

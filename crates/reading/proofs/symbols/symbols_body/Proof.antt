@@ -18,13 +18,15 @@ returns-2 : tie.Need-returns-2
 returns-2 c =
     let count = c .before .before .before in
     let start = count .before .before .before .before in
-    by-refused (SymbolsRead _) (c .refused2 .ensures) (no-symbols _ _ _ (start .pre) (count .before .if1 .left) (count .byte-at .ensures) (c .before .before .if2 .taken))
+    by-refused (SymbolsRead _) (c .refused2 .ensures)
+    (no-symbols _ _ _ (start .pre) (count .before .if1 .left) (count .byte-at .ensures) (c .before .before .if2 .taken))
 
 returns-3 : tie.Need-returns-3
 returns-3 c =
     let count = c .before .before .before .before in
     let start = count .before .before .before .before in
-    by-refused (SymbolsRead _) (c .refused3 .ensures) (many-symbols _ _ _ (start .pre) (count .before .if1 .left) (count .byte-at .ensures) (c .before .before .if3 .taken))
+    by-refused (SymbolsRead _) (c .refused3 .ensures)
+    (many-symbols _ _ _ (start .pre) (count .before .if1 .left) (count .byte-at .ensures) (c .before .before .if3 .taken))
 
 add-at : tie.Need-add-at
 add-at c =
@@ -39,7 +41,8 @@ returns-4 : tie.Need-returns-4
 returns-4 c =
     let count = c .before .before .before .before .before .before in
     let start = count .before .before .before .before in
-    by-refused (SymbolsRead _) (c .refused4 .ensures) (other-count _ _ _ (start .pre) (count .before .if1 .left) (count .byte-at .ensures) (c .before .before .if4 .taken))
+    by-refused (SymbolsRead _) (c .refused4 .ensures)
+    (other-count _ _ _ (start .pre) (count .before .if1 .left) (count .byte-at .ensures) (c .before .before .if4 .taken))
 
 arities-requires : tie.Need-arities-requires
 arities-requires c κs =
@@ -52,7 +55,8 @@ returns-5 : tie.Need-returns-5
 returns-5 c =
     let count = c .before .before .before .before .before in
     let start = count .before .before .before .before in
-    body-read _ _ _ (start .pre) (count .before .if1 .left) _ (count .byte-at .ensures) (c .before .if4 .left) (c .arities .result .known) (c .arities .result .status) (c .arities .ensures)
+    body-read _ _ _ (start .pre) (count .before .if1 .left) _ (count .byte-at .ensures) (c .before .if4 .left) (c .arities .result .known)
+    (c .arities .result .status) (c .arities .ensures)
 
 pub symbols-body-spec : {M : Type 1} → statement M
 symbols-body-spec =

@@ -10,7 +10,14 @@ use Rattle.scanning.proofs.frame.equation_body.Tie as tie
 scan-requires : tie.Need-scan-requires
 scan-requires c κs =
     let ready = c .before .before .pre in
-    subst (ScanReady _ _ _) (sym (c .side .ensures)) (record { body = ready .body; few-symbols = ready .few-symbols; few-terms = omega arith; few-nodes = omega arith; low-width = omega arith })
+    subst (ScanReady _ _ _) (sym (c .side .ensures)) (record {
+      body =
+          ready .body;
+      few-symbols = ready .few-symbols;
+      few-terms = omega arith;
+      few-nodes = omega arith;
+      low-width = omega arith;
+    })
 
 right-side-requires : tie.Need-right-side-requires
 right-side-requires c κs =
@@ -26,7 +33,8 @@ returns-2 : tie.Need-returns-2
 returns-2 c =
     let scanned = c .before .before .before in
     let start = scanned .before .before .before in
-    equation-status _ _ (start .args .known) (start .pre) (scanned .scan .result) (by-wanted (scanned .before .side .ensures) (scanned .scan .ensures)) (c .before .enum-told .given .1)
+    equation-status _ _ (start .args .known) (start .pre) (scanned .scan .result) (by-wanted (scanned .before .side .ensures) (scanned .scan .ensures))
+    (c .before .enum-told .given .1)
     (c .right-side .result) (c .right-side .ensures)
 
 pub equation-body-spec : {M : Type 1} → statement M

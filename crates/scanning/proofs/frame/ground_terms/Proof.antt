@@ -7,7 +7,9 @@ use Rattle.scanning.proofs.frame.ground_terms.Statement.{statement}
 use Rattle.scanning.proofs.frame.ground_terms.Tie as tie
 
 scan-requires : tie.Need-scan-requires
-scan-requires c κs = let (ready, few) = c .before .pre in record { body = ready .body; few-symbols = ready .few-symbols; few-terms = few; few-nodes = omega arith; low-width = omega arith }
+scan-requires c κs =
+    let (ready, few) = c .before .pre in
+    record { body = ready .body; few-symbols = ready .few-symbols; few-terms = few; few-nodes = omega arith; low-width = omega arith }
 
 returns : tie.Need-returns
 unfolding ground-terms

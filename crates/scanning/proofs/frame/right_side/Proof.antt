@@ -10,7 +10,14 @@ use Rattle.scanning.proofs.frame.right_side.Tie as tie
 scan-requires : tie.Need-scan-requires
 scan-requires c κs =
     let (ready, low) = c .before .before .pre in
-    subst (ScanReady _ _ _) (sym (c .side .ensures)) (record { body = ready .body; few-symbols = ready .few-symbols; few-terms = omega arith; few-nodes = omega arith; low-width = low })
+    subst (ScanReady _ _ _) (sym (c .side .ensures)) (record {
+      body =
+          ready .body;
+      few-symbols = ready .few-symbols;
+      few-terms = omega arith;
+      few-nodes = omega arith;
+      low-width = low;
+    })
 
 returns : tie.Need-returns
 returns c =

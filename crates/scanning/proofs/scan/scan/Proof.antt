@@ -9,7 +9,11 @@ use Rattle.scanning.proofs.scan.scan.Tie as tie
 
 abbrev Inv-loop : tie.InvT-loop
 Inv-loop s symbols arities end ground at₀ need₀ room₀ widest₀ at need room widest =
-    Scanning s (record { from = at₀; end = end }) (listed symbols arities) (record { terms = need₀; nodes = room₀; ground = ground; width = widest₀ }) at need room widest
+    Scanning s (record {
+      from =
+          at₀;
+      end = end;
+    }) (listed symbols arities) (record { terms = need₀; nodes = room₀; ground = ground; width = widest₀ }) at need room widest
 
 abbrev μ-loop : tie.MeasureT-loop
 μ-loop s symbols arities end ground at₀ need₀ room₀ widest₀ at need room widest = room
@@ -25,7 +29,8 @@ returns c =
 returns-2 : tie.Need-returns-2 Inv-loop μ-loop
 returns-2 c =
     let loop = c .before .before .before .loop in
-    stop-full _ _ _ _ (loop .at) (loop .need) (loop .room) (loop .widest) (loop .inv) (c .before .if1 .left) (c .before .before .loop-test .taken) (c .if2 .taken)
+    stop-full _ _ _ _ (loop .at) (loop .need) (loop .room) (loop .widest) (loop .inv) (c .before .if1 .left) (c .before .before .loop-test .taken)
+    (c .if2 .taken)
 
 byte-at-requires : tie.Need-byte-at-requires Inv-loop μ-loop
 byte-at-requires c κs =
@@ -44,7 +49,8 @@ loop-again c =
     let read = c .before .before in
     let round = read .before .before .before in
     let loop = round .before .loop in
-    scanning-declared _ _ _ _ _ (loop .at) (loop .need) (loop .room) (loop .widest) (loop .inv) (read .before .before .if1 .left) (round .loop-test .taken) (read .before .if2 .left)
+    scanning-declared _ _ _ _ _ (loop .at) (loop .need) (loop .room) (loop .widest) (loop .inv) (read .before .before .if1 .left) (round .loop-test .taken)
+    (read .before .if2 .left)
     (round .before .before .before .before .pre .few-symbols) (read .byte-at .ensures) (c .before .if3 .taken) (c .wide .ensures .0) (c .wide .ensures .1)
 
 cast-other-node : tie.Need-cast-other-node Inv-loop μ-loop
@@ -60,7 +66,8 @@ returns-3 c =
     let read = call .before .before in
     let round = read .before .before .before in
     let loop = round .before .loop in
-    stop-other _ _ _ _ _ (loop .at) (loop .need) (loop .room) (loop .widest) (loop .inv) (read .before .before .if1 .left) (round .loop-test .taken) (read .before .if2 .left)
+    stop-other _ _ _ _ _ (loop .at) (loop .need) (loop .room) (loop .widest) (loop .inv) (read .before .before .if1 .left) (round .loop-test .taken)
+    (read .before .if2 .left)
     (read .byte-at .ensures) (call .before .if3 .left) (call .other-node .result) (call .other-node .ensures) (c .before .r .given .1)
 
 add-at-2 : tie.Need-add-at-2 Inv-loop μ-loop
@@ -76,7 +83,8 @@ loop-again-2 c =
     let read = call .before .before in
     let round = read .before .before .before in
     let loop = round .before .loop in
-    scanning-variable _ _ _ _ _ (loop .at) (loop .need) (loop .room) (loop .widest) (loop .inv) (read .before .before .if1 .left) (round .loop-test .taken) (read .before .if2 .left)
+    scanning-variable _ _ _ _ _ (loop .at) (loop .need) (loop .room) (loop .widest) (loop .inv) (read .before .before .if1 .left) (round .loop-test .taken)
+    (read .before .if2 .left)
     (read .byte-at .ensures) (call .before .if3 .left) (call .other-node .result) (call .other-node .ensures) (c .before .before .w .given .1) (c .greater .ensures)
 
 returns-4 : tie.Need-returns-4 Inv-loop μ-loop

@@ -29,7 +29,8 @@ returns-3 : tie.Need-returns-3
 returns-3 c = λ sheet knows.
     let there = c .before .before in
     let long = there .before .before in
-    direction-absent _ sheet knows _ _ _ (long .before .before .before .pre .0 .body) (long .if1 .left) _ (there .before .byte-at .ensures) (there .if2 .left) (c .before .byte-at2 .ensures) (c .if3 .taken)
+    direction-absent _ sheet knows _ _ _ (long .before .before .before .pre .0 .body) (long .if1 .left) _ (there .before .byte-at .ensures) (there .if2 .left)
+    (c .before .byte-at2 .ensures) (c .if3 .taken)
 
 add-values : tie.Need-add-t8
 add-values c = let long = c .before .before .before .before in omega (arith, long .before .before .before .pre .0 .body .inside, long .if1 .left)
@@ -55,7 +56,8 @@ returns-4 c = λ sheet knows.
     let direction = c .before .before .before in
     let there = direction .before .before in
     let long = there .before .before in
-    judgement-read _ sheet knows _ _ _ (long .before .before .before .pre .0 .body) (long .if1 .left) _ (there .before .byte-at .ensures) (there .if2 .left) (direction .before .byte-at2 .ensures) (direction .if3 .left)
+    judgement-read _ sheet knows _ _ _ (long .before .before .before .pre .0 .body) (long .if1 .left) _ (there .before .byte-at .ensures) (there .if2 .left)
+    (direction .before .byte-at2 .ensures) (direction .if3 .left)
     (c .before .wide .ensures .0) (c .ground-terms .result) (c .ground-terms .ensures)
 
 pub judgement-task-spec : {M : Type 1} → statement M

@@ -18,7 +18,8 @@ loop-holds c = tested-start _ _
 loop-again : tie.Need-loop-again Inv-loop μ-loop
 loop-again c =
     let round = c .before .before .before in
-    tested-next _ _ _ _ _ _ (round .before .loop .inv) (round .before .before .before .pre) (round .loop-test .taken) (c .before .is-digit .ensures) (c .both .ensures)
+    tested-next _ _ _ _ _ _ (round .before .loop .inv) (round .before .before .before .pre) (round .loop-test .taken) (c .before .is-digit .ensures)
+    (c .both .ensures)
 
 returns : tie.Need-returns Inv-loop μ-loop
 returns c = tested-all _ _ _ _ (c .before .loop .inv) (c .loop-test .left)

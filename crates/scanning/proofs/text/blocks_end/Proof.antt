@@ -19,7 +19,8 @@ loop-holds c = digits-to-start _ _ (c .before .pre)
 loop-again : tie.Need-loop-again Inv-loop μ-loop
 loop-again c =
     let loop = c .before .before .before .before .loop in
-    digits-to-block _ _ _ (loop .inv) (c .before .before .before .loop-test .taken) (c .before .before .if1 .left) (c .before .block-digits .ensures (c .if2 .taken))
+    digits-to-block _ _ _ (loop .inv) (c .before .before .before .loop-test .taken) (c .before .before .if1 .left)
+    (c .before .block-digits .ensures (c .if2 .taken))
 
 pub blocks-end-spec : {M : Type 1} → statement M
 blocks-end-spec =

@@ -25,17 +25,20 @@ returns c =
 returns-2 : tie.Need-returns-2 Inv-loop μ-loop
 returns-2 c =
     let round = c .before .before .before .before in
-    digits-to-other _ _ _ (round .before .loop .inv) (round .loop-test .taken) (c .if2 .left) (omega (arith, c .before .before .digit-value .ensures, c .before .if1 .taken))
+    digits-to-other _ _ _ (round .before .loop .inv) (round .loop-test .taken) (c .if2 .left)
+    (omega (arith, c .before .before .digit-value .ensures, c .before .if1 .taken))
 
 returns-3 : tie.Need-returns-3 Inv-loop μ-loop
 returns-3 c =
     let round = c .before .before .before .before in
-    digits-to-long _ _ _ (round .before .loop .inv) (round .loop-test .taken) (digit-no-end _ (omega (arith, c .before .before .digit-value .ensures, c .before .if1 .left))) (c .if3 .taken)
+    digits-to-long _ _ _ (round .before .loop .inv) (round .loop-test .taken)
+    (digit-no-end _ (omega (arith, c .before .before .digit-value .ensures, c .before .if1 .left))) (c .if3 .taken)
 
 loop-again : tie.Need-loop-again Inv-loop μ-loop
 loop-again c =
     let round = c .before .before .before .before in
-    digits-to-next _ _ _ (round .before .loop .inv) (round .loop-test .taken) (omega (arith, c .before .before .digit-value .ensures, c .before .if1 .left)) (c .if3 .left)
+    digits-to-next _ _ _ (round .before .loop .inv) (round .loop-test .taken) (omega (arith, c .before .before .digit-value .ensures, c .before .if1 .left))
+    (c .if3 .left)
 
 returns-4 : tie.Need-returns-4 Inv-loop μ-loop
 returns-4 c = digits-to-unended _ _ _ (c .before .loop .inv) (c .loop-test .left) (c .before .before .before .before .pre)

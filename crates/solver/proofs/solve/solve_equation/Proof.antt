@@ -1,4 +1,4 @@
--- `calls::solve::solve_equation` walks one direction of the equation with these bytes.
+-- `solve_equation` walks one direction of the equation with these bytes.
 use mathlib.Core.Path.{_≡_, refl, sym}
 use native.Mathlib.Omega.{arith}
 use borrow.Author.Needs.{needs}

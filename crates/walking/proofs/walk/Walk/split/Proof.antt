@@ -7,39 +7,30 @@ use borrow.Author.Needs.{needs}
 use Rattle.walking.proofs.walk.Walk.split.Statement.{statement}
 use Rattle.walking.proofs.walk.Walk.split.Tie as tie
 
--- src/walk.rt:140:13
 choices-of-requires : tie.Need-choices-of-requires
 choices-of-requires c κs = has-choices (c .before .before .before .pre)
 
--- src/walk.rt:144:27
 sub-too-long : tie.Need-sub-too-long
 sub-too-long c = omega (arith, count-elements (c .before .before .before .before .before .before .pre))
 
--- src/walk.rt:144:27
 add-too-long : tie.Need-add-too-long
 add-too-long c = omega (arith, count-elements (c .before .before .before .before .before .before .before .pre), few-elements (c .before .before .before .before .before .before .before .pre .treating), right-few (c .before .before .before .before .before .before .before .pre) (c .before .before .before .choices-of .result) (c .before .before .before .choices-of .ensures))
 
--- src/walk.rt:144:12
 too-long-requires : tie.Need-too-long-requires
 too-long-requires c κs = search needs
 
--- src/walk.rt:145:13
 returns : tie.Need-returns
 returns c = let long = c .before .too-long .ensures .tells (c .if1 .taken) in record { outcome = split-too-long (c .before .before .before .before .before .before .before .before .before .pre) (c .before .before .before .before .before .choices-of .result) (c .before .before .before .before .before .choices-of .ensures) (long .0) (long .1) }
 
--- src/walk.rt:150:22
 add-number : tie.Need-add-number
 add-number c = omega (arith, choices-few (c .before .before .before .before .before .before .before .before .before .before .pre) (c .before .before .before .before .before .before .choices-of .result) (c .before .before .before .before .before .before .choices-of .ensures) .0)
 
--- src/walk.rt:150:22
 add-number-2 : tie.Need-add-number-2
 add-number-2 c = omega (arith, choices-few (c .before .before .before .before .before .before .before .before .before .before .pre) (c .before .before .before .before .before .before .choices-of .result) (c .before .before .before .before .before .before .choices-of .ensures) .0, choices-few (c .before .before .before .before .before .before .before .before .before .before .pre) (c .before .before .before .before .before .before .choices-of .result) (c .before .before .before .before .before .before .choices-of .ensures) .1)
 
--- src/walk.rt:151:12
 add-if2 : tie.Need-add-if2
 add-if2 c = search needs
 
--- src/walk.rt:151:27
 add-if2-2 : tie.Need-add-if2-2
 add-if2-2 c = omega (arith, choices-few (c .before .before .before .before .before .before .before .before .before .before .before .before .pre) (c .before .before .before .before .before .before .before .before .choices-of .result) (c .before .before .before .before .before .before .before .before .choices-of .ensures) .0, choices-few (c .before .before .before .before .before .before .before .before .before .before .before .before .pre) (c .before .before .before .before .before .before .before .before .choices-of .result) (c .before .before .before .before .before .before .before .before .choices-of .ensures) .1, c .before .before .before .before .before .before .before .before .before .before .before .before .pre .treating .holds .ordered, treating-top (c .before .before .before .before .before .before .before .before .before .before .before .before .pre .treating))
 
@@ -47,11 +38,9 @@ add-if2-2 c = omega (arith, choices-few (c .before .before .before .before .befo
 returns-2 : tie.Need-returns-2
 returns-2 c = record { outcome = split-too-many (c .before .before .before .before .before .before .before .before .before .before .before .before .before .pre) (c .before .before .before .before .before .before .before .before .before .choices-of .result) (c .before .before .before .before .before .before .before .before .before .choices-of .ensures) (c .before .before .before .before .before .too-long .ensures .fits (c .before .before .before .before .if1 .left)) (c .if2 .taken) }
 
--- src/walk.rt:157:21
 add-first : tie.Need-add-first
 add-first c = omega (arith, treating-top (c .before .before .before .before .before .before .before .before .before .before .before .before .before .before .pre .treating))
 
--- src/walk.rt:157:21
 sub-first : tie.Need-sub-first
 sub-first c = search needs
 
@@ -67,11 +56,9 @@ slice-aggregate-load c = search needs
 load-requires : tie.Need-load-requires
 load-requires c κs = (treating-place (c .before .before .before .before .before .before .before .before .before .before .before .before .before .before .before .before .before .pre .treating), refl)
 
--- src/walk.rt:160:29
 slice-aggregate-push-choices : tie.Need-slice-aggregate-push-choices
 slice-aggregate-push-choices c = search needs
 
--- src/walk.rt:160:57
 mul-push-choices : tie.Need-mul-push-choices
 mul-push-choices c = omega (arith, treating-top (c .before .before .before .before .before .before .before .before .before .before .before .before .before .before .before .before .before .before .before .before .before .pre .treating))
 
@@ -79,11 +66,9 @@ mul-push-choices c = omega (arith, treating-top (c .before .before .before .befo
 push-choices-requires : tie.Need-push-choices-requires
 push-choices-requires c κs = split-fits (c .before .before .before .before .before .before .before .before .before .before .before .before .before .before .before .before .before .before .before .before .before .pre) (c .before .before .before .before .before .before .before .before .before .before .before .before .before .before .before .before .before .choices-of .result) (c .before .before .before .before .before .before .before .before .before .before .before .before .before .before .before .before .before .choices-of .ensures) (c .before .before .before .before .before .before .before .before .before .before .before .before .before .too-long .ensures .fits (c .before .before .before .before .before .before .before .before .before .before .before .before .if1 .left)) (c .before .before .before .load .last .1 .1 .0) (c .before .before .before .load .ensures) (c .before .before .before .before .before .before .before .before .if2 .left) _ refl
 
--- src/walk.rt:161:15
 turned-requires : tie.Need-turned-requires
 turned-requires c κs = c .before .before .before .before .before .before .before .before .before .before .before .before .before .before .before .before .before .before .before .before .before .before .before .before .before .pre .turns-below
 
--- src/walk.rt:161:9
 going-requires : tie.Need-going-requires
 going-requires c κs = search needs
 

@@ -5,99 +5,75 @@ use borrow.Author.Needs.{needs}
 use Rattle.walking.proofs.walk.Walk.treat.Statement.{statement}
 use Rattle.walking.proofs.walk.Walk.treat.Tie as tie
 
--- src/walk.rt:178:13
 returns : tie.Need-returns
 returns c = let start = c .before .before .before .before .before in record { outcome = too-long-walk (start .pre .0 .treating) (start .pre .1) (c .if1 .taken) }
 
--- src/walk.rt:183:13
 wide-requires : tie.Need-wide-requires
 wide-requires c κs = search needs
 
--- src/walk.rt:185:35
 enum-told : tie.Need-enum-told
 enum-told c = search needs
 
--- src/walk.rt:185:35
 going-requires : tie.Need-going-requires
 going-requires c κs = search needs
 
--- src/walk.rt:186:54
 enum-told-2 : tie.Need-enum-told-2
 enum-told-2 c = search needs
 
--- src/walk.rt:186:54
 add-turned : tie.Need-add-turned
 add-turned c = search needs
 
--- src/walk.rt:186:42
 turned-requires : tie.Need-turned-requires
 turned-requires c κs = below-limit (c .before .before .before .before .before .before .before .before .before .pre .0 .treating .turns-within) (c .before .before .before .before .if1 .left)
 
--- src/walk.rt:186:36
 going-requires-2 : tie.Need-going-requires-2
 going-requires-2 c κs = search needs
 
--- src/walk.rt:187:83
 enum-told-3 : tie.Need-enum-told-3
 enum-told-3 c = search needs
 
--- src/walk.rt:187:45
 drop-element-requires : tie.Need-drop-element-requires
 drop-element-requires c κs = (treating-as (treating-number (c .before .before .before .before .before .before .before .before .before .pre .0) (c .before .before .before .wide .result) (c .before .before .before .wide .ensures .0)) (c .before .enum-told3 .given .1), below-limit (c .before .before .before .before .before .before .before .before .before .pre .0 .treating .turns-within) (c .before .before .before .before .if1 .left))
 
--- src/walk.rt:187:39
 going-requires-3 : tie.Need-going-requires-3
 going-requires-3 c κs = search needs
 
--- src/walk.rt:188:30
 enum-known-treatment : tie.Need-enum-known-treatment
 enum-known-treatment c = search needs
 
--- src/walk.rt:188:46
 unify-requires : tie.Need-unify-requires
 unify-requires c κs = (treating-as (treating-number (c .before .before .before .before .before .before .before .before .before .before .pre .0) (c .before .before .before .before .wide .result) (c .before .before .before .before .wide .ensures .0)) (c .before .before .treatment .given .1), below-limit (c .before .before .before .before .before .before .before .before .before .before .pre .0 .treating .turns-within) (c .before .before .before .before .before .if1 .left))
 
--- src/walk.rt:188:40
 going-requires-4 : tie.Need-going-requires-4
 going-requires-4 c κs = search needs
 
--- src/walk.rt:189:30
 enum-known-treatment-2 : tie.Need-enum-known-treatment-2
 enum-known-treatment-2 c = search needs
 
--- src/walk.rt:189:47
 split-requires : tie.Need-split-requires
 split-requires c κs = treating-counted (treating-as (treating-number (c .before .before .before .before .before .before .before .before .before .before .pre .0) (c .before .before .before .before .wide .result) (c .before .before .before .before .wide .ensures .0)) (c .before .before .treatment2 .given .1)) (below-limit (c .before .before .before .before .before .before .before .before .before .before .pre .0 .treating .turns-within) (c .before .before .before .before .before .if1 .left))
 
--- src/walk.rt:165:5
 returns-2 : tie.Need-returns-2
 returns-2 c = absurd (c .before .before .before .before .before .before .before .before .before .pre .1 (c .before .enum-told .given .1))
 
--- src/walk.rt:165:5
 returns-3 : tie.Need-returns-3
 returns-3 c = rw (c .going2 .ensures, c .before .turned .ensures) (record { outcome = line-dropped (c .before .before .before .before .before .before .before .before .before .before .before .pre .0 .treating) (below-limit (c .before .before .before .before .before .before .before .before .before .before .before .pre .0 .treating .turns-within) (c .before .before .before .before .before .before .if1 .left)) (c .before .before .before .enum-told2 .given .1) })
 
--- src/walk.rt:165:5
 same-length : tie.Need-same-length
 same-length c = search needs
 
--- src/walk.rt:165:5
 returns-4 : tie.Need-returns-4
 returns-4 c = rw (c .going3 .ensures) (record { outcome = c .before .before .before .drop-element .ensures })
 
--- src/walk.rt:165:5
 same-length-2 : tie.Need-same-length-2
 same-length-2 c = search needs
 
--- src/walk.rt:165:5
 returns-5 : tie.Need-returns-5
 returns-5 c = rw (c .going4 .ensures) (record { outcome = c .before .before .before .unify .ensures })
 
--- src/walk.rt:165:5
 same-length-3 : tie.Need-same-length-3
 same-length-3 c = search needs
 
--- src/walk.rt:165:5
 returns-6 : tie.Need-returns-6
 returns-6 c = c .before .before .split .ensures
 

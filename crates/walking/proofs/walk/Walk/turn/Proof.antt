@@ -2,7 +2,7 @@
 use mathlib.Core.Path.{ap, _∙_}
 use lib.ListN.{length}
 use denote.Enum.Declared.{tagOf}
-use Rattle.walking.proofs.treat.Treatment.{the-type}
+use Rattle.treating.proofs.treat.Treatment.{the-type}
 use Prim.Native.Nat.{_-_}
 use mathlib.Core.Path.{_≡_, refl}
 use native.Mathlib.Omega.{arith}
@@ -32,26 +32,21 @@ head-requires c κs = place-there (c .before .before .before .before .before .pr
 loop-holds : tie.Need-loop-holds Inv-loop μ-loop Inv-loop2 μ-loop2
 loop-holds c = filling-start _ _ _ (c .before .head .ensures .places)
 
--- src/walk.rt:189:51
 add-element-at : tie.Need-add-element-at Inv-loop μ-loop Inv-loop2 μ-loop2
 add-element-at c = search needs
 
--- src/walk.rt:189:75
 mul-element-at : tie.Need-mul-element-at Inv-loop μ-loop Inv-loop2 μ-loop2
 mul-element-at c = omega (arith, head-few (c .before .before .before .before .before .before .before .before .before .before .pre .0) (c .before .before .before .before .before .before .before .before .before .before .pre .1) (c .before .before .before .before .head .ensures))
 
--- src/walk.rt:189:51
 add-element-at-2 : tie.Need-add-element-at-2 Inv-loop μ-loop Inv-loop2 μ-loop2
 add-element-at-2 c = omega (arith, head-few (c .before .before .before .before .before .before .before .before .before .before .pre .0) (c .before .before .before .before .before .before .before .before .before .before .pre .1) (c .before .before .before .before .head .ensures), place-there (c .before .before .before .before .before .before .before .before .before .before .pre .0) (c .before .before .before .before .before .before .before .before .before .before .pre .1))
 
 element-at-requires : tie.Need-element-at-requires Inv-loop μ-loop Inv-loop2 μ-loop2
 element-at-requires c κs = omega (arith, head-few (c .before .before .before .before .before .before .before .before .before .before .pre .0) (c .before .before .before .before .before .before .before .before .before .before .pre .1) (c .before .before .before .before .head .ensures), place-there (c .before .before .before .before .before .before .before .before .before .before .pre .0) (c .before .before .before .before .before .before .before .before .before .before .pre .1))
 
--- src/walk.rt:189:13
 mul-t23 : tie.Need-mul-t23 Inv-loop μ-loop Inv-loop2 μ-loop2
 mul-t23 c = omega (arith, head-few (c .before .before .before .before .before .before .before .before .before .before .before .pre .0) (c .before .before .before .before .before .before .before .before .before .before .before .pre .1) (c .before .before .before .before .before .head .ensures))
 
--- src/walk.rt:189:13
 element-set-from-line : tie.Need-element-set-from-line Inv-loop μ-loop Inv-loop2 μ-loop2
 element-set-from-line c = omega (arith, head-few (c .before .before .before .before .before .before .before .before .before .before .before .pre .0) (c .before .before .before .before .before .before .before .before .before .before .before .pre .1) (c .before .before .before .before .before .head .ensures))
 
@@ -68,11 +63,9 @@ loop-again c = filling-next (c .before .before .before .loop .inv) (omega (arith
 loop2-holds : tie.Need-loop2-holds Inv-loop μ-loop Inv-loop2 μ-loop2
 loop2-holds c = (refl, searching-start _ _ _ _ _)
 
--- src/walk.rt:194:27
 mul-element : tie.Need-mul-element Inv-loop μ-loop Inv-loop2 μ-loop2
 mul-element c = omega (arith, head-few (c .before .before .before .before .before .before .before .before .before .before .before .pre .0) (c .before .before .before .before .before .before .before .before .before .before .before .pre .1) (c .before .before .before .before .before .head .ensures))
 
--- src/walk.rt:194:27
 element-copy-out-element : tie.Need-element-copy-out-element Inv-loop μ-loop Inv-loop2 μ-loop2
 element-copy-out-element c = omega (arith, head-few (c .before .before .before .before .before .before .before .before .before .before .before .pre .0) (c .before .before .before .before .before .before .before .before .before .before .before .pre .1) (c .before .before .before .before .before .head .ensures))
 
@@ -80,7 +73,6 @@ slice-aggregate-treatment-of :
     tie.Need-slice-aggregate-treatment-of Inv-loop μ-loop Inv-loop2 μ-loop2
 slice-aggregate-treatment-of c = search needs
 
--- src/walk.rt:195:17
 treatment-of-requires : tie.Need-treatment-of-requires Inv-loop μ-loop Inv-loop2 μ-loop2
 treatment-of-requires c κs =
     let start = c .before .before .before .before .before .before .before .before .before .before .before .before .before in
@@ -95,7 +87,6 @@ enum-told c = search needs
 cast-treat : tie.Need-cast-treat Inv-loop μ-loop Inv-loop2 μ-loop2
 cast-treat c = omega (arith, head-few (c .before .before .before .before .before .before .before .before .before .before .before .before .before .before .before .before .pre .0) (c .before .before .before .before .before .before .before .before .before .before .before .before .before .before .before .before .pre .1) (c .before .before .before .before .before .before .before .before .before .before .head .ensures))
 
--- src/walk.rt:197:17
 treat-requires : tie.Need-treat-requires Inv-loop μ-loop Inv-loop2 μ-loop2
 treat-requires c κs =
     let start = c .before .before .before .before .before .before .before .before .before .before .before .before .before .before .before .before in
@@ -106,11 +97,9 @@ treat-requires c κs =
     let loop = c .before .before .before .before .before .before .loop2 in
     (head-treating (start .pre .0) (start .pre .1) head filled full (loop .inv .1) (c .before .before .before .before .before .loop2-test .taken) (found .result) (found .ensures) _ (loop .inv .0), λ z. not-first (c .before .match .keys2) (ap (tagOf the-type) z))
 
--- src/walk.rt:197:17
 same-length : tie.Need-same-length Inv-loop μ-loop Inv-loop2 μ-loop2
 same-length c = c .before .before .treat .kept .1 .1 .1 .1 .0 ∙ ap length (c .before .before .before .before .before .before .before .before .before .loop2 .inv .0)
 
--- src/walk.rt:197:17
 returns : tie.Need-returns Inv-loop μ-loop Inv-loop2 μ-loop2
 returns c = c .before .before .treat .ensures
 
@@ -141,7 +130,6 @@ finish-requires c κs =
     let loop = c .before .before .loop2 in
     head-finishing (start .pre .0) (start .pre .1) head filled full (loop .inv .1) (c .before .loop2-test .left) _ (loop .inv .0)
 
--- src/walk.rt:201:9
 going-requires : tie.Need-going-requires Inv-loop μ-loop Inv-loop2 μ-loop2
 going-requires c κs = search needs
 
