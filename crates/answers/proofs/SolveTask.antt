@@ -27,13 +27,14 @@ use Rattle.reading.specs.Theory.Found.{equation-few, equation-asked}
 use Rattle.solving.specs.Line.{records}
 use Rattle.solving.specs.Walk.{Walked, solve}
 use Rattle.solving.specs.Theory.Solve.{solved-line-count, solved-turn-count}
-use Rattle.walking.specs.declared.solve.WalkEnd.the-variants.{Solved, Refused}
-use Rattle.walking.specs.declared.solve.WalkResult.{WalkResult as Reported}
+use Rattle.solver.specs.declared.positions.WalkEnd.the-variants.{Solved, Refused}
+use Rattle.solver.specs.declared.positions.WalkResult.{WalkResult as Reported}
 use Rattle.outcomes.specs.Buffer.{field-limit, fields, refusal-number, filled, cleared, blanked}
 use Rattle.outcomes.specs.Asked.{found, find, asked, directed-in, solve-directed, equation-line}
 use Rattle.outcomes.specs.Outcome.{TableOutcome, table-unsolved, solve-walked, solve-answer}
-use Rattle.solver.specs.Contracts.Equation.{EquationIs, HasEquation, walk-bytes}
-use Rattle.walking.specs.Contracts.Solve.{ReportsEnd, Reports}
+use Rattle.solver.specs.Contracts.Equation.{EquationIs, HasEquation}
+use Rattle.walking.specs.Contracts.Walking.{memory-bytes}
+use Rattle.solver.specs.Contracts.Reports.{ReportsEnd, Reports}
 use Rattle.answers.proofs.Fill.{filled-behind}
 use Rattle.answers.proofs.Arities.{arities-taken}
 
@@ -41,9 +42,9 @@ abbrev pub outcome : ℕ → (table scratch : List ℕ) → TableOutcome
 outcome n table scratch = record { returned = n; table = table; scratch = scratch }
 
 -- 1. What is left after a walk.
-pub walk-cleared : (scratch worked last : List ℕ) → drop walk-bytes worked ≡ drop walk-bytes scratch → last ≡ filled scratch-bytes 0 worked → last ≡ cleared scratch
+pub walk-cleared : (scratch worked last : List ℕ) → drop memory-bytes worked ≡ drop memory-bytes scratch → last ≡ filled scratch-bytes 0 worked → last ≡ cleared scratch
 unfolding cleared
-walk-cleared scratch worked last h e = e ∙ filled-behind scratch-bytes walk-bytes 0 worked scratch (omega arith) h
+walk-cleared scratch worked last h e = e ∙ filled-behind scratch-bytes memory-bytes 0 worked scratch (omega arith) h
 
 module _ (equation : ℕ) (scratch : List ℕ) {w : Walked} {table after : List ℕ} {told : Reported} (t : Reports w table after told) where
   pub walk-solved : {n : ℕ} {last : List ℕ} → told .ending ≡ Solved → n ≡ fields (told .lines) (told .turns) 0 → last ≡ cleared scratch

@@ -6,8 +6,8 @@ use format::limits::Limits;
 use format::refusal::Refusal;
 use reading::seek::equation_at;
 use scanning::known::Known;
+use solver::positions::WalkEnd;
 use solver::solve::solve_equation;
-use walking::solve::WalkEnd;
 ghost use mathlib.Core.Path.{_≡_};
 ghost use mathlib.Core.Bool.{true};
 ghost use mathlib.Core.Option.{some};
@@ -20,6 +20,9 @@ ghost use Rattle.solving.specs.Walk.{solve};
 ghost use Rattle.outcomes.specs.Asked.{asked, solve-directed};
 ghost use Rattle.outcomes.specs.Outcome.{solve-walked, solve-answer};
 ghost use Rattle.solver.specs.Contracts.Equation.{EquationIs, HasEquation};
+
+// Frame 01 is line 1, and the equations follow, one a line.
+const FIRST_EQUATION_LINE: usize = 2;
 
 // Solve on the bytes of equation `equation`.
 fn solve_bytes(
@@ -41,7 +44,7 @@ fn solve_bytes(
         WalkEnd::Solved => fields_number(walked.lines, walked.turns, 0),
         WalkEnd::Refused(why) => {
             fill(table, Limits::TABLE, Limits::NO_POSITION);
-            refusal_number(why, equation + 2)
+            refusal_number(why, equation + FIRST_EQUATION_LINE)
         }
     }
 }

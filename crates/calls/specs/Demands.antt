@@ -1,13 +1,13 @@
--- Demands 2 and 3 of the mission over what the calls give, each a proposition beside the mission's words. That they hold is proved in
--- Theory: `verdicts-demanded`, `tables-demanded`, `runs-demanded`, `solve-refused-by-host` and `run-refused-by-host`. The calls' contracts
--- equate what the code gives with these outcomes (src/), so that the demands speak of the code.
+-- Demands 2 and 3 over what the calls give, each a proposition beside its words. Theory proves them: Verdicts, Tables, Runs. The contracts of
+-- check, compare and solve (src/) equate what the code gives with these outcomes, so that the demands speak of the code; run's is to come.
 use Prim.Native.Nat.{ℕ, _≤_, _<_}
 use mathlib.Core.Path.{_≡_}
 use mathlib.Core.Logic.{_⊎_, _↔_}
+use mathlib.Core.Bool.{true}
 use mathlib.Core.Option.{none, some}
 use mathlib.Core.List.{List, [], _∷_}
 use lib.ListN.{length}
-use Rattle.format.specs.Limits.{variable-count, position-count, max-elements}
+use Rattle.format.specs.Limits.{variable-count, position-count, max-elements, scratch-bytes}
 use Rattle.format.specs.Refusal.{number}
 use Rattle.format.specs.declared.refusal.Refusal.the-variants.{ShortBuffer as short-buffer, AbsentArgument as absent-argument}
 use Rattle.format.specs.Buffer.{written}
@@ -23,7 +23,7 @@ use Rattle.solving.specs.Holds.{SomeLineHolds}
 use Rattle.reducing.specs.Run.{Descending}
 use Rattle.reducing.specs.Test.{line-run, reference-run, EverySolves}
 use Rattle.outcomes.specs.Buffer.{fields, refusal-byte}
-use Rattle.outcomes.specs.Outcome.{compare-call, solve-call, run-done, run-call}
+use Rattle.outcomes.specs.Outcome.{compare-call, table-fits, solve-call, run-fits, run-done, run-call}
 
 -- The number that a call returns names no refusal.
 abbrev pub Served : ℕ → Type 0
@@ -107,6 +107,7 @@ pub record RunNamed (sheet : List ℕ) (task : ℕ) : Type 0 where
   pub limit : ℕ
   pub subject : Term
   pub task-there : entry (content .tasks) task ≡ some (run limit subject)
+  pub subject-ground : Ground (content .arities) subject
 
 pub record RunDemand (sheet : List ℕ) (task : ℕ) (table scratch term log : List ℕ) : Type 0 where
   pub named : RunNamed sheet task
@@ -119,6 +120,34 @@ pub record RunDemand (sheet : List ℕ) (task : ℕ) (table scratch term log : L
 
 abbrev pub RunsDemanded : Type 0
 RunsDemanded = (sheet : List ℕ) (task : ℕ) (table scratch term log : List ℕ) → Served (run-call sheet task table scratch term log .returned) → RunDemand sheet task table scratch term log
+
+-- Demand 3 in its own words, of every accepted sheet, whatever calls are made on it.
+abbrev pub TablesExact : Type 0
+TablesExact =
+    (sheet : List ℕ) (s : Sheet) → read sheet ≡ accepted s → (e : ℕ) (q : Equation) → entry (s .equations) e ≡ some q → (d : Direction) (solves : Solves q d)
+    → (ρ : Values) → (inst ρ (source q d) ≻ inst ρ (target q d)) ↔ SomeLineHolds ρ (value q ρ) (solves .table)
+
+abbrev pub RunsAreReferenceRuns : Type 0
+RunsAreReferenceRuns =
+    (sheet : List ℕ) (s : Sheet) → read sheet ≡ accepted s → EverySolves (s .equations) → (k : ℕ) (subject : Term)
+    → (line-run (s .equations) k subject ≡ reference-run (s .equations) k subject) × Descending subject (line-run (s .equations) k subject .steps)
+
+-- What is asked for is given: with buffers that are long enough, compare serves each task of two terms, solve each direction that solves, and run each task of
+-- a run where every direction solves.
+abbrev pub CompareServes : Type 0
+CompareServes =
+    (sheet : List ℕ) (s : Sheet) (task : ℕ) (t u : Term) (scratch : List ℕ) → read sheet ≡ accepted s → entry (s .tasks) task ≡ some (comparison t u)
+    → scratch-bytes ≤ length scratch → Served (compare-call sheet task scratch .returned)
+
+abbrev pub SolveServes : Type 0
+SolveServes =
+    (sheet : List ℕ) (s : Sheet) (e d : ℕ) (q : Equation) (o : Direction) (table scratch : List ℕ) → read sheet ≡ accepted s → entry (s .equations) e ≡ some q
+    → direction-of d ≡ some o → Solves q o → table-fits table scratch ≡ true → Served (solve-call sheet e d table scratch .returned)
+
+abbrev pub RunServes : Type 0
+RunServes =
+    (sheet : List ℕ) (s : Sheet) (task k : ℕ) (t : Term) (table scratch term log : List ℕ) → read sheet ≡ accepted s → entry (s .tasks) task ≡ some (run k t)
+    → EverySolves (s .equations) → run-fits table scratch term log ≡ true → Served (run-call sheet task table scratch term log .returned)
 
 -- Document 01: "On an accepted sheet no refusal but 11 or 12, which give no table and no run, can meet solve on a direction that solves, or run where every
 -- direction solves."

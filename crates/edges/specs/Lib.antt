@@ -1,4 +1,3 @@
 pub mod Calls
 pub mod Texts
 pub mod Walks
-pub mod Limits

@@ -14,7 +14,7 @@ use Rattle.terms.specs.Prefix.{prefix, prefixes, equation-bytes}
 use Rattle.scanning.specs.declared.known.Known.{Known}
 use Rattle.reading.specs.declared.seek.TaskHead.the-variants.{Run, Judgement, Comparison}
 use Rattle.sheet.specs.Sheet.{Task, run, judgement, comparison}
-use Rattle.sheet.specs.Frames.{equation-frame, task-frame}
+use Rattle.sheet.specs.Contracts.Frames.{equation-frame, task-frame}
 use Rattle.sheet.specs.Reading.{accepted}
 use Rattle.scanning.specs.Contracts.Digits.{pair-at}
 use Rattle.reading.specs.Contracts.Seek.{Accepts, FrameIn, EquationIn, TaskIn, Spans, TaskAt, task-terms}

@@ -11,7 +11,7 @@ use Rattle.format.specs.Lists.{entry}
 use Rattle.terms.specs.Equation.{Equation}
 use Rattle.sheet.specs.Text.{LF, TextLine, ended, unended, put-byte, lines-of, frame-of}
 use Rattle.sheet.specs.Sheet.{Task, Sheet}
-use Rattle.sheet.specs.Frames.{equation-frame, task-frame, frames-of}
+use Rattle.sheet.specs.Contracts.Frames.{equation-frame, task-frame, frames-of}
 use Rattle.sheet.specs.Reading.{accepted, read}
 use Rattle.scanning.specs.Contracts.Digits.{bytes-between, LineTo, NoFrame}
 use Rattle.reading.specs.Contracts.Seek.{FrameIn, Spans}

@@ -18,7 +18,7 @@ ghost use Rattle.terms.specs.Equation.{Equation};
 ghost use Rattle.terms.specs.Prefix.{equation-bytes};
 ghost use Rattle.sheet.specs.Text.{TextLine, lines-of};
 ghost use Rattle.sheet.specs.Sheet.{Task};
-ghost use Rattle.sheet.specs.Frames.{task-frame};
+ghost use Rattle.sheet.specs.Contracts.Frames.{task-frame};
 ghost use Rattle.reading.specs.Contracts.Seek.{Accepts, FrameIn, EquationIn, TaskIn, Spans, Decoded, TaskAt};
 
 // Where line `n` starts; lines are numbered from 0.

@@ -87,17 +87,12 @@ module _ (test : Equation → Direction → Values → Bool) where
         ]
       ]
 
--- "The terms of a run are its frame's term and then the result of each step."
-unfoldable pub terms-of-run : Term → List Step → List Term
-terms-of-run subject [] = subject ∷ []
-terms-of-run subject (s ∷ steps) = subject ∷ terms-of-run (s .result) steps
-
--- The last of them: "Ending 02 keeps the term before it."
+-- "The terms of a run are its frame's term and then the result of each step." The last of them: "Ending 02 keeps the term before it."
 unfoldable pub last-term : Term → List Step → Term
 last-term subject [] = subject
 last-term subject (s ∷ steps) = last-term (s .result) steps
 
--- "each term of the run exceeds the next"
+-- "each term of the run exceeds the next": the subject the first step's result, that the second's, and so on.
 abbrev pub Descending : Term → List Step → Type 0
 Descending subject [] = Unit {0}
 Descending subject (s ∷ steps) = (subject ≻ s .result) × Descending (s .result) steps

@@ -1,7 +1,6 @@
 pub mod Text
 pub mod Sheet
 pub mod Frame
-pub mod Frames
 pub mod Reading
 pub mod Theory
 pub mod Contracts

@@ -18,9 +18,10 @@ use Rattle.solving.specs.Walk.{enough, walk, solve}
 use Rattle.unifying.specs.Contracts.PrefixForm.{view-of, InPrefixForm}
 use Rattle.unifying.specs.Contracts.Equation.{equation-sizes}
 use Rattle.unifying.specs.Theory.Equation.{length-nodes, length-sizes, size-at, equation-walk, equation-form}
-use Rattle.walking.specs.declared.solve.WalkResult.{WalkResult as Reported}
-use Rattle.walking.specs.Contracts.Solve.{Reports}
-use Rattle.solver.specs.Contracts.Equation.{EquationIs, walk-bytes}
+use Rattle.solver.specs.declared.positions.WalkResult.{WalkResult as Reported}
+use Rattle.solver.specs.Contracts.Reports.{Reports}
+use Rattle.solver.specs.Contracts.Equation.{EquationIs}
+use Rattle.walking.specs.Contracts.Walking.{memory-bytes}
 use Rattle.solver.specs.Theory.Equation.{equation-whole, equation-measured}
 
 -- "Direction 00 is left > right, 01 is right > left"
@@ -98,8 +99,8 @@ module _ {bytes arities : List ℕ} {e : Equation} (is : EquationIs bytes aritie
             subst (λ d. Reports (solve e d) b a told) (sym x) (subst (λ w. Reports w b a told) (walk-is right-left right 0 right-start refl) t)
 
 -- Behind the bytes that the walk works in scratch is as it was.
-pub behind-kept : (scratch front : List ℕ) → walk-bytes ≤ length scratch → length front ≡ length (take walk-bytes scratch) → drop walk-bytes (front ++ drop walk-bytes scratch) ≡ drop walk-bytes scratch
-behind-kept scratch front h l = drop-at front (drop walk-bytes scratch) walk-bytes (l ∙ length-take-le walk-bytes scratch h)
+pub behind-kept : (scratch front : List ℕ) → memory-bytes ≤ length scratch → length front ≡ length (take memory-bytes scratch) → drop memory-bytes (front ++ drop memory-bytes scratch) ≡ drop memory-bytes scratch
+behind-kept scratch front h l = drop-at front (drop memory-bytes scratch) memory-bytes (l ∙ length-take-le memory-bytes scratch h)
 
-pub walk-room : (scratch : List ℕ) → walk-bytes ≤ length scratch → walk-bytes ≡ length (take walk-bytes scratch)
-walk-room scratch h = sym (length-take-le walk-bytes scratch h)
+pub walk-room : (scratch : List ℕ) → memory-bytes ≤ length scratch → memory-bytes ≡ length (take memory-bytes scratch)
+walk-room scratch h = sym (length-take-le memory-bytes scratch h)

@@ -1,2 +1,3 @@
 // One direction of an equation, solved.
+pub mod positions;
 pub mod solve;

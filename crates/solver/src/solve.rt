@@ -1,10 +1,10 @@
 // The walk of one direction of an equation, from the equation's bytes.
+use crate::positions::MEMORY;
+use crate::positions::WalkResult;
+use crate::positions::solve_positions;
 use format::byte::wide;
 use format::limits::Limits;
 use terms::measure::measure;
-use walking::solve::MEMORY;
-use walking::solve::WalkResult;
-use walking::solve::solve_positions;
 ghost use mathlib.Core.Path.{_≡_};
 ghost use mathlib.Core.Option.{some};
 ghost use Prim.Native.Nat.{_≤_, _<_};
@@ -12,8 +12,9 @@ ghost use lib.ListN.{length, drop};
 ghost use Rattle.format.specs.Limits.{table-bytes};
 ghost use Rattle.terms.specs.Equation.{Equation, Direction, direction-of};
 ghost use Rattle.solving.specs.Walk.{solve};
-ghost use Rattle.solver.specs.Contracts.Equation.{EquationIs, HasEquation, walk-bytes};
-ghost use Rattle.walking.specs.Contracts.Solve.{Reports};
+ghost use Rattle.solver.specs.Contracts.Equation.{EquationIs, HasEquation};
+ghost use Rattle.walking.specs.Contracts.Walking.{memory-bytes};
+ghost use Rattle.solver.specs.Contracts.Reports.{Reports};
 
 // The walk of one direction of the equation with these bytes. Scratch holds anything in the bytes that the walk works in.
 pub fn solve_equation(
@@ -24,9 +25,9 @@ pub fn solve_equation(
     scratch: &mut [u8],
 ) -> WalkResult
     requires { ⌜ HasEquation (now bytes) (now arities) × (direction < 2) ⌝ }
-    requires { ⌜ (table-bytes ≤ length (now table)) × (walk-bytes ≤ length (now scratch)) ⌝ }
+    requires { ⌜ (table-bytes ≤ length (now table)) × (memory-bytes ≤ length (now scratch)) ⌝ }
     ensures { λ r. ⌜ ((e : Equation) (d : Direction) → EquationIs (now (bytes .entry)) (now (arities .entry)) e → direction-of direction ≡ some d → Reports (solve e d) (now (table .entry)) (now (table .exit)) r) ⌝ }
-    ensures { λ _. ⌜ drop walk-bytes (now (scratch .exit)) ≡ drop walk-bytes (now (scratch .entry)) ⌝ }
+    ensures { λ _. ⌜ drop memory-bytes (now (scratch .exit)) ≡ drop memory-bytes (now (scratch .entry)) ⌝ }
 {
     let mut sizes = [0u8; Limits::POSITIONS];
     let n = bytes.len();

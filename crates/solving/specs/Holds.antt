@@ -28,6 +28,7 @@ module _ (ρ : Values) (value : ℕ → Term) where
   abbrev pub LineHolds : Line → Type 0
   LineHolds (line θ es) = BindingsHold 0 θ × ElementsHold es
 
+  -- "No lines means never; a line without bindings or elements means always."
   abbrev pub SomeLineHolds : List Line → Type 0
   SomeLineHolds [] = ⊥
   SomeLineHolds (l ∷ ls) = LineHolds l ⊎ SomeLineHolds ls

@@ -18,7 +18,7 @@ use Rattle.solving.specs.Theory.Table.{ProperTable, treat-proper}
 use Rattle.unifying.specs.Contracts.PrefixForm.{view-of}
 use Rattle.unifying.specs.Contracts.Bindings.{bindings-of, Readable}
 use Rattle.lines.specs.Contracts.Resting.{RestingLine, line-of}
-use Rattle.walking.specs.Contracts.WellFormed.{AllReduced, WellFormed}
+use Rattle.walking.specs.Contracts.WellFormed.{KnownReduced, WellFormed}
 use Rattle.walking.specs.Contracts.Walking.{AllWellFormed}
 use Rattle.treating.specs.Contracts.Children.{child}
 use Rattle.treating.specs.Contracts.Splitting.{AllLong}
@@ -28,7 +28,7 @@ use Rattle.walking.proofs.Walking.{settled}
 
 -- 1. What they say.
 pub first-treated : (nodes sizes : List ℕ) (l : RestingLine) (pre : List Element) (e : Element) (post : List Element) (ms : List Line) → l .elements ≡ pre ++ (e ∷ post)
-    → AllReduced nodes sizes (l .bindings) pre → treat enough (view-of nodes sizes) (bindings-of (l .bindings)) e ≡ becomes ms
+    → KnownReduced nodes sizes (l .bindings) pre → treat enough (view-of nodes sizes) (bindings-of (l .bindings)) e ≡ becomes ms
     → treat-line enough (view-of nodes sizes) (line-of l) ≡ some (map (around pre post) ms)
 unfolding line-of treat-line
 first-treated nodes sizes l pre e post ms s r t =
@@ -67,7 +67,7 @@ module _ {nodes sizes : List ℕ} (l : RestingLine) (s : WellFormed nodes sizes 
   length-split = ap length split ∙ omega (arith, length-append pre (e ∷ post))
 
   -- With the bindings of the line.
-  pub child-well-formed : AllReduced nodes sizes (l .bindings) pre → (cs : List Element) → AllWithin (length nodes) cs → length pre + (length cs + length post) ≤ max-elements
+  pub child-well-formed : KnownReduced nodes sizes (l .bindings) pre → (cs : List Element) → AllWithin (length nodes) cs → length pre + (length cs + length post) ≤ max-elements
       → WellFormed nodes sizes (child (l .bindings) pre post cs)
   child-well-formed r cs w k =
       let a = length-append cs post in
@@ -96,12 +96,12 @@ module _ {nodes sizes : List ℕ} (l : RestingLine) (s : WellFormed nodes sizes 
   Fitting [] = Unit {0}
   Fitting (cs ∷ css) = (length pre + (length cs + length post) ≤ max-elements) × Fitting css
 
-  lines-well-formed : AllReduced nodes sizes (l .bindings) pre → (css : List (List Element)) → ProperTable (view-of nodes sizes) variable-count (length nodes) (map (line (bindings-of (l .bindings))) css) → Fitting css
+  lines-well-formed : KnownReduced nodes sizes (l .bindings) pre → (css : List (List Element)) → ProperTable (view-of nodes sizes) variable-count (length nodes) (map (line (bindings-of (l .bindings))) css) → Fitting css
       → AllWellFormed nodes sizes (map (child (l .bindings) pre post) css)
   lines-well-formed r [] p f = tt
   lines-well-formed r (cs ∷ css) p f = (child-well-formed r cs (p .0 .1) (f .0), lines-well-formed r css (p .1) (f .1))
 
-  pub children-well-formed : AllReduced nodes sizes (l .bindings) pre → (css : List (List Element)) → treat enough (view-of nodes sizes) (bindings-of (l .bindings)) e ≡ becomes (map (line (bindings-of (l .bindings))) css)
+  pub children-well-formed : KnownReduced nodes sizes (l .bindings) pre → (css : List (List Element)) → treat enough (view-of nodes sizes) (bindings-of (l .bindings)) e ≡ becomes (map (line (bindings-of (l .bindings))) css)
       → Fitting css → AllWellFormed nodes sizes (map (child (l .bindings) pre post) css)
   children-well-formed r css t f =
       lines-well-formed r css

@@ -19,7 +19,7 @@ use Rattle.lines.specs.declared.element.Element.{Element as Held}
 use Rattle.lines.specs.declared.line.Line.{Line as LineValue}
 use Rattle.lines.specs.Contracts.Layout.{count-place, first-element, reduced-place, line-bytes}
 use Rattle.lines.specs.Contracts.Resting.{said, meaning, marked, RestingLine, line-of, resting-bytes}
-use Rattle.lines.specs.Contracts.Line.{HasHead, elements-from, Holds}
+use Rattle.lines.specs.Contracts.Line.{HasHead, elements-from, Carries}
 use Rattle.lines.specs.Theory.Resting.{count-there, reduced-there, bindings-there, element-there}
 use Rattle.lines.specs.Theory.InPlace.{slice-is}
 use Rattle.lines.specs.Theory.Line.{unfilled, elements-hold}
@@ -27,7 +27,7 @@ use Rattle.treating.specs.declared.treat.Treatment.{Treatment}
 use Rattle.treating.specs.declared.treat.Treatment.the-variants.{Reduced}
 use Rattle.walking.specs.declared.walk.Walk.{Walk}
 use Rattle.treating.specs.Contracts.Treatment.{Treated}
-use Rattle.walking.specs.Contracts.WellFormed.{AllReduced, WellFormed}
+use Rattle.walking.specs.Contracts.WellFormed.{KnownReduced, WellFormed}
 use Rattle.walking.specs.Contracts.Walking.{HoldsTable, whole-walk, Walking, Finishing, TreatingLine}
 use Rattle.walking.proofs.Walking.{first-there}
 
@@ -38,7 +38,7 @@ below-limit {n = n} l e = go (decLt n max-turns)
     go (yes h) = h
     go (no h) = absurd (e (omega arith))
 
-reduced-append : (nodes sizes bs : List ℕ) (es fs : List Element) → AllReduced nodes sizes bs es → AllReduced nodes sizes bs fs → AllReduced nodes sizes bs (es ++ fs)
+reduced-append : (nodes sizes bs : List ℕ) (es fs : List Element) → KnownReduced nodes sizes bs es → KnownReduced nodes sizes bs fs → KnownReduced nodes sizes bs (es ++ fs)
 reduced-append nodes sizes bs [] fs h k = k
 reduced-append nodes sizes bs (e ∷ es) fs h k = (h .0, reduced-append nodes sizes bs es fs (h .1) k)
 
@@ -139,7 +139,7 @@ module _ {nodes sizes memory : List ℕ} {w : Walk} (k : Walking nodes sizes mem
     pub head-readable : Readable nodes sizes (start .bindings)
     head-readable = rw head-bindings (first-well-formed .readable)
 
-    pub filled-holds : {line : LineValue} {i : ℕ} → Filling memory place start line i → start .count ≤ i → Holds line (opened .first)
+    pub filled-holds : {line : LineValue} {i : ℕ} → Filling memory place start line i → start .count ≤ i → Carries line (opened .first)
     filled-holds {line = line} {i = i} f l =
         elements-hold line (opened .first) (f .places) (first-well-formed .few) (f .same-bindings ∙ head-bindings) (f .same-count ∙ head-count) (f .same-reduced ∙ head-reduced) (λ j a b.
         let n = head-count in
@@ -154,8 +154,8 @@ module _ {nodes sizes memory : List ℕ} {w : Walk} (k : Walking nodes sizes mem
 
 -- 3. The elements before `i` are fully reduced.
 pub record Searching (nodes sizes memory : List ℕ) (place : ℕ) (line : LineValue) (i : ℕ) : Type 0 where
-  pub so-far : (s : RestingLine) → WellFormed nodes sizes s → slice place (place + line-bytes) memory ≡ resting-bytes s → Holds line s
-      → (i ≤ length (s .elements)) × (s .reduced ≤ i) × AllReduced nodes sizes (s .bindings) (take i (s .elements))
+  pub so-far : (s : RestingLine) → WellFormed nodes sizes s → slice place (place + line-bytes) memory ≡ resting-bytes s → Carries line s
+      → (i ≤ length (s .elements)) × (s .reduced ≤ i) × KnownReduced nodes sizes (s .bindings) (take i (s .elements))
 
 pub searching-start : (nodes sizes memory : List ℕ) (place : ℕ) (line : LineValue) → Searching nodes sizes memory place line (line .reduced)
 searching-start nodes sizes memory place line = record {
@@ -163,7 +163,7 @@ searching-start nodes sizes memory place line = record {
 }
 
 -- The element that is looked at.
-looked-at : {l : LineValue} {s : RestingLine} {i : ℕ} → Holds l s → s .reduced ≤ i → i < l .count → meaning (getD (l .elements) i unfilled) ≡ getD (s .elements) i (greater 0 0)
+looked-at : {l : LineValue} {s : RestingLine} {i : ℕ} → Carries l s → s .reduced ≤ i → i < l .count → meaning (getD (l .elements) i unfilled) ≡ getD (s .elements) i (greater 0 0)
 unfolding elements-from meaning said
 looked-at {l = l} {s = s} {i = i} h a b =
     let part = slice i (l .count) (l .elements) in
@@ -174,7 +174,7 @@ looked-at {l = l} {s = s} {i = i} h a b =
     sym own ∙ (ap (λ es. getD es 0 (greater 0 0)) (h .elements-are i a) ∙ (getD-drop i (s .elements) 0 (greater 0 0) ∙ ap (λ n. getD (s .elements) n (greater 0 0)) e))
 
 module _ {nodes sizes memory : List ℕ} {place : ℕ} {line : LineValue} {i : ℕ} (f : Searching nodes sizes memory place line i) (below : i < line .count) where
-  pub searching-within : (s : RestingLine) → WellFormed nodes sizes s → slice place (place + line-bytes) memory ≡ resting-bytes s → Holds line s → Within (length nodes) (meaning (getD (line .elements) i unfilled))
+  pub searching-within : (s : RestingLine) → WellFormed nodes sizes s → slice place (place + line-bytes) memory ≡ resting-bytes s → Carries line s → Within (length nodes) (meaning (getD (line .elements) i unfilled))
   searching-within s d e h =
       let (a, b, c) = f .so-far s d e h in
       rw (looked-at h b below) (within-at (length nodes) (s .elements) i (greater 0 0) (d .within) (omega (arith, h .count-is)))
@@ -190,9 +190,9 @@ module _ {nodes sizes memory : List ℕ} {place : ℕ} {line : LineValue} {i : �
   }
 
 -- 4. One is not fully reduced, or all are.
-module _ {nodes sizes memory : List ℕ} {w : Walk} (k : Walking nodes sizes memory w) (h : w .top < max-lines) {line : LineValue} (own : Holds line (opened k h .first)) {i : ℕ}
+module _ {nodes sizes memory : List ℕ} {w : Walk} (k : Walking nodes sizes memory w) (h : w .top < max-lines) {line : LineValue} (own : Carries line (opened k h .first)) {i : ℕ}
     (f : Searching nodes sizes memory (w .top * line-bytes) line i) where
-  so-far : (i ≤ length (opened k h .first .elements)) × (opened k h .first .reduced ≤ i) × AllReduced nodes sizes (opened k h .first .bindings) (take i (opened k h .first .elements))
+  so-far : (i ≤ length (opened k h .first .elements)) × (opened k h .first .reduced ≤ i) × KnownReduced nodes sizes (opened k h .first .bindings) (take i (opened k h .first .elements))
   so-far = f .so-far (opened k h .first) (first-well-formed k h) (first-there (opened k h .holds)) own
 
   pub looking-asks : i < line .count → Within (length nodes) (meaning (getD (line .elements) i unfilled))
@@ -238,7 +238,7 @@ module _ {nodes sizes memory : List ℕ} {w : Walk} (k : Walking nodes sizes mem
 -- 5. The same of the line that was filled in, in terms of its head.
 module _ {nodes sizes memory : List ℕ} {w : Walk} (k : Walking nodes sizes memory w) (h : w .top < max-lines) {start line : LineValue} {j : ℕ} (d : HasHead memory (w .top * line-bytes) start)
     (f : Filling memory (w .top * line-bytes) start line j) (full : start .count ≤ j) {i : ℕ} (s : Searching nodes sizes memory (w .top * line-bytes) line i) where
-  own-line : Holds line (opened k h .first)
+  own-line : Carries line (opened k h .first)
   own-line = filled-holds k h d f full
 
   same-treated : (t : Treatment) (e : Element) → Treated nodes sizes (start .bindings) e t → Treated nodes sizes (line .bindings) e t

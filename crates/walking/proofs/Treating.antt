@@ -36,7 +36,7 @@ use Rattle.treating.specs.declared.treat.Treatment.the-variants.{Reduced, DropL
 use Rattle.walking.specs.declared.walk.Walk.{Walk}
 use Rattle.treating.specs.Contracts.Treatment.{Treated}
 use Rattle.treating.specs.Contracts.Children.{child}
-use Rattle.walking.specs.Contracts.WellFormed.{AllReduced, WellFormed}
+use Rattle.walking.specs.Contracts.WellFormed.{KnownReduced, WellFormed}
 use Rattle.walking.specs.Contracts.Walking.{whole-walk, Finishing, Treating, TreatingLine, TreatingCount, GoesOn}
 use Rattle.treating.proofs.Treatment.{unified-not, asks-becomes}
 use Rattle.walking.proofs.Turn.{around}
@@ -44,7 +44,7 @@ use Rattle.walking.proofs.Walking.{first-there, refused-turns, turned, 
 use Rattle.walking.proofs.Children.{first-treated, children-lines, element-within, length-split, child-well-formed, rebound-well-formed}
 
 -- A finished line has inequalities only.
-pub reduced-inequalities : (nodes sizes bs : List ℕ) (es : List Element) → AllReduced nodes sizes bs es → Inequalities es
+pub reduced-inequalities : (nodes sizes bs : List ℕ) (es : List Element) → KnownReduced nodes sizes bs es → Inequalities es
 unfolding treat
 reduced-inequalities nodes sizes bs [] h = tt
 reduced-inequalities nodes sizes bs (equal p q ∷ es) h = absurd (unified-not (unify enough (view-of nodes sizes) (enough .unify-depth) (bindings-of bs) p q) (h .0))

@@ -20,7 +20,7 @@ use Rattle.unifying.specs.Contracts.Bindings.{bindings-of}
 use Rattle.lines.specs.Contracts.Resting.{RestingLine, line-of, resting-bytes}
 use Rattle.lines.specs.Contracts.Layout.{line-bytes, placed}
 use Rattle.lines.specs.Contracts.Room.{lines-bytes}
-use Rattle.walking.specs.Contracts.WellFormed.{AllReduced, WellFormed}
+use Rattle.walking.specs.Contracts.WellFormed.{KnownReduced, WellFormed}
 use Rattle.walking.specs.Contracts.Walking.{AllWellFormed, HoldsTable, whole-walk, Walking, GoesOn}
 use Rattle.unifying.specs.Theory.Bindings.{length-bindings, readable-slots}
 use Rattle.lines.specs.Theory.Placed.{placed-length}
@@ -180,7 +180,7 @@ length-record-of bs es h k = simp (length-append, length-map, length-replicate) 
     length-elements (equal p q ∷ es) = omega (arith, length-elements es)
     length-elements (greater p q ∷ es) = omega (arith, length-elements es)
 
-pub settled : (nodes sizes bs : List ℕ) (es : List Element) → AllReduced nodes sizes bs es → Settled (view-of nodes sizes) (bindings-of bs) es
+pub settled : (nodes sizes bs : List ℕ) (es : List Element) → KnownReduced nodes sizes bs es → Settled (view-of nodes sizes) (bindings-of bs) es
 settled nodes sizes bs [] h = tt
 settled nodes sizes bs (e ∷ es) h = (h .0, settled nodes sizes bs es (h .1))
 
@@ -212,7 +212,7 @@ module _ (nodes sizes memory : List ℕ) (w : Walk) (finished : List Line) (firs
   abbrev line-on : Walk
   line-on = record { source = w .source; target = w .target; done = w .done + 1; top = w .top + 1; turns = w .turns }
 
-  pub finished-on : InPrefixForm nodes sizes → w .turns ≤ max-turns → (memory′ : List ℕ) → AllReduced nodes sizes (first .bindings) (first .elements)
+  pub finished-on : InPrefixForm nodes sizes → w .turns ≤ max-turns → (memory′ : List ℕ) → KnownReduced nodes sizes (first .bindings) (first .elements)
       → memory′ ≡ placed (w .done * record-bytes) (record-of (line-of first)) memory → GoesOn nodes sizes memory′ w line-on
   unfolding line-of treat-line crowded
   finished-on laid within memory′ r e =

@@ -1,4 +1,3 @@
 -- What the contracts of the code cite.
-pub mod Solve
 pub mod Walking
 pub mod WellFormed

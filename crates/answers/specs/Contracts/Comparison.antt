@@ -22,7 +22,7 @@ module _ (sheet arities : List ℕ) (from end : ℕ) where
     pub second : Term
     pub is : PairIs first second
 
--- From node 64 on these two terms stand, the second at `second`, whatever the variables stand for.
+-- From the subject's first node on these two terms stand, the second at `second`, whatever the variables stand for.
 pub record TwoAt (nodes lengths : List ℕ) (s t : Term) (second : ℕ) : Type 0 where
   pub first-stands : (values : List ℕ) → TermAt nodes lengths values position-count s
   pub second-stands : (values : List ℕ) → TermAt nodes lengths values second t

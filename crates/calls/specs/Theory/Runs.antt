@@ -8,15 +8,19 @@ use mathlib.Core.List.{List}
 use native.Mathlib.Omega.{arith}
 use Rattle.format.specs.declared.refusal.Refusal.the-variants.{ShortBuffer as short-buffer, AbsentArgument as absent-argument}
 use Rattle.format.specs.Lists.{entry}
+use Rattle.format.specs.Theory.Lists.{every-entry}
+use Rattle.terms.specs.Term.{Term, Ground}
 use Rattle.sheet.specs.Sheet.{Task, run as run-task, judgement, comparison, Sheet}
 use Rattle.sheet.specs.Reading.{Reading, refused-at, accepted, read}
+use Rattle.sheet.specs.Contracts.Valid.{ValidTask}
+use Rattle.sheet.specs.Theory.Accepted.{accepted-valid}
 use Rattle.reducing.specs.Test.{reference-run, EverySolves}
 use Rattle.reducing.specs.Theory.Reference.{run-is-reference-run, run-descending}
 use Rattle.outcomes.specs.Buffer.{refusal-byte}
 use Rattle.outcomes.specs.Asked.{found, find, asked, Reduction, reduction-in, reduction-task, WalkRefusal, first-refusal}
 use Rattle.outcomes.specs.Outcome.{run-fits, run-done, run-walked, run-answer, run-call}
 use Rattle.outcomes.specs.Theory.Number.{fields-byte, refused-byte, refused-not-zero}
-use Rattle.calls.specs.Demands.{RunNamed, RunDemand, RunsDemanded, ServedOrHost, RunRefusedByHost}
+use Rattle.calls.specs.Demands.{RunNamed, RunDemand, RunsDemanded, RunsAreReferenceRuns, RunServes, ServedOrHost, RunRefusedByHost}
 use Rattle.calls.specs.Theory.Walks.{accepted-limits, none-refused, every-solves}
 
 abbrev pub the-reduction : {sheet : List ℕ} {task : ℕ} → RunNamed sheet task → Reduction
@@ -26,13 +30,16 @@ named-asked : (sheet : List ℕ) (task : ℕ) (n : RunNamed sheet task) → aske
 unfolding asked find found reduction-task reduction-in
 named-asked sheet task n = rw (n .reads, n .task-there)
 
+run-ground : (sheet : List ℕ) (task : ℕ) {k : ℕ} {u : Term} (s : Sheet) → read sheet ≡ accepted s → entry (s .tasks) task ≡ some (run-task k u) → Ground (s .arities) u
+run-ground sheet task s r x = every-entry (ValidTask (s .arities) (s .equations)) (s .tasks) task (accepted-valid sheet s r .0 .tasks) x .1
+
 asked-run : (sheet : List ℕ) (task : ℕ) (t : Reduction) → asked true sheet (reduction-task task) ≡ accepted t → (n : RunNamed sheet task) × (the-reduction n ≡ t)
 unfolding asked find found reduction-task reduction-in
 asked-run sheet task t h = from (read sheet) refl h
   where
     in-task : (s : Sheet) → read sheet ≡ accepted s → (o : Option Task) → entry (s .tasks) task ≡ o → found (reduction-in (s .equations) o) ≡ accepted t → (n : RunNamed sheet task) × (the-reduction n ≡ t)
     in-task s r none x h = let z : _≡_ {A = ℕ} 0 1 = cc in absurd (omega arith)
-    in-task s r (some (run-task k u)) x h = (record { content = s; reads = r; limit = k; subject = u; task-there = x }, cc)
+    in-task s r (some (run-task k u)) x h = (record { content = s; reads = r; limit = k; subject = u; task-there = x; subject-ground = run-ground sheet task s r x }, cc)
     in-task s r (some (judgement e d ts)) x h = let z : _≡_ {A = ℕ} 0 1 = cc in absurd (omega arith)
     in-task s r (some (comparison u w)) x h = let z : _≡_ {A = ℕ} 0 1 = cc in absurd (omega arith)
 
@@ -98,3 +105,14 @@ runs-demanded sheet task table scratch term log h = run-demand sheet task table 
 
 pub run-refused-by-host : RunRefusedByHost
 run-refused-by-host sheet s task table scratch term log r every = run-served-or-host sheet task table scratch term log s r every
+
+pub runs-are-reference-runs : RunsAreReferenceRuns
+runs-are-reference-runs sheet s r every k subject =
+    let within = accepted-limits sheet s r in
+    (run-is-reference-run (s .equations) within every k subject, run-descending (s .equations) within every k subject)
+
+pub run-serves : RunServes
+unfolding run-done
+run-serves sheet s task k t table scratch term log r x every f =
+    let n : RunNamed sheet task = record { content = s; reads = r; limit = k; subject = t; task-there = x; subject-ground = run-ground sheet task s r x } in
+    rw (run-gives sheet task table scratch term log n f every) (fields-byte _ _ _)

@@ -27,7 +27,7 @@ use Rattle.solving.specs.Theory.Solve.{solve-exact, solved-lines}
 use Rattle.outcomes.specs.Buffer.{fields, refusal-byte, cleared}
 use Rattle.outcomes.specs.Asked.{found, find, asked, Directed, directed-in, solve-directed}
 use Rattle.outcomes.specs.Outcome.{table-fits, table-unsolved, solve-walked, solve-answer, solve-call}
-use Rattle.calls.specs.Demands.{DirectionNamed, BoundToPositions, BetweenPositions, Recorded, TableDemand, TablesDemanded, ServedOrHost, SolveRefusedByHost}
+use Rattle.calls.specs.Demands.{DirectionNamed, BoundToPositions, BetweenPositions, Recorded, TableDemand, TablesDemanded, TablesExact, SolveServes, ServedOrHost, SolveRefusedByHost}
 use Rattle.calls.specs.Theory.Determined.{records-determine}
 use Rattle.outcomes.specs.Theory.Number.{fields-byte, refused-byte, refused-not-zero}
 
@@ -129,3 +129,14 @@ solve-refused-by-host sheet s e d table scratch r each = fits (table-fits table 
     fits : (b : Bool) → ServedOrHost (solve-answer e table scratch (asked b sheet (solve-directed e d)) .returned)
     fits false = inr (inl (refused-byte short-buffer 0))
     fits true = rw r (parts (entry (s .equations) e) (direction-of d) refl refl)
+
+-- 6. What is asked for is given, and the tables of an accepted sheet are exact whatever is asked for.
+pub solve-serves : SolveServes
+solve-serves sheet s e d q o table scratch r x y w f =
+    let n : DirectionNamed sheet e d = record { content = s; reads = r; equation = q; direction = o; equation-there = x; direction-there = y } in
+    rw (solve-gives sheet e d table scratch n (w .table) (w .turns) f (w .walked)) (fields-byte _ _ _)
+
+pub tables-exact : TablesExact
+tables-exact sheet s r e q x d w ρ =
+    let limits = every-entry (ValidEquation (s .arities)) (s .equations) e (accepted-valid sheet s r .0 .equations) x .limits in
+    solve-exact q limits d (w .table) (w .turns) (w .walked) ρ

@@ -7,6 +7,7 @@ use mathlib.Core.Option.{Option, none, some}
 use mathlib.Core.List.{List}
 use lib.ListN.{length}
 use lib.Dec.{leb}
+use borrow.Author.Tests.{le-leb}
 use native.Mathlib.Omega.{arith}
 use Rattle.format.specs.Limits.{scratch-bytes}
 use Rattle.format.specs.declared.refusal.Refusal.the-variants.{ShortBuffer as short-buffer}
@@ -23,8 +24,8 @@ use Rattle.sheet.specs.Theory.Accepted.{accepted-valid}
 use Rattle.outcomes.specs.Buffer.{fields, refusal-byte}
 use Rattle.outcomes.specs.Asked.{found, find, asked, Pair, comparison-in, comparison-task}
 use Rattle.outcomes.specs.Outcome.{compare-answer, compare-call}
-use Rattle.outcomes.specs.Theory.Number.{refused-not-zero}
-use Rattle.calls.specs.Demands.{Served, ComparisonTask, VerdictDemand, VerdictsDemanded}
+use Rattle.outcomes.specs.Theory.Number.{fields-byte, refused-not-zero}
+use Rattle.calls.specs.Demands.{Served, ComparisonTask, VerdictDemand, VerdictsDemanded, CompareServes}
 
 number-same : (v w : Verdict) → verdict-number v ≡ verdict-number w → v ≡ w
 unfolding verdict-number
@@ -88,3 +89,7 @@ module _ (sheet : List ℕ) (task : ℕ) (scratch : List ℕ) where
 
 pub verdicts-demanded : VerdictsDemanded
 verdicts-demanded sheet task scratch h = verdict-demanded sheet task scratch h
+
+pub compare-serves : CompareServes
+unfolding compare-call compare-answer asked find found comparison-task comparison-in
+compare-serves sheet s task t u scratch r x l = rw (le-leb scratch-bytes (length scratch) l, r, x) (fields-byte _ 0 0)

@@ -44,7 +44,7 @@ pub record ElementsFit (l : Line) (from to : ℕ) (bytes : List ℕ) : Type 0 wh
   pub room : to + 2 * (l .count - from) ≤ length bytes
 
 -- The line holds what rests: the bindings, the counts, and each element that is not known to be fully reduced.
-pub record Holds (l : Line) (s : RestingLine) : Type 0 where
+pub record Carries (l : Line) (s : RestingLine) : Type 0 where
   pub bindings-are : l .bindings ≡ s .bindings
   pub count-is : l .count ≡ length (s .elements)
   pub reduced-is : l .reduced ≡ s .reduced
@@ -57,7 +57,7 @@ without at s = record { bindings = s .bindings; elements = take at (s .elements)
 -- The line rests at `place`, and element `at` is one of those that it holds.
 pub record RemovalFits (l : Line) (place at : ℕ) (memory : List ℕ) : Type 0 where
   pub resting : RestingLine
-  pub holds : Holds l resting
+  pub holds : Carries l resting
   pub there : slice place (place + line-bytes) memory ≡ resting-bytes resting
   pub whole : place + line-bytes ≤ length memory
   pub slots : length (resting .bindings) ≡ variable-count
@@ -67,5 +67,5 @@ pub record RemovalFits (l : Line) (place at : ℕ) (memory : List ℕ) : Type 0 
   pub inside : at < length (resting .elements)
 
 pub record Removes (l : Line) (place at : ℕ) (before after : List ℕ) : Type 0 where
-  pub removes : (s : RestingLine) → Holds l s → slice place (place + line-bytes) before ≡ resting-bytes s → length (s .bindings) ≡ variable-count → length (s .elements) ≤ max-elements
+  pub removes : (s : RestingLine) → Carries l s → slice place (place + line-bytes) before ≡ resting-bytes s → length (s .bindings) ≡ variable-count → length (s .elements) ≤ max-elements
       → at < length (s .elements) → s .reduced ≤ at → after ≡ placed place (resting-bytes (without at s)) before

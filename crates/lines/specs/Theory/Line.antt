@@ -12,7 +12,7 @@ use Rattle.lines.specs.declared.element.Relation.the-variants.{Greater}
 use Rattle.lines.specs.declared.element.Element.{Element as Held}
 use Rattle.lines.specs.declared.line.Line.{Line as LineValue}
 use Rattle.lines.specs.Contracts.Resting.{said, meaning, RestingLine, line-of}
-use Rattle.lines.specs.Contracts.Line.{opening-line, elements-from, Holds}
+use Rattle.lines.specs.Contracts.Line.{opening-line, elements-from, Carries}
 
 -- The walk's first line.
 pub opening-means : (s t : ℕ) → line-of (opening-line s t) ≡ line no-bindings (greater s t ∷ [])
@@ -25,7 +25,7 @@ unfilled = record { relation = Greater 0 0 }
 
 -- A line holds what rests if each of its elements from `reduced` on does.
 pub elements-hold : (l : LineValue) (s : RestingLine) → length (l .elements) ≡ max-elements → length (s .elements) ≤ max-elements → l .bindings ≡ s .bindings → l .count ≡ length (s .elements)
-    → l .reduced ≡ s .reduced → ((i : ℕ) → s .reduced ≤ i → i < l .count → meaning (getD (l .elements) i unfilled) ≡ getD (s .elements) i (greater 0 0)) → Holds l s
+    → l .reduced ≡ s .reduced → ((i : ℕ) → s .reduced ≤ i → i < l .count → meaning (getD (l .elements) i unfilled) ≡ getD (s .elements) i (greater 0 0)) → Carries l s
 unfolding elements-from meaning said
 elements-hold l s places few b c r e = record {
   bindings-are = b;

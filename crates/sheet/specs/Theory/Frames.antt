@@ -23,7 +23,7 @@ use Rattle.terms.specs.Prefix.{prefix, prefixes, equation-bytes}
 use Rattle.sheet.specs.Text.{TextLine, lines-of, frame-of}
 use Rattle.sheet.specs.Sheet.{Task, run, judgement, comparison, Sheet, equation-width}
 use Rattle.sheet.specs.Frame.{State, start, within, takes-equation, in-order, symbols-right, symbols-body, ground-terms, first-term, second-term, equation-body, run-body, values-body, judgement-body, comparison-body, with-equation, with-task, read-body, read-kind, read-frame}
-use Rattle.sheet.specs.Frames.{symbols-frame, equation-frame, task-frame, frames-of}
+use Rattle.sheet.specs.Contracts.Frames.{symbols-frame, equation-frame, task-frame, frames-of}
 use Rattle.sheet.specs.Reading.{Reading, refused-at, accepted, read-line, finish, read-lines, read}
 use Rattle.sheet.specs.Contracts.Valid.{Valid}
 use Rattle.sheet.specs.Theory.Frame.{mapped, ground-terms-given, one-term, two-terms, equation-given}

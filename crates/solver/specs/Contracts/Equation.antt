@@ -1,14 +1,13 @@
 -- What the code of solve cites: an equation's bytes.
-use Prim.Native.Nat.{ℕ, _*_, _≤_}
+use Prim.Native.Nat.{ℕ, _≤_}
 use mathlib.Core.Path.{_≡_}
 use mathlib.Core.List.{List}
 use lib.ListN.{length}
-use Rattle.format.specs.Limits.{max-symbols, max-lines}
+use Rattle.format.specs.Limits.{max-symbols}
 use Rattle.terms.specs.Equation.{Equation}
 use Rattle.terms.specs.Prefix.{equation-bytes}
 use Rattle.terms.specs.Contracts.Limits.{WithinLimits}
 use Rattle.terms.specs.Contracts.Fits.{Fits}
-use Rattle.lines.specs.Contracts.Layout.{line-bytes}
 
 module _ (bytes arities : List ℕ) where
   -- These are the bytes of this equation, which is over symbols with these arities and within the limits.
@@ -22,7 +21,3 @@ module _ (bytes arities : List ℕ) where
   pub record HasEquation : Type 0 where
     pub equation : Equation
     pub is : EquationIs equation
-
--- The bytes of scratch that the walk works in.
-abbrev pub walk-bytes : ℕ
-walk-bytes = max-lines * line-bytes

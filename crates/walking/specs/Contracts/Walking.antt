@@ -19,9 +19,9 @@ use Rattle.lines.specs.Contracts.Resting.{RestingLine, line-of}
 use Rattle.lines.specs.declared.line.Line.{Line as LineValue}
 use Rattle.lines.specs.Contracts.Layout.{line-bytes}
 use Rattle.lines.specs.Contracts.Room.{lines-bytes}
-use Rattle.lines.specs.Contracts.Line.{Holds}
+use Rattle.lines.specs.Contracts.Line.{Carries}
 use Rattle.treating.specs.Contracts.Treatment.{Treated}
-use Rattle.walking.specs.Contracts.WellFormed.{AllReduced, WellFormed}
+use Rattle.walking.specs.Contracts.WellFormed.{KnownReduced, WellFormed}
 
 -- 255 places for lines.
 abbrev pub memory-bytes : ℕ
@@ -33,13 +33,13 @@ AllWellFormed nodes sizes (l ∷ ls) = WellFormed nodes sizes l × AllWellFormed
 
 -- Finished lines, none longer than allowed.
 module _ (view : ℕ → Node) where
-  pub record Finished (l : Line) : Type 0 where
+  pub record FinishedLine (l : Line) : Type 0 where
     pub nothing-left : treat-line enough view l ≡ none
     pub short : crowded l ≡ false
 
   abbrev pub AllFinished : List Line → Type 0
   AllFinished [] = Unit {0}
-  AllFinished (l ∷ ls) = Finished l × AllFinished ls
+  AllFinished (l ∷ ls) = FinishedLine l × AllFinished ls
 
 -- Finished lines stand as records from the front, the others from their place to the end.
 pub record HoldsTable (nodes sizes memory : List ℕ) (done top : ℕ) (finished : List Line) (unfinished : List RestingLine) : Type 0 where
@@ -74,7 +74,7 @@ pub record Finishing (nodes sizes memory : List ℕ) (w : Walk) : Type 0 where
   pub holds : HoldsTable nodes sizes memory (w .done) (w .top) finished (first ∷ others)
   pub turns-within : w .turns ≤ max-turns
   pub leads : walk-from enough (view-of nodes sizes) (max-turns - w .turns) (w .turns) (finished ++ map line-of (first ∷ others)) ≡ whole-walk nodes sizes w
-  pub all-reduced : AllReduced nodes sizes (first .bindings) (first .elements)
+  pub all-reduced : KnownReduced nodes sizes (first .bindings) (first .elements)
 
 -- Element number `at` of the first unfinished line is to be treated.
 pub record Treating (nodes sizes memory : List ℕ) (w : Walk) (at : ℕ) (t : Treatment) : Type 0 where
@@ -91,13 +91,13 @@ pub record Treating (nodes sizes memory : List ℕ) (w : Walk) (at : ℕ) (t : T
   pub split : first .elements ≡ pre ++ (element ∷ post)
   pub at-is : length pre ≡ at
   pub not-passed : first .reduced ≤ at
-  pub pre-reduced : AllReduced nodes sizes (first .bindings) pre
+  pub pre-reduced : KnownReduced nodes sizes (first .bindings) pre
   pub treated : Treated nodes sizes (first .bindings) element t
 
 -- The code has that line by its named parts, or no more of it than the number of its elements.
 pub record TreatingLine (nodes sizes memory : List ℕ) (w : Walk) (l : LineValue) (at : ℕ) (t : Treatment) : Type 0 where
   pub treating : Treating nodes sizes memory w at t
-  pub line-holds : Holds l (treating .first)
+  pub line-holds : Carries l (treating .first)
 
 pub record TreatingCount (nodes sizes memory : List ℕ) (w : Walk) (count at : ℕ) (t : Treatment) : Type 0 where
   pub treating : Treating nodes sizes memory w at t

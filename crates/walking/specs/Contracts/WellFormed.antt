@@ -12,13 +12,13 @@ use Rattle.unifying.specs.Contracts.Bindings.{bindings-of, Readable}
 use Rattle.lines.specs.Contracts.Resting.{RestingLine}
 
 -- All of these elements are fully reduced under the bindings.
-abbrev pub AllReduced : (nodes sizes bindings : List ℕ) → List Element → Type 0
-AllReduced nodes sizes bs [] = Unit {0}
-AllReduced nodes sizes bs (e ∷ es) = (treat enough (view-of nodes sizes) (bindings-of bs) e ≡ fully-reduced) × AllReduced nodes sizes bs es
+abbrev pub KnownReduced : (nodes sizes bindings : List ℕ) → List Element → Type 0
+KnownReduced nodes sizes bs [] = Unit {0}
+KnownReduced nodes sizes bs (e ∷ es) = (treat enough (view-of nodes sizes) (bindings-of bs) e ≡ fully-reduced) × KnownReduced nodes sizes bs es
 
 pub record WellFormed (nodes sizes : List ℕ) (l : RestingLine) : Type 0 where
   pub readable : Readable nodes sizes (l .bindings)
   pub within : AllWithin (length nodes) (l .elements)
   pub few : length (l .elements) ≤ max-elements
   pub known : l .reduced ≤ length (l .elements)
-  pub reduced-known : AllReduced nodes sizes (l .bindings) (take (l .reduced) (l .elements))
+  pub reduced-known : KnownReduced nodes sizes (l .bindings) (take (l .reduced) (l .elements))

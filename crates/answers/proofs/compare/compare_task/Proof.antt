@@ -7,23 +7,18 @@ use Rattle.answers.proofs.CompareTask.{task-absent, run-there, judgemen
 use Rattle.answers.proofs.compare.compare_task.Statement.{statement}
 use Rattle.answers.proofs.compare.compare_task.Tie as tie
 
--- src/compare.rt:101:9
 refusal-number-requires : tie.Need-refusal-number-requires
 refusal-number-requires c κs = search needs
 
--- src/compare.rt:101:9
 returns : tie.Need-returns
 returns c = let start = c .before .before .before .before in task-absent _ _ _ _ (start .pre .0) (c .before .if1 .taken) (c .refusal-number .ensures)
 
--- src/compare.rt:103:9
 find-task-requires : tie.Need-find-task-requires
 find-task-requires c κs = search needs
 
--- src/compare.rt:107:78
 enum-told : tie.Need-enum-told
 enum-told c = search needs
 
--- src/compare.rt:107:17
 compare-terms-requires : tie.Need-compare-terms-requires
 compare-terms-requires c κs =
     let start = c .before .before .before .before .before .before .before in
@@ -33,39 +28,30 @@ compare-terms-requires c κs =
       start .pre .1,
     )
 
--- src/compare.rt:108:32
 number-of-verdict-requires : tie.Need-number-of-verdict-requires
 number-of-verdict-requires c κs = search needs
 
--- src/compare.rt:108:27
 wide-requires : tie.Need-wide-requires
 wide-requires c κs = search needs
 
--- src/compare.rt:108:13
 fields-number-requires : tie.Need-fields-number-requires
 fields-number-requires c κs = (omega (arith, c .wide .ensures .1), omega arith, omega arith)
 
--- src/compare.rt:110:44
 enum-told-2 : tie.Need-enum-told-2
 enum-told-2 c = search needs
 
--- src/compare.rt:110:29
 refusal-number-requires-2 : tie.Need-refusal-number-requires-2
 refusal-number-requires-2 c κs = search needs
 
--- src/compare.rt:111:53
 enum-told-3 : tie.Need-enum-told-3
 enum-told-3 c = search needs
 
--- src/compare.rt:111:38
 refusal-number-requires-3 : tie.Need-refusal-number-requires-3
 refusal-number-requires-3 c κs = search needs
 
--- src/compare.rt:96:1
 same-length : tie.Need-same-length
 same-length c = search needs
 
--- src/compare.rt:96:1
 returns-2 : tie.Need-returns-2
 returns-2 c =
     let told = c .before .before .before .before .before in
@@ -75,14 +61,12 @@ returns-2 c =
     comparison-there _ (start .args .scratch .now) _ _ (start .pre .0) (found .before .if1 .left) (found .find-task .result) (found .find-task .ensures) (told .before .before .enum-told .given .1)
     (compared .result) _ (compared .ensures .0) (c .before .wide .ensures .0 ∙ c .before .before .number-of-verdict .ensures) (c .fields-number .ensures) (compared .ensures .1)
 
--- src/compare.rt:96:1
 returns-3 : tie.Need-returns-3
 returns-3 c =
     let start = c .before .before .before .before .before .before .before in
     let found = c .before .before .before .find-task in
     run-there _ _ _ _ (start .pre .0) (c .before .before .before .before .if1 .left) (found .result) (found .ensures) (c .before .enum-told2 .given .1) (c .refusal-number2 .ensures)
 
--- src/compare.rt:96:1
 returns-4 : tie.Need-returns-4
 returns-4 c =
     let start = c .before .before .before .before .before .before .before in

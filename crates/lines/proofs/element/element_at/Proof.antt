@@ -4,23 +4,18 @@ use borrow.Author.Needs.{needs}
 use Rattle.lines.proofs.element.element_at.Statement.{statement}
 use Rattle.lines.proofs.element.element_at.Tie as tie
 
--- src/element.rt:28:17
 shared-slice-read-first : tie.Need-shared-slice-read-first
 shared-slice-read-first c = search needs
 
--- src/element.rt:29:24
 add-second : tie.Need-add-second
 add-second c = search needs
 
--- src/element.rt:29:18
 shared-slice-read-second : tie.Need-shared-slice-read-second
 shared-slice-read-second c = search needs
 
--- src/element.rt:31:9
 returns : tie.Need-returns
 returns c = element-greater (c .before .before .before .args .bytes .now) (c .before .before .before .args .at) (c .if1 .taken)
 
--- src/element.rt:24:1
 returns-2 : tie.Need-returns-2
 returns-2 c = element-equal (c .before .before .before .args .bytes .now) (c .before .before .before .args .at) (c .if1 .left)
 

@@ -5,7 +5,6 @@ use borrow.Author.Needs.{needs}
 use Rattle.lines.proofs.element.put_element.Statement.{statement}
 use Rattle.lines.proofs.element.put_element.Tie as tie
 
--- src/line.rt:81:25
 enum-known-relation : tie.Need-enum-known-relation
 enum-known-relation c = search needs
 

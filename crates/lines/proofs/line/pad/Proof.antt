@@ -13,22 +13,18 @@ Inv-loop line₀ from i₀ line i = Padding from line₀ line i
 abbrev μ-loop : tie.MeasureT-loop
 μ-loop line₀ from i₀ line i = record-bytes - i
 
--- src/line.rt:92:5
 loop-holds : tie.Need-loop-holds Inv-loop μ-loop
 loop-holds c = padding-start _ _ (c .pre .0) (c .pre .1)
 
--- src/line.rt:93:9
 slice-write-line : tie.Need-slice-write-line Inv-loop μ-loop
 slice-write-line c = let p = c .before .loop .inv in omega (arith, padding-length p, p .whole)
 
 add-i : tie.Need-add-i Inv-loop μ-loop
 add-i c = search needs
 
--- src/line.rt:92:5
 loop-less : tie.Need-loop-less Inv-loop μ-loop
 loop-less c = search needs
 
--- src/line.rt:92:5
 loop-again : tie.Need-loop-again Inv-loop μ-loop
 loop-again c = padding-next (c .before .loop .inv) (c .loop-test .taken)
 

@@ -12,35 +12,27 @@ Inv-loop a b i₀ i = Comparing a b i
 abbrev μ-loop : tie.MeasureT-loop
 μ-loop a b i₀ i = variable-count - i
 
--- src/rebind.rt:17:5
 loop-holds : tie.Need-loop-holds Inv-loop μ-loop
 loop-holds c = comparing-start _ _
 
--- src/rebind.rt:18:12
 shared-slice-read-if1 : tie.Need-shared-slice-read-if1 Inv-loop μ-loop
 shared-slice-read-if1 c = search needs
 
--- src/rebind.rt:18:20
 shared-slice-read-if1-2 : tie.Need-shared-slice-read-if1-2 Inv-loop μ-loop
 shared-slice-read-if1-2 c = search needs
 
--- src/rebind.rt:19:13
 returns : tie.Need-returns Inv-loop μ-loop
 returns c = comparing-differs _ _ (c .before .before .before .before .loop .i) (c .if1 .taken)
 
--- src/rebind.rt:21:13
 add-i : tie.Need-add-i Inv-loop μ-loop
 add-i c = search needs
 
--- src/rebind.rt:17:5
 loop-less : tie.Need-loop-less Inv-loop μ-loop
 loop-less c = search needs
 
--- src/rebind.rt:17:5
 loop-again : tie.Need-loop-again Inv-loop μ-loop
 loop-again c = let start = c .before .before .before .before .before in comparing-next (c .before .before .before .before .loop .inv) (start .pre .0) (start .pre .1) (c .before .before .before .loop-test .taken) (c .if1 .left)
 
--- src/rebind.rt:12:1
 returns-2 : tie.Need-returns-2 Inv-loop μ-loop
 returns-2 c = comparing-done (c .before .loop .inv) (c .before .before .pre .0) (c .before .before .pre .1) (c .loop-test .left)
 

@@ -16,47 +16,36 @@ Inv-loop memory₀ place bindings i₀ memory i = Storing variable-count binding
 abbrev μ-loop : tie.MeasureT-loop
 μ-loop memory₀ place bindings i₀ memory i = variable-count - i
 
--- src/rebind.rt:31:5
 loop-holds : tie.Need-loop-holds Inv-loop μ-loop
 loop-holds c = storing-start _ _ _ _ (omega (arith, c .pre .0)) (c .pre .1)
 
--- src/rebind.rt:32:29
 shared-slice-read-memory : tie.Need-shared-slice-read-memory Inv-loop μ-loop
 shared-slice-read-memory c = search needs
 
--- src/rebind.rt:32:16
 add-memory : tie.Need-add-memory Inv-loop μ-loop
 add-memory c = search needs
 
--- src/rebind.rt:32:9
 slice-write-memory : tie.Need-slice-write-memory Inv-loop μ-loop
 slice-write-memory c = omega (arith, storing-length (c .before .before .loop .inv), c .before .before .loop .inv .room)
 
--- src/rebind.rt:31:9
 add-i : tie.Need-add-i Inv-loop μ-loop
 add-i c = search needs
 
--- src/rebind.rt:31:5
 loop-less : tie.Need-loop-less Inv-loop μ-loop
 loop-less c = search needs
 
--- src/rebind.rt:31:5
 loop-again : tie.Need-loop-again Inv-loop μ-loop
 loop-again c = storing-next (c .before .before .loop .inv) (c .before .loop-test .taken)
 
--- src/rebind.rt:34:12
 add-memory-2 : tie.Need-add-memory-2 Inv-loop μ-loop
 add-memory-2 c = search needs
 
--- src/rebind.rt:34:5
 slice-write-memory-2 : tie.Need-slice-write-memory-2 Inv-loop μ-loop
 slice-write-memory-2 c = omega (arith, storing-length (c .before .loop .inv), c .before .before .pre .0)
 
--- src/rebind.rt:27:1
 same-length : tie.Need-same-length Inv-loop μ-loop
 same-length c = length-set (c .before .loop .memory) _ _ ∙ storing-length (c .before .loop .inv)
 
--- src/rebind.rt:27:1
 returns : tie.Need-returns Inv-loop μ-loop
 returns c = let start = c .before .before in ap (λ m. set m (start .args .place + reduced-place) 0) (storing-done (c .before .loop .inv) (c .loop-test .left))
 

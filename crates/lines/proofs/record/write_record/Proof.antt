@@ -16,43 +16,33 @@ Inv-loop memory₀ from to i₀ memory i = (to ≤ from) × (from + record-bytes
 abbrev μ-loop : tie.MeasureT-loop
 μ-loop memory₀ from to i₀ memory i = record-bytes - i
 
--- src/record.rt:16:5
 loop-holds : tie.Need-loop-holds Inv-loop μ-loop
 loop-holds c = (c .pre .0, c .pre .1, recording-start _ _ _ (c .pre .0) (c .pre .1))
 
--- src/record.rt:17:33
 add-memory : tie.Need-add-memory Inv-loop μ-loop
 add-memory c = search needs
 
--- src/record.rt:17:26
 slice-read-memory : tie.Need-slice-read-memory Inv-loop μ-loop
 slice-read-memory c = let loop = c .before .before .loop in omega (arith, storing-length (loop .inv .2), loop .inv .1)
 
--- src/record.rt:17:16
 add-memory-2 : tie.Need-add-memory-2 Inv-loop μ-loop
 add-memory-2 c = search needs
 
--- src/record.rt:17:9
 slice-write-memory : tie.Need-slice-write-memory Inv-loop μ-loop
 slice-write-memory c = let loop = c .before .before .loop in omega (arith, storing-length (loop .inv .2), loop .inv .0, loop .inv .1)
 
--- src/record.rt:18:13
 add-i : tie.Need-add-i Inv-loop μ-loop
 add-i c = search needs
 
--- src/record.rt:16:5
 loop-less : tie.Need-loop-less Inv-loop μ-loop
 loop-less c = search needs
 
--- src/record.rt:16:5
 loop-again : tie.Need-loop-again Inv-loop μ-loop
 loop-again c = let (h, k, s) = c .before .before .loop .inv in (h, k, recording-next _ _ _ h k s (c .before .loop-test .taken))
 
--- src/record.rt:11:1
 same-length : tie.Need-same-length Inv-loop μ-loop
 same-length c = storing-length (c .before .loop .inv .2)
 
--- src/record.rt:11:1
 returns : tie.Need-returns Inv-loop μ-loop
 returns c = storing-done (c .before .loop .inv .2) (c .loop-test .left)
 

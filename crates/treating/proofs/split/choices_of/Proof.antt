@@ -4,35 +4,27 @@ use borrow.Author.Needs.{needs}
 use Rattle.treating.proofs.split.choices_of.Statement.{statement}
 use Rattle.treating.proofs.split.choices_of.Tie as tie
 
--- src/split.rt:80:13
 shared-slice-read-f : tie.Need-shared-slice-read-f
 shared-slice-read-f c = search needs
 
--- src/split.rt:81:13
 shared-slice-read-g : tie.Need-shared-slice-read-g
 shared-slice-read-g c = search needs
 
--- src/split.rt:82:9
 counted-arguments-requires : tie.Need-counted-arguments-requires
 counted-arguments-requires c κs = search needs
 
--- src/split.rt:83:9
 counted-arguments-requires-2 : tie.Need-counted-arguments-requires-2
 counted-arguments-requires-2 c κs = search needs
 
--- src/split.rt:84:9
 count-last-choices-requires : tie.Need-count-last-choices-requires
 count-last-choices-requires c κs = search needs
 
--- src/split.rt:87:12
 cast-t14 : tie.Need-cast-t14
 cast-t14 c = search needs
 
--- src/split.rt:88:12
 cast-t16 : tie.Need-cast-t16
 cast-t16 c = search needs
 
--- src/split.rt:74:1
 returns : tie.Need-returns
 returns c = choices-counted (c .before .before .before .before .counted-arguments .ensures) (c .before .before .before .counted-arguments2 .ensures) (c .before .before .count-last-choices .ensures)
 

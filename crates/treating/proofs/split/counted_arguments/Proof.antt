@@ -4,31 +4,24 @@ use borrow.Author.Needs.{needs}
 use Rattle.treating.proofs.split.counted_arguments.Statement.{statement}
 use Rattle.treating.proofs.split.counted_arguments.Tie as tie
 
--- src/split.rt:54:24
 shared-slice-read-wide : tie.Need-shared-slice-read-wide
 shared-slice-read-wide c = search needs
 
--- src/split.rt:54:19
 wide-requires : tie.Need-wide-requires
 wide-requires c κs = search needs
 
--- src/split.rt:54:15
 add-end : tie.Need-add-end
 add-end c = search needs
 
--- src/split.rt:56:15
 add-t4 : tie.Need-add-t4
 add-t4 c = search needs
 
--- src/split.rt:58:33
 add-row-count : tie.Need-add-row-count
 add-row-count c = search needs
 
--- src/split.rt:58:16
 row-count-requires : tie.Need-row-count-requires
 row-count-requires c κs = arguments-row (c .before .before .before .pre) _ (c .wide .ensures .0)
 
--- src/split.rt:50:1
 returns : tie.Need-returns
 returns c = arguments-counted (c .before .before .before .before .pre) _ _ (c .before .wide .ensures .0) (c .row-count .ensures)
 

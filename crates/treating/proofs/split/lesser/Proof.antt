@@ -8,7 +8,6 @@ use Rattle.treating.proofs.split.lesser.Tie as tie
 returns : tie.Need-returns
 returns c = sym (lesser-left (c .before .args .a) (c .before .args .b) (omega (arith, c .if1 .taken)))
 
--- src/split.rt:12:1
 returns-2 : tie.Need-returns-2
 returns-2 c = sym (lesser-right (c .before .args .a) (c .before .args .b) (c .if1 .left))
 

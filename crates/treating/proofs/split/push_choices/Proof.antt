@@ -9,23 +9,18 @@ use borrow.Author.Needs.{needs}
 use Rattle.treating.proofs.split.push_choices.Statement.{statement}
 use Rattle.treating.proofs.split.push_choices.Tie as tie
 
--- src/split.rt:106:21
 cast-line : tie.Need-cast-line
 cast-line c = let start = c .before .before .before .before .before in omega (arith, start .pre .facts .at-is, start .pre .facts .few)
 
--- src/split.rt:106:5
 slice-write-line : tie.Need-slice-write-line
 slice-write-line c = omega (arith, line-long (c .before .before .before .before .before .pre .facts))
 
--- src/split.rt:107:17
 mul-place : tie.Need-mul-place
 mul-place c = let start = c .before .before .before .before .before in omega (arith, start .pre .facts .at-is, start .pre .facts .few)
 
--- src/split.rt:107:17
 add-place : tie.Need-add-place
 add-place c = let start = c .before .before .before .before .before in omega (arith, start .pre .facts .at-is, start .pre .facts .few)
 
--- src/split.rt:108:9
 push-arguments-requires : tie.Need-push-arguments-requires
 push-arguments-requires c κs =
     let start = c .before .before .before .before .before .before .before in
@@ -34,15 +29,12 @@ push-arguments-requires c κs =
     let place = 2 * choices .at + first-element in
     arguments-fit (start .pre .facts) line₁ (start .args .memory .now) (start .args .to) place refl refl (start .pre .room)
 
--- src/split.rt:110:9
 same-length : tie.Need-same-length
 same-length c = search needs
 
--- src/split.rt:110:9
 same-length-2 : tie.Need-same-length-2
 same-length-2 c = search needs
 
--- src/split.rt:110:9
 returns : tie.Need-returns
 returns c =
     let start = c .before .before .before .before .before .before .before .before .before .before .before in
@@ -52,7 +44,6 @@ returns c =
     let put = c .before .before .before .push-arguments in
     record { pushes = λ bindings pre post ss ts s. only-arguments s line₁ (start .args .memory .now) (put .last .1 .1 .1 .1 .1 .0) (start .args .to) place (put .result) refl refl (put .ensures) (c .if1 .taken) }
 
--- src/split.rt:112:5
 make-room-requires : tie.Need-make-room-requires
 make-room-requires c κs =
     let start = c .before .before .before .before .before .before .before .before .before .before .before .before in
@@ -61,7 +52,6 @@ make-room-requires c κs =
     let place = 2 * choices .at + first-element in
     room-fits (start .pre .facts) line₁ refl (positive (c .before .if1 .left))
 
--- src/split.rt:113:5
 fill-exceeding-requires : tie.Need-fill-exceeding-requires
 fill-exceeding-requires c κs =
     let start = c .before .before .before .before .before .before .before .before .before .before .before .before .before .before .before .before in
@@ -70,7 +60,6 @@ fill-exceeding-requires c κs =
     let place = 2 * choices .at + first-element in
     exceeding-fits (start .pre .facts) (c .before .before .before .make-room .last .0) place (c .before .before .before .make-room .kept .0 ∙ (length-set (start .args .line .now) reduced-place (choices .at) ∙ line-long (start .pre .facts))) refl (positive (c .before .before .before .before .before .if1 .left))
 
--- src/split.rt:115:9
 store-requires : tie.Need-store-requires
 store-requires c κs =
     let start = c .before .before .before .before .before .before .before .before .before .before .before .before .before .before .before .before .before .before .before .before .before .before .before in
@@ -79,7 +68,6 @@ store-requires c κs =
     let place = 2 * choices .at + first-element in
     (one-more-fits (start .pre .facts) line₁ (c .before .before .before .before .before .before .before .before .before .before .make-room .last .0) (c .before .before .before .before .before .before .fill-exceeding .last .1 .0) (start .args .memory .now) (c .before .before .before .before .before .before .before .before .before .before .before .before .before .before .before .push-arguments .last .1 .1 .1 .1 .1 .0) (start .args .to) place (c .before .before .before .before .before .before .before .before .before .before .before .before .before .before .before .push-arguments .result) refl refl (positive (c .before .before .before .before .before .before .before .before .before .before .before .before .if1 .left)) (start .pre .room) (c .before .before .before .before .before .before .before .before .before .before .before .before .before .before .before .push-arguments .ensures) (c .before .before .before .before .before .before .before .before .before .before .make-room .ensures) (c .before .before .before .before .before .before .fill-exceeding .ensures), c .before .before .before .before .before .before .fill-exceeding .kept .1 .0 ∙ (c .before .before .before .before .before .before .before .before .before .before .make-room .kept .0 ∙ (length-set (start .args .line .now) reduced-place (choices .at) ∙ line-long (start .pre .facts))))
 
--- src/split.rt:116:9
 same-length-3 : tie.Need-same-length-3
 same-length-3 c =
     let start = c .before .before .before .before .before .before .before .before .before .before .before .before .before .before .before .before .before .before .before .before .before .before .before .before .before .before in
@@ -88,11 +76,9 @@ same-length-3 c =
     let place = 2 * choices .at + first-element in
     c .before .before .before .before .before .before .before .before .before .fill-exceeding .kept .1 .0 ∙ (c .before .before .before .before .before .before .before .before .before .before .before .before .before .make-room .kept .0 ∙ length-set (start .args .line .now) reduced-place (choices .at))
 
--- src/split.rt:116:9
 same-length-4 : tie.Need-same-length-4
 same-length-4 c = search needs
 
--- src/split.rt:116:9
 returns-2 : tie.Need-returns-2
 returns-2 c =
     let start = c .before .before .before .before .before .before .before .before .before .before .before .before .before .before .before .before .before .before .before .before .before .before .before .before .before .before in
@@ -101,7 +87,6 @@ returns-2 c =
     let place = 2 * choices .at + first-element in
     record { pushes = λ bindings pre post ss ts s. pushed-more s line₁ (c .before .before .before .before .before .before .before .before .before .before .before .before .before .make-room .last .0) (c .before .before .before .before .before .before .before .before .before .fill-exceeding .last .1 .0) (start .args .memory .now) (c .before .before .before .before .before .before .before .before .before .before .before .before .before .before .before .before .before .before .push-arguments .last .1 .1 .1 .1 .1 .0) (start .args .to) place (c .before .before .before .before .before .before .before .before .before .before .before .before .before .before .before .before .before .before .push-arguments .result) refl refl (positive (c .before .before .before .before .before .before .before .before .before .before .before .before .before .before .before .if1 .left)) (room-for s (start .pre)) (c .before .before .before .before .before .before .before .before .before .before .before .before .before .before .before .before .before .before .push-arguments .ensures) (c .before .before .before .before .before .before .before .before .before .before .before .before .before .make-room .ensures) (c .before .before .before .before .before .before .before .before .before .fill-exceeding .ensures) (c .before .before .store .last .1 .0) (c .before .before .before .before .before .if2 .taken) (c .before .before .store .ensures) }
 
--- src/split.rt:118:5
 push-lexicographic-requires : tie.Need-push-lexicographic-requires
 push-lexicographic-requires c κs =
     let start = c .before .before .before .before .before .before .before .before .before .before .before .before .before .before .before .before .before .before .before .before .before .before .before in
@@ -110,7 +95,6 @@ push-lexicographic-requires c κs =
     let place = 2 * choices .at + first-element in
     lexicographic-fits (start .pre .facts) line₁ (c .before .before .before .before .before .before .before .before .before .before .make-room .last .0) (c .before .before .before .before .before .before .fill-exceeding .last .1 .0) (start .args .memory .now) (c .before .before .before .before .before .before .before .before .before .before .before .before .before .before .before .push-arguments .last .1 .1 .1 .1 .1 .0) (start .args .to) place (c .before .before .before .before .before .before .before .before .before .before .before .before .before .before .before .push-arguments .result) refl refl (positive (c .before .before .before .before .before .before .before .before .before .before .before .before .if1 .left)) (start .pre .room) (c .before .before .before .before .before .before .before .before .before .before .before .before .before .before .before .push-arguments .ensures) (c .before .before .before .before .before .before .before .before .before .before .make-room .ensures) (c .before .before .before .before .before .before .fill-exceeding .ensures) (c .before .before .if2 .left) (c .before .before .before .before .before .before .fill-exceeding .kept .1 .0 ∙ (c .before .before .before .before .before .before .before .before .before .before .make-room .kept .0 ∙ (length-set (start .args .line .now) reduced-place (choices .at) ∙ line-long (start .pre .facts))))
 
--- src/split.rt:98:1
 same-length-5 : tie.Need-same-length-5
 same-length-5 c =
     let start = c .before .before .before .before .before .before .before .before .before .before .before .before .before .before .before .before .before .before .before .before .before .before .before .before .before .before in
@@ -119,11 +103,9 @@ same-length-5 c =
     let place = 2 * choices .at + first-element in
     c .before .before .before .before .before .before .before .before .before .fill-exceeding .kept .1 .0 ∙ (c .before .before .before .before .before .before .before .before .before .before .before .before .before .make-room .kept .0 ∙ length-set (start .args .line .now) reduced-place (choices .at))
 
--- src/split.rt:98:1
 same-length-6 : tie.Need-same-length-6
 same-length-6 c = search needs
 
--- src/split.rt:98:1
 returns-3 : tie.Need-returns-3
 returns-3 c =
     let start = c .before .before .before .before .before .before .before .before .before .before .before .before .before .before .before .before .before .before .before .before .before .before .before .before .before .before in

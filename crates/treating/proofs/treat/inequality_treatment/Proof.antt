@@ -6,23 +6,18 @@ use borrow.Author.Needs.{needs}
 use Rattle.treating.proofs.treat.inequality_treatment.Statement.{statement}
 use Rattle.treating.proofs.treat.inequality_treatment.Tie as tie
 
--- src/treat.rt:49:9
 reached-requires : tie.Need-reached-requires
 reached-requires c κs = search needs
 
--- src/treat.rt:50:9
 reached-requires-2 : tie.Need-reached-requires-2
 reached-requires-2 c κs = search needs
 
--- src/treat.rt:51:13
 shared-slice-read-f : tie.Need-shared-slice-read-f
 shared-slice-read-f c = search needs
 
--- src/treat.rt:53:46
 wide-requires : tie.Need-wide-requires
 wide-requires c κs = search needs
 
--- src/treat.rt:53:12
 occurs-at-requires : tie.Need-occurs-at-requires
 occurs-at-requires c κs =
     let start = c .before .before .before .before .before .before .before .before in
@@ -31,7 +26,6 @@ occurs-at-requires c κs =
     let sides = start .args .sides in
     ((start .pre .0 .laid, start .pre .1 .1), (start .pre .0 .proper, variable-free (start .pre .0) (sides .left) (s .result) (c .wide .result) (s .ensures .0) (s .ensures .1) (c .before .if1 .taken) (c .wide .ensures .0)))
 
--- src/treat.rt:54:13
 returns : tie.Need-returns
 returns c =
     let start = c .before .before .before .before .before .before .before .before .before .before in
@@ -40,7 +34,6 @@ returns c =
     let sides = start .args .sides in
     left-drops (start .args .nodes .now) (start .args .sizes .now) (start .args .bindings .now) (sides .left) (sides .right) (s .result) (s .ensures .0) (s .ensures .1) (c .before .before .before .if1 .taken) (c .before .before .wide .result) (c .before .before .wide .ensures .0) (sym (c .if2 .taken) ∙ c .before .occurs-at .ensures)
 
--- src/treat.rt:56:9
 returns-2 : tie.Need-returns-2
 returns-2 c =
     let start = c .before .before .before .before .before .before .before .before .before .before in
@@ -49,15 +42,12 @@ returns-2 c =
     let sides = start .args .sides in
     left-reduced (start .args .nodes .now) (start .args .sizes .now) (start .args .bindings .now) (sides .left) (sides .right) (s .result) (s .ensures .0) (s .ensures .1) (c .before .before .before .if1 .taken) (c .before .before .wide .result) (c .before .before .wide .ensures .0) (sym (c .if2 .left) ∙ c .before .occurs-at .ensures)
 
--- src/treat.rt:58:13
 shared-slice-read-g : tie.Need-shared-slice-read-g
 shared-slice-read-g c = search needs
 
--- src/treat.rt:60:46
 wide-requires-2 : tie.Need-wide-requires-2
 wide-requires-2 c κs = search needs
 
--- src/treat.rt:60:12
 occurs-at-requires-2 : tie.Need-occurs-at-requires-2
 occurs-at-requires-2 c κs =
     let start = c .before .before .before .before .before .before .before .before .before .before in
@@ -66,7 +56,6 @@ occurs-at-requires-2 c κs =
     let sides = start .args .sides in
     ((start .pre .0 .laid, start .pre .1 .0), (start .pre .0 .proper, variable-free (start .pre .0) (sides .right) (t .result) (c .wide2 .result) (t .ensures .0) (t .ensures .1) (c .before .if3 .taken) (c .wide2 .ensures .0)))
 
--- src/treat.rt:61:13
 returns-3 : tie.Need-returns-3
 returns-3 c =
     let start = c .before .before .before .before .before .before .before .before .before .before .before .before in
@@ -75,7 +64,6 @@ returns-3 c =
     let sides = start .args .sides in
     right-drops (start .args .nodes .now) (start .args .sizes .now) (start .args .bindings .now) (sides .left) (sides .right) (s .result) (s .ensures .0) (t .result) (t .ensures .0) (s .ensures .1) (c .before .before .before .before .before .if1 .left) (t .ensures .1) (c .before .before .before .if3 .taken) (c .before .before .wide2 .result) (c .before .before .wide2 .ensures .0) (sym (c .if4 .taken) ∙ c .before .occurs-at2 .ensures)
 
--- src/treat.rt:63:9
 returns-4 : tie.Need-returns-4
 returns-4 c =
     let start = c .before .before .before .before .before .before .before .before .before .before .before .before in
@@ -84,7 +72,6 @@ returns-4 c =
     let sides = start .args .sides in
     right-reduced (start .args .nodes .now) (start .args .sizes .now) (start .args .bindings .now) (sides .left) (sides .right) (s .result) (s .ensures .0) (t .result) (t .ensures .0) (s .ensures .1) (c .before .before .before .before .before .if1 .left) (t .ensures .1) (c .before .before .before .if3 .taken) (c .before .before .wide2 .result) (c .before .before .wide2 .ensures .0) (sym (c .if4 .left) ∙ c .before .occurs-at2 .ensures)
 
--- src/treat.rt:42:1
 returns-5 : tie.Need-returns-5
 returns-5 c =
     let start = c .before .before .before .before .before .before .before .before .before in

@@ -3,15 +3,12 @@ use borrow.Author.Needs.{needs}
 use Rattle.treating.proofs.treat.sides_of.Statement.{statement}
 use Rattle.treating.proofs.treat.sides_of.Tie as tie
 
--- src/treat.rt:36:15
 wide-requires : tie.Need-wide-requires
 wide-requires c κs = search needs
 
--- src/treat.rt:37:16
 wide-requires-2 : tie.Need-wide-requires-2
 wide-requires-2 c κs = search needs
 
--- src/treat.rt:32:1
 returns : tie.Need-returns
 returns c = rw (c .before .wide .ensures .0, c .wide2 .ensures .0)
 

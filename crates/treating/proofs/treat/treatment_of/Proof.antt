@@ -4,37 +4,30 @@ use borrow.Author.Needs.{needs}
 use Rattle.treating.proofs.treat.treatment_of.Statement.{statement}
 use Rattle.treating.proofs.treat.treatment_of.Tie as tie
 
--- src/treat.rt:76:27
 enum-known-relation : tie.Need-enum-known-relation
 enum-known-relation c = search needs
 
--- src/treat.rt:76:81
 sides-of-requires : tie.Need-sides-of-requires
 sides-of-requires c κs = search needs
 
--- src/treat.rt:76:36
 inequality-treatment-requires : tie.Need-inequality-treatment-requires
 inequality-treatment-requires c κs =
     let start = c .before .before .before .before .before .before .before in
     let r = c .before .before .relation .given in
     (start .pre .0, greater-within (start .args .element) (r .0 .0) (r .0 .1 .0) (c .sides-of .result) (c .sides-of .ensures) _ (r .1) (start .pre .1))
 
--- src/treat.rt:77:25
 enum-known-relation-2 : tie.Need-enum-known-relation-2
 enum-known-relation-2 c = search needs
 
--- src/treat.rt:77:51
 sides-of-requires-2 : tie.Need-sides-of-requires-2
 sides-of-requires-2 c κs = search needs
 
--- src/treat.rt:69:1
 returns : tie.Need-returns
 returns c =
     let start = c .before .before .before .before .before .before .before .before in
     let r = c .before .before .before .relation .given in
     asks-as-greater (start .args .element) (r .0 .0) (r .0 .1 .0) (c .before .sides-of .result) (c .before .sides-of .ensures) _ _ _ _ (r .1) (c .inequality-treatment .ensures)
 
--- src/treat.rt:69:1
 returns-2 : tie.Need-returns-2
 returns-2 c =
     let start = c .before .before .before .before .before .before .before in

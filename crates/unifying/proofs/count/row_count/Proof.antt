@@ -12,37 +12,29 @@ Inv-loop sizes k end count₀ t₀ count t = Counting sizes k end t count
 abbrev μ-loop : tie.MeasureT-loop
 μ-loop sizes k end count₀ t₀ count t = end - t
 
--- src/count.rt:12:5
 loop-holds : tie.Need-loop-holds Inv-loop μ-loop
 loop-holds c = counting-start _ _ _ (c .before .pre)
 
--- src/count.rt:13:17
 add-count : tie.Need-add-count Inv-loop μ-loop
 add-count c = search needs
 
--- src/count.rt:14:22
 shared-slice-read-wide : tie.Need-shared-slice-read-wide Inv-loop μ-loop
 shared-slice-read-wide c = search needs
 
--- src/count.rt:14:17
 wide-requires : tie.Need-wide-requires Inv-loop μ-loop
 wide-requires c κs = search needs
 
--- src/count.rt:14:13
 add-t : tie.Need-add-t Inv-loop μ-loop
 add-t c = search needs
 
--- src/count.rt:12:5
 loop-less : tie.Need-loop-less Inv-loop μ-loop
 loop-less c =
     let e = counting-size _ _ _ (c .before .before .before .loop .inv) (c .before .before .loop-test .taken) in
     omega (arith, c .wide .ensures .0, c .before .before .loop-test .taken)
 
--- src/count.rt:12:5
 loop-again : tie.Need-loop-again Inv-loop μ-loop
 loop-again c = counting-next _ _ _ (c .before .before .before .loop .inv) (c .wide .result) (c .before .before .loop-test .taken) (c .wide .ensures .0)
 
--- src/count.rt:6:1
 returns : tie.Need-returns Inv-loop μ-loop
 returns c = counting-done _ _ _ (c .before .loop .inv) (c .loop-test .left)
 

@@ -25,7 +25,6 @@ shared-slice-read-own c = search needs
 array-write-own : tie.Need-array-write-own Inv-loop μ-loop
 array-write-own c = search needs
 
--- src/unifier.rt:27:9
 add-i : tie.Need-add-i Inv-loop μ-loop
 add-i c = search needs
 

@@ -13,18 +13,15 @@ cast-bindings c = search needs
 slice-write-bindings : tie.Need-slice-write-bindings
 slice-write-bindings c = search needs
 
--- src/unify.rt:33:9
 same-length : tie.Need-same-length
 same-length c = search needs
 
--- src/unify.rt:33:9
 returns-2 : tie.Need-returns-2
 returns-2 c = let a = c .before .before in variables-less (a .args .bindings .now) (a .args .v) (a .args .w) (a .args .p) (a .args .q) (c .before .if1 .left) (c .if2 .taken) (a .pre .3)
 
 cast-bindings-2 : tie.Need-cast-bindings-2
 cast-bindings-2 c = search needs
 
--- src/unify.rt:35:5
 slice-write-bindings-2 : tie.Need-slice-write-bindings-2
 slice-write-bindings-2 c = search needs
 

@@ -14,59 +14,45 @@ Inv-loop memory place element bindings₀ i₀ bindings i = Loading variable-cou
 abbrev μ-loop : tie.MeasureT-loop
 μ-loop memory place element bindings₀ i₀ bindings i = variable-count - i
 
--- src/line.rt:52:9
 loop-holds : tie.Need-loop-holds Inv-loop μ-loop
 loop-holds c = loading-start _ _ _ _ (omega (arith, c .before .pre)) refl
 
--- src/line.rt:53:34
 add-bindings : tie.Need-add-bindings Inv-loop μ-loop
 add-bindings c = search needs
 
--- src/line.rt:53:27
 shared-slice-read-bindings : tie.Need-shared-slice-read-bindings Inv-loop μ-loop
 shared-slice-read-bindings c = search needs
 
--- src/line.rt:53:13
 array-write-bindings : tie.Need-array-write-bindings Inv-loop μ-loop
 array-write-bindings c = search needs
 
--- src/line.rt:52:13
 add-i : tie.Need-add-i Inv-loop μ-loop
 add-i c = search needs
 
--- src/line.rt:52:9
 loop-less : tie.Need-loop-less Inv-loop μ-loop
 loop-less c = search needs
 
--- src/line.rt:52:9
 loop-again : tie.Need-loop-again Inv-loop μ-loop
 loop-again c = loading-next (c .before .before .loop .inv) (c .before .loop-test .taken)
 
--- src/line.rt:57:32
 add-wide : tie.Need-add-wide Inv-loop μ-loop
 add-wide c = search needs
 
--- src/line.rt:57:25
 shared-slice-read-wide : tie.Need-shared-slice-read-wide Inv-loop μ-loop
 shared-slice-read-wide c = search needs
 
--- src/line.rt:57:20
 wide-requires : tie.Need-wide-requires Inv-loop μ-loop
 wide-requires c κs = search needs
 
--- src/line.rt:58:34
 add-wide-2 : tie.Need-add-wide-2 Inv-loop μ-loop
 add-wide-2 c = search needs
 
--- src/line.rt:58:27
 shared-slice-read-wide-2 : tie.Need-shared-slice-read-wide-2 Inv-loop μ-loop
 shared-slice-read-wide-2 c = search needs
 
--- src/line.rt:58:22
 wide-requires-2 : tie.Need-wide-requires-2 Inv-loop μ-loop
 wide-requires-2 c κs = search needs
 
--- src/line.rt:45:5
 returns : tie.Need-returns Inv-loop μ-loop
 returns c = record {
   bindings-are = loading-done (c .before .before .before .before .before .loop .inv) (c .before .before .before .before .loop-test .left);

@@ -5,7 +5,6 @@ use Rattle.lines.specs.Contracts.Line.{resting-of, opening-line}
 use Rattle.lines.proofs.line.Line.opening.Statement.{statement}
 use Rattle.lines.proofs.line.Line.opening.Tie as tie
 
--- src/line.rt:21:5
 returns : tie.Need-returns
 unfolding resting-of opening-line
 returns c = (refl, record { few = omega arith; fresh = refl; markable = tt })

@@ -14,46 +14,36 @@ Inv-loop bytes₀ from to self count i₀ at₀ bytes i at = Putting self from t
 abbrev μ-loop : tie.MeasureT-loop
 μ-loop bytes₀ from to self count i₀ at₀ bytes i at = count - i
 
--- src/line.rt:84:9
 loop-holds : tie.Need-loop-holds Inv-loop μ-loop
 loop-holds c = putting-start _ _ _ _ (c .before .pre) (elements-places (c .before .args .t1) (c .before .good .0))
 
--- src/line.rt:85:27
 mul-element : tie.Need-mul-element Inv-loop μ-loop
 mul-element c = search needs
 
--- src/line.rt:85:27
 element-copy-out-element : tie.Need-element-copy-out-element Inv-loop μ-loop
 element-copy-out-element c = search needs
 
--- src/line.rt:86:13
 put-element-requires : tie.Need-put-element-requires Inv-loop μ-loop
 put-element-requires c κs =
     let p = c .before .before .before .loop .inv in
     let h = c .before .before .loop-test .taken in
     (putting-room p h, putting-markable p h _ _ refl)
 
--- src/line.rt:87:17
 add-i : tie.Need-add-i Inv-loop μ-loop
 add-i c = search needs
 
--- src/line.rt:88:18
 add-at : tie.Need-add-at Inv-loop μ-loop
 add-at c = omega (arith, putting-room (c .before .before .before .before .before .before .loop .inv) (c .before .before .before .before .before .loop-test .taken), putting-length (c .before .before .before .before .before .before .loop .inv))
 
--- src/line.rt:84:9
 loop-less : tie.Need-loop-less Inv-loop μ-loop
 loop-less c = search needs
 
--- src/line.rt:84:9
 loop-again : tie.Need-loop-again Inv-loop μ-loop
 loop-again c = putting-next (c .before .before .before .before .before .before .loop .inv) (c .before .before .before .before .before .loop-test .taken) _ _ refl _ (c .before .before .put-element .ensures)
 
--- src/line.rt:77:5
 same-length : tie.Need-same-length Inv-loop μ-loop
 same-length c = putting-length (c .before .loop .inv)
 
--- src/line.rt:77:5
 returns : tie.Need-returns Inv-loop μ-loop
 returns c = putting-done (c .before .loop .inv) (c .loop-test .left)
 

@@ -9,23 +9,18 @@ use borrow.Author.Needs.{needs}
 use Rattle.lines.proofs.line.Line.put_without.Statement.{statement}
 use Rattle.lines.proofs.line.Line.put_without.Tie as tie
 
--- src/line.rt:98:35
 add-put-elements : tie.Need-add-put-elements
 add-put-elements c = search needs
 
--- src/line.rt:98:43
 add-put-elements-2 : tie.Need-add-put-elements-2
 add-put-elements-2 c = search needs
 
--- src/line.rt:98:67
 mul-put-elements : tie.Need-mul-put-elements
 mul-put-elements c = search needs
 
--- src/line.rt:98:43
 add-put-elements-3 : tie.Need-add-put-elements-3
 add-put-elements-3 c = search needs
 
--- src/line.rt:98:9
 put-elements-requires : tie.Need-put-elements-requires
 put-elements-requires c κs = removal-elements (c .before .before .pre) _ refl
 
@@ -41,7 +36,6 @@ mul-put c = search needs
 add-put-2 : tie.Need-add-put-2
 add-put-2 c = search needs
 
--- src/line.rt:99:9
 put-requires : tie.Need-put-requires
 put-requires c κs = search needs
 
@@ -57,7 +51,6 @@ add-memory c = search needs
 slice-write-memory : tie.Need-slice-write-memory
 slice-write-memory c = search needs
 
--- src/line.rt:101:35
 cast-memory-2 : tie.Need-cast-memory-2
 cast-memory-2 c = search needs
 
@@ -69,13 +62,11 @@ slice-write-memory-2 c = let start = c .before .before .before .before .before .
     let put = c .before .before .put in
     omega (arith, length-set (put .last .0) (start .args .place + count-place) (start .args .self .count - 1), put .kept .0, c .before .before .before .before .before .before .put-elements .kept .1 .0, start .pre .whole)
 
--- src/line.rt:93:5
 same-length : tie.Need-same-length
 same-length c = let start = c .before .before .before .before .before .before .before .before .before in
     let put = c .before .before .put in
     length-set (set (put .last .0) (start .args .place + count-place) (start .args .self .count - 1)) (start .args .place + reduced-place) (start .args .at) ∙ (length-set (put .last .0) (start .args .place + count-place) (start .args .self .count - 1) ∙ (put .kept .0 ∙ c .before .before .before .before .before .before .put-elements .kept .1 .0))
 
--- src/line.rt:93:5
 returns : tie.Need-returns
 returns c = let start = c .before .before .before .before .before .before .before .before .before in
     removed (start .pre) _ _ _ _ _ _ refl refl (c .before .before .before .before .before .before .put-elements .ensures) (c .before .before .put .ensures) refl refl

@@ -9,51 +9,41 @@ use borrow.Author.Needs.{needs}
 use Rattle.lines.proofs.line.Line.write.Statement.{statement}
 use Rattle.lines.proofs.line.Line.write.Tie as tie
 
--- src/line.rt:70:25
 slice-aggregate-rebind : tie.Need-slice-aggregate-rebind
 slice-aggregate-rebind c = search needs
 
--- src/line.rt:70:9
 rebind-requires : tie.Need-rebind-requires
 rebind-requires c κs = search needs
 
--- src/line.rt:71:23
 cast-line : tie.Need-cast-line
 cast-line c = search needs
 
--- src/line.rt:71:9
 slice-write-line : tie.Need-slice-write-line
 slice-write-line c = search needs
 
--- src/line.rt:72:9
 put-elements-requires : tie.Need-put-elements-requires
 put-elements-requires c κs = let start = c .before .before .before .before .before .before .before .before in
     let bound = c .before .before .before .rebind in
     written-elements (start .args .self) (start .pre .0) _ (length-set (bound .last .0) count-place (start .args .self .count) ∙ (bound .kept .0 ∙ start .pre .1))
 
--- src/line.rt:73:35
 mul-pad : tie.Need-mul-pad
 mul-pad c = search needs
 
--- src/line.rt:73:19
 add-pad : tie.Need-add-pad
 add-pad c = search needs
 
--- src/line.rt:73:9
 pad-requires : tie.Need-pad-requires
 pad-requires c κs = let start = c .before .before .before .before .before .before .before .before .before .before .before .before in
     let bound = c .before .before .before .before .before .before .before .rebind in
     let marked = c .before .before .before .put-elements in
     (omega (arith, start .pre .0 .few), marked .kept .1 .0 ∙ (length-set (bound .last .0) count-place (start .args .self .count) ∙ (bound .kept .0 ∙ start .pre .1)))
 
--- src/line.rt:64:5
 same-length : tie.Need-same-length
 same-length c = let start = c .before .before .before .before .before .before .before .before .before .before .before .before .before .before .before in
     let bound = c .before .before .before .before .before .before .before .before .before .before .rebind in
     let marked = c .before .before .before .before .before .before .put-elements in
     c .before .before .pad .kept .0 ∙ (marked .kept .1 .0 ∙ (length-set (bound .last .0) count-place (start .args .self .count) ∙ bound .kept .0))
 
--- src/line.rt:64:5
 returns : tie.Need-returns
 returns c = let start = c .before .before .before .before .before .before .before .before .before .before .before .before .before .before .before in
     let bound = c .before .before .before .before .before .before .before .before .before .before .rebind in

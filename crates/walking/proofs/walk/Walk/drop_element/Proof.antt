@@ -9,19 +9,15 @@ use Rattle.walking.proofs.walk.Walk.drop_element.Tie as tie
 mul-put-without : tie.Need-mul-put-without
 mul-put-without c = omega (arith, treating-top (c .before .before .before .before .before .pre .0 .treating))
 
--- src/walk.rt:95:9
 put-without-requires : tie.Need-put-without-requires
 put-without-requires c κs = removal-fits (c .before .before .before .before .before .pre .0)
 
--- src/walk.rt:96:9
 turned-requires : tie.Need-turned-requires
 turned-requires c κs = c .before .before .before .before .before .before .before .before .pre .1
 
--- src/walk.rt:91:5
 same-length : tie.Need-same-length
 same-length c = search needs
 
--- src/walk.rt:91:5
 returns : tie.Need-returns
 returns c = rw (c .turned .ensures) (let start = c .before .before .before .before .before .before .before .before .before in element-dropped (start .pre .0) (start .pre .1) _ refl (c .before .before .before .put-without .ensures))
 

@@ -5,31 +5,24 @@ use borrow.Author.Needs.{needs}
 use Rattle.walking.proofs.walk.Walk.finish.Statement.{statement}
 use Rattle.walking.proofs.walk.Walk.finish.Tie as tie
 
--- src/walk.rt:66:30
 mul-write-record : tie.Need-mul-write-record
 mul-write-record c = omega (arith, finishing-done (c .before .before .before .before .before .pre) .1)
 
--- src/walk.rt:66:47
 mul-write-record-2 : tie.Need-mul-write-record-2
 mul-write-record-2 c = omega (arith, finishing-done (c .before .before .before .before .before .before .pre) .0)
 
--- src/walk.rt:66:9
 write-record-requires : tie.Need-write-record-requires
 write-record-requires c κs = finishing-fits (c .before .before .before .before .before .before .pre)
 
--- src/walk.rt:70:19
 add-t8 : tie.Need-add-t8
 add-t8 c = search needs
 
--- src/walk.rt:71:18
 add-t9 : tie.Need-add-t9
 add-t9 c = search needs
 
--- src/walk.rt:62:5
 same-length : tie.Need-same-length
 same-length c = search needs
 
--- src/walk.rt:62:5
 returns : tie.Need-returns
 returns c =
     let start = c .before .before .before .before .before .before .before .before .before .before .before in

@@ -34,7 +34,6 @@ add-if2 c = search needs
 add-if2-2 : tie.Need-add-if2-2
 add-if2-2 c = omega (arith, choices-few (c .before .before .before .before .before .before .before .before .before .before .before .before .pre) (c .before .before .before .before .before .before .before .before .choices-of .result) (c .before .before .before .before .before .before .before .before .choices-of .ensures) .0, choices-few (c .before .before .before .before .before .before .before .before .before .before .before .before .pre) (c .before .before .before .before .before .before .before .before .choices-of .result) (c .before .before .before .before .before .before .before .before .choices-of .ensures) .1, c .before .before .before .before .before .before .before .before .before .before .before .before .pre .treating .holds .ordered, treating-top (c .before .before .before .before .before .before .before .before .before .before .before .before .pre .treating))
 
--- src/walk.rt:152:13
 returns-2 : tie.Need-returns-2
 returns-2 c = record { outcome = split-too-many (c .before .before .before .before .before .before .before .before .before .before .before .before .before .pre) (c .before .before .before .before .before .before .before .before .before .choices-of .result) (c .before .before .before .before .before .before .before .before .before .choices-of .ensures) (c .before .before .before .before .before .too-long .ensures .fits (c .before .before .before .before .if1 .left)) (c .if2 .taken) }
 
@@ -44,15 +43,12 @@ add-first c = omega (arith, treating-top (c .before .before .before .before .bef
 sub-first : tie.Need-sub-first
 sub-first c = search needs
 
--- src/walk.rt:159:22
 mul-load : tie.Need-mul-load
 mul-load c = omega (arith, treating-top (c .before .before .before .before .before .before .before .before .before .before .before .before .before .before .before .before .pre .treating))
 
--- src/walk.rt:159:39
 slice-aggregate-load : tie.Need-slice-aggregate-load
 slice-aggregate-load c = search needs
 
--- src/walk.rt:159:9
 load-requires : tie.Need-load-requires
 load-requires c κs = (treating-place (c .before .before .before .before .before .before .before .before .before .before .before .before .before .before .before .before .before .pre .treating), refl)
 
@@ -62,7 +58,6 @@ slice-aggregate-push-choices c = search needs
 mul-push-choices : tie.Need-mul-push-choices
 mul-push-choices c = omega (arith, treating-top (c .before .before .before .before .before .before .before .before .before .before .before .before .before .before .before .before .before .before .before .before .before .pre .treating))
 
--- src/walk.rt:160:9
 push-choices-requires : tie.Need-push-choices-requires
 push-choices-requires c κs = split-fits (c .before .before .before .before .before .before .before .before .before .before .before .before .before .before .before .before .before .before .before .before .before .pre) (c .before .before .before .before .before .before .before .before .before .before .before .before .before .before .before .before .before .choices-of .result) (c .before .before .before .before .before .before .before .before .before .before .before .before .before .before .before .before .before .choices-of .ensures) (c .before .before .before .before .before .before .before .before .before .before .before .before .before .too-long .ensures .fits (c .before .before .before .before .before .before .before .before .before .before .before .before .if1 .left)) (c .before .before .before .load .last .1 .1 .0) (c .before .before .before .load .ensures) (c .before .before .before .before .before .before .before .before .if2 .left) _ refl
 
@@ -72,11 +67,9 @@ turned-requires c κs = c .before .before .before .before .before .before .befor
 going-requires : tie.Need-going-requires
 going-requires c κs = search needs
 
--- src/walk.rt:136:5
 same-length : tie.Need-same-length
 same-length c = search needs
 
--- src/walk.rt:136:5
 returns-3 : tie.Need-returns-3
 returns-3 c = rw (c .going .ensures, c .before .turned .ensures) (record { outcome = split-goes-on (c .before .before .before .before .before .before .before .before .before .before .before .before .before .before .before .before .before .before .before .before .before .before .before .before .before .before .before .pre) (c .before .before .before .before .before .before .before .before .before .before .before .before .before .before .before .before .before .before .before .before .before .before .before .choices-of .result) (c .before .before .before .before .before .before .before .before .before .before .before .before .before .before .before .before .before .before .before .before .before .before .before .choices-of .ensures) (c .before .before .before .before .before .before .before .before .before .before .before .before .before .before .before .before .before .before .before .too-long .ensures .fits (c .before .before .before .before .before .before .before .before .before .before .before .before .before .before .before .before .before .before .if1 .left)) (c .before .before .before .before .before .before .before .before .before .load .last .1 .1 .0) (c .before .before .before .before .before .before .before .before .before .load .ensures) (c .before .before .before .before .before .before .before .before .before .before .before .before .before .before .if2 .left) (c .before .before .before .before .before .push-choices .last .1 .1 .0) _ refl (c .before .before .before .before .before .push-choices .ensures) })
 

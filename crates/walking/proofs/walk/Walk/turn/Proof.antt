@@ -59,7 +59,6 @@ loop-less c = search needs
 loop-again : tie.Need-loop-again Inv-loop μ-loop Inv-loop2 μ-loop2
 loop-again c = filling-next (c .before .before .before .loop .inv) (omega (arith, head-few (c .before .before .before .before .before .before .before .before .before .before .before .pre .0) (c .before .before .before .before .before .before .before .before .before .before .before .pre .1) (c .before .before .before .before .before .head .ensures))) _ (c .element-at .ensures)
 
--- src/walk.rt:193:9
 loop2-holds : tie.Need-loop2-holds Inv-loop μ-loop Inv-loop2 μ-loop2
 loop2-holds c = (refl, searching-start _ _ _ _ _)
 
@@ -106,11 +105,9 @@ returns c = c .before .before .treat .ensures
 add-i-2 : tie.Need-add-i-2 Inv-loop μ-loop Inv-loop2 μ-loop2
 add-i-2 c = search needs
 
--- src/walk.rt:193:9
 loop2-less : tie.Need-loop2-less Inv-loop μ-loop Inv-loop2 μ-loop2
 loop2-less c = search needs
 
--- src/walk.rt:193:9
 loop2-again : tie.Need-loop2-again Inv-loop μ-loop Inv-loop2 μ-loop2
 loop2-again c =
     let start = c .before .before .before .before .before .before .before .before .before .before .before .before .before .before .before .before in

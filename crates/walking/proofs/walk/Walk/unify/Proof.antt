@@ -6,82 +6,63 @@ use borrow.Author.Needs.{needs}
 use Rattle.walking.proofs.walk.Walk.unify.Statement.{statement}
 use Rattle.walking.proofs.walk.Walk.unify.Tie as tie
 
--- src/walk.rt:119:21
 mul-place : tie.Need-mul-place
 mul-place c = omega (arith, treating-top (c .before .before .before .before .pre .0 .treating))
 
--- src/walk.rt:121:53
 slice-aggregate-unify-positions : tie.Need-slice-aggregate-unify-positions
 slice-aggregate-unify-positions c = search needs
 
--- src/walk.rt:121:13
 unify-positions-requires : tie.Need-unify-positions-requires
 unify-positions-requires c κs = let start = c .before .before .before .before .before .before in (line-readable (start .pre .0) (start .pre .1) _ refl, equal-within (start .pre .0) (start .pre .1) _ refl)
 
 enum-told : tie.Need-enum-told
 enum-told c = search needs
 
--- src/walk.rt:124:32
 enum-told-2 : tie.Need-enum-told-2
 enum-told-2 c = search needs
 
--- src/walk.rt:124:32
 add-turned : tie.Need-add-turned
 add-turned c = search needs
 
--- src/walk.rt:124:13
 turned-requires : tie.Need-turned-requires
 turned-requires c κs = search needs
 
--- src/walk.rt:124:13
 returns : tie.Need-returns
 returns c = rw (c .turned .ensures) (unify-failed (c .before .before .before .before .before .before .before .before .before .before .before .pre .0) (c .before .before .before .before .before .before .before .before .before .before .before .pre .1) _ refl (c .before .before .before .before .unify-positions .result) (c .before .before .before .before .unify-positions .ensures) (c .before .before .enum-told2 .given .1))
 
--- src/walk.rt:126:9
 put-without-requires : tie.Need-put-without-requires
 put-without-requires c κs = removal-fits (c .before .before .before .before .before .before .before .before .before .before .pre .0)
 
--- src/walk.rt:128:19
 slice-aggregate-differ : tie.Need-slice-aggregate-differ
 slice-aggregate-differ c = sym (line-slots (c .before .before .before .before .before .before .before .before .before .before .before .before .before .before .before .pre .0))
 
--- src/walk.rt:128:30
 slice-aggregate-differ-2 : tie.Need-slice-aggregate-differ-2
 slice-aggregate-differ-2 c = search needs
 
--- src/walk.rt:128:12
 differ-requires : tie.Need-differ-requires
 differ-requires c κs = (line-slots (c .before .before .before .before .before .before .before .before .before .before .before .before .before .before .before .before .pre .0), c .before .before .before .before .before .before .before .before .before .unify-positions .ensures .whole)
 
--- src/walk.rt:129:35
 slice-aggregate-rebind : tie.Need-slice-aggregate-rebind
 slice-aggregate-rebind c = search needs
 
--- src/walk.rt:129:13
 rebind-requires : tie.Need-rebind-requires
 rebind-requires c κs = (omega (arith, treating-place (c .before .before .before .before .before .before .before .before .before .before .before .before .before .before .before .before .before .before .before .before .pre .0 .treating), c .before .before .before .before .before .before .before .before .before .put-without .kept .1 .0), c .before .before .before .before .before .before .before .before .before .before .before .before .before .unify-positions .ensures .whole)
 
--- src/walk.rt:130:13
 turned-requires-2 : tie.Need-turned-requires-2
 turned-requires-2 c κs = search needs
 
--- src/walk.rt:130:13
 same-length : tie.Need-same-length
 same-length c = search needs
 
--- src/walk.rt:130:13
 returns-2 : tie.Need-returns-2
 returns-2 c = rw (c .turned2 .ensures) (unify-changed (c .before .before .before .before .before .before .before .before .before .before .before .before .before .before .before .before .before .before .before .before .before .before .before .before .pre .0) (c .before .before .before .before .before .before .before .before .before .before .before .before .before .before .before .before .before .before .before .before .before .before .before .before .pre .1) _ refl (c .before .before .before .before .before .before .before .before .before .before .before .before .before .before .before .before .before .unify-positions .result) (c .before .before .before .before .before .before .before .before .before .before .before .before .before .before .before .before .before .unify-positions .ensures) (c .before .before .before .before .before .before .before .before .before .before .before .before .before .before .before .enum-told .given .1) _ _ (c .before .before .before .before .before .before .before .before .before .before .before .before .before .put-without .ensures) (c .before .before .before .rebind .ensures))
 
--- src/walk.rt:132:9
 turned-requires-3 : tie.Need-turned-requires-3
 turned-requires-3 c κs = search needs
 
--- src/walk.rt:107:5
 same-length-2 : tie.Need-same-length-2
 same-length-2 c = search needs
 
--- src/walk.rt:107:5
 returns-3 : tie.Need-returns-3
 returns-3 c = rw (c .turned3 .ensures) (unify-kept (c .before .before .before .before .before .before .before .before .before .before .before .before .before .before .before .before .before .before .before .pre .0) (c .before .before .before .before .before .before .before .before .before .before .before .before .before .before .before .before .before .before .before .pre .1) _ refl (c .before .before .before .before .before .before .before .before .before .before .before .before .unify-positions .result) (c .before .before .before .before .before .before .before .before .before .before .before .before .unify-positions .ensures) (c .before .before .before .before .before .before .before .before .before .before .enum-told .given .1) _ (c .before .before .differ .ensures .same (c .before .if1 .left)) (c .before .before .before .before .before .before .before .before .put-without .ensures))
 

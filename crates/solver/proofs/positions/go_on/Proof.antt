@@ -2,12 +2,12 @@
 use mathlib.Core.Path.{sym, ap, _∙_}
 use native.Mathlib.Omega.{arith}
 use denote.Enum.Declared.{tagOf}
 use Rattle.walking.proofs.walk.Progress.{the-type}
 use Rattle.walking.specs.Contracts.Walking.{left-to-do}
-use Rattle.walking.proofs.Begin.{Underway, underway-start, underway-on, underway-falls, underway-refused, underway-ends}
+use Rattle.solver.proofs.Begin.{Underway, underway-start, underway-on, underway-falls, underway-refused, underway-ends}
 use borrow.Author.Needs.{needs}
-use Rattle.walking.proofs.solve.go_on.Statement.{statement}
-use Rattle.walking.proofs.solve.go_on.Tie as tie
+use Rattle.solver.proofs.positions.go_on.Statement.{statement}
+use Rattle.solver.proofs.positions.go_on.Tie as tie
 
 abbrev Inv-loop : tie.InvT-loop
 Inv-loop nodes sizes memory₀ cursor₀ memory cursor = Underway nodes sizes memory cursor₀ cursor
@@ -39,7 +39,6 @@ loop-less c = underway-falls (c .before .before .before .before .before .turn .r
 loop-again : tie.Need-loop-again Inv-loop μ-loop
 loop-again c = underway-on (c .before .before .before .before .before .before .before .before .before .loop .inv) (c .before .before .before .before .before .turn .result) (c .before .before .before .before .before .turn .ensures) (c .before .enum-told .given .1)
 
--- src/solve.rt:79:5
 going-requires : tie.Need-going-requires Inv-loop μ-loop
 going-requires c κs = search needs
 

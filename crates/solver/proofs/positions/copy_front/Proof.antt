@@ -5,9 +5,9 @@ use lib.ListN.{take}
 use lib.Seq.{length-take-le}
 use borrow.Author.Needs.{needs}
 use Rattle.unifying.specs.Theory.Front.{Fronting, fronting-start, fronting-length}
-use Rattle.walking.proofs.Begin.{front-next, front-done}
-use Rattle.walking.proofs.solve.copy_front.Statement.{statement}
-use Rattle.walking.proofs.solve.copy_front.Tie as tie
+use Rattle.solver.proofs.Begin.{front-next, front-done}
+use Rattle.solver.proofs.positions.copy_front.Statement.{statement}
+use Rattle.solver.proofs.positions.copy_front.Tie as tie
 
 abbrev Inv-loop : tie.InvT-loop
 Inv-loop from to₀ n i₀ to i = Fronting n (take n from) to₀ to i
@@ -24,7 +24,6 @@ shared-slice-read-to c = search needs
 slice-write-to : tie.Need-slice-write-to Inv-loop μ-loop
 slice-write-to c = let f = c .before .before .loop .inv in omega (arith, fronting-length f, f .room, c .before .loop-test .taken)
 
--- src/solve.rt:90:13
 add-i : tie.Need-add-i Inv-loop μ-loop
 add-i c = search needs
 

@@ -1,9 +1,9 @@
 -- `solve_positions` meets its contract.
 use native.Mathlib.Omega.{arith}
-use Rattle.walking.proofs.Begin.{places-within, solved-tells, refused-tells}
+use Rattle.solver.proofs.Begin.{places-within, solved-tells, refused-tells}
 use borrow.Author.Needs.{needs}
-use Rattle.walking.proofs.solve.solve_positions.Statement.{statement}
-use Rattle.walking.proofs.solve.solve_positions.Tie as tie
+use Rattle.solver.proofs.positions.solve_positions.Statement.{statement}
+use Rattle.solver.proofs.positions.solve_positions.Tie as tie
 
 begin-walk-requires : tie.Need-begin-walk-requires
 begin-walk-requires c κs = search needs

@@ -7,9 +7,9 @@ use Rattle.format.specs.Buffer.{written}
 use Rattle.solving.specs.Line.{Line, records}
 use Rattle.solving.specs.Walk.{Walked, solved, refused, enough, walk}
 use Rattle.unifying.specs.Contracts.PrefixForm.{view-of}
-use Rattle.walking.specs.declared.solve.WalkEnd.{WalkEnd}
-use Rattle.walking.specs.declared.solve.WalkEnd.the-variants.{Solved, Refused}
-use Rattle.walking.specs.declared.solve.WalkResult.{WalkResult as Reported}
+use Rattle.solver.specs.declared.positions.WalkEnd.{WalkEnd}
+use Rattle.solver.specs.declared.positions.WalkEnd.the-variants.{Solved, Refused}
+use Rattle.solver.specs.declared.positions.WalkResult.{WalkResult as Reported}
 
 -- "solve's table holds its records, bytes beyond them unchanged"; a refused walk leaves the table as it was.
 module _ (w : Walked) (before after : List ℕ) where

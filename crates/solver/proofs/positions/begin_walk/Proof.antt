@@ -2,10 +2,10 @@
 use mathlib.Core.Path.{refl, ap, _∙_}
 use native.Mathlib.Omega.{arith}
 use Rattle.lines.specs.Contracts.Resting.{resting-bytes}
-use Rattle.walking.proofs.Begin.{opening-walks}
+use Rattle.solver.proofs.Begin.{opening-walks}
 use borrow.Author.Needs.{needs}
-use Rattle.walking.proofs.solve.begin_walk.Statement.{statement}
-use Rattle.walking.proofs.solve.begin_walk.Tie as tie
+use Rattle.solver.proofs.positions.begin_walk.Statement.{statement}
+use Rattle.solver.proofs.positions.begin_walk.Tie as tie
 
 cast-opening : tie.Need-cast-opening
 cast-opening c = let start = c .before .before .before in omega (arith, start .pre .0 .1, start .pre .0 .0 .few)
@@ -13,11 +13,9 @@ cast-opening c = let start = c .before .before .before in omega (arith, start .p
 cast-opening-2 : tie.Need-cast-opening-2
 cast-opening-2 c = let start = c .before .before .before in omega (arith, start .pre .0 .2, start .pre .0 .0 .few)
 
--- src/solve.rt:52:9
 opening-requires : tie.Need-opening-requires
 opening-requires c κs = search needs
 
--- src/solve.rt:54:19
 slice-aggregate-write : tie.Need-slice-aggregate-write
 slice-aggregate-write c = search needs
 
@@ -33,11 +31,9 @@ mul-store c = search needs
 store-requires : tie.Need-store-requires
 store-requires c κs = search needs
 
--- src/solve.rt:40:1
 same-length : tie.Need-same-length
 same-length c = search needs
 
--- src/solve.rt:40:1
 returns : tie.Need-returns
 returns c =
     let start = c .before .before .before .before .before .before .before .before .before .before .before .before in

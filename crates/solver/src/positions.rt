@@ -1,21 +1,21 @@
 // The walk of one direction over an equation's bytes.
-use crate::walk::Advanced;
-use crate::walk::Progress;
-use crate::walk::Walk;
-use crate::walk::going;
 use format::limits::Limits;
 use format::refusal::Refusal;
 use lines::edit::store;
 use lines::layout::LINE;
 use lines::line::Line;
+use walking::walk::Advanced;
+use walking::walk::Progress;
+use walking::walk::Walk;
+use walking::walk::going;
 ghost use mathlib.Core.Path.{_≡_};
 ghost use Prim.Native.Nat.{_≤_, _<_};
 ghost use lib.ListN.{length, take};
 ghost use Rattle.format.specs.Buffer.{written};
 ghost use Rattle.format.specs.Limits.{table-bytes};
 ghost use Rattle.unifying.specs.Contracts.PrefixForm.{InPrefixForm};
 ghost use Rattle.walking.specs.Contracts.Walking.{memory-bytes, Walking, WalkEnds};
-ghost use Rattle.walking.specs.Contracts.Solve.{ReportsWalk};
+ghost use Rattle.solver.specs.Contracts.Reports.{ReportsWalk};
 
 // The place of the first line: the last of the memory.
 const FIRST: usize = Limits::LINES - 1;

@@ -11,25 +11,25 @@ use Rattle.format.specs.declared.refusal.Refusal.{Refusal}
 use Rattle.solving.specs.Line.{no-bindings, records}
 use Rattle.solving.specs.Walk.{enough, walk-from, walk}
 use Rattle.solving.specs.Theory.Whole.{no-bindings-proper}
 use Rattle.walking.specs.declared.walk.Walk.{Walk}
 use Rattle.walking.specs.declared.walk.Advanced.{Advanced}
 use Rattle.walking.specs.declared.walk.Progress.{Progress}
 use Rattle.walking.specs.declared.walk.Progress.the-variants.{Going, Refused}
-use Rattle.walking.specs.declared.solve.WalkEnd.the-variants.{Solved, Refused as Unsolved}
-use Rattle.walking.specs.Contracts.Solve.{ReportsWalk}
+use Rattle.solver.specs.declared.positions.WalkEnd.the-variants.{Solved, Refused as Unsolved}
+use Rattle.solver.specs.Contracts.Reports.{ReportsWalk}
 use Rattle.unifying.specs.Contracts.PrefixForm.{view-of, InPrefixForm}
 use Rattle.unifying.specs.Contracts.Bindings.{bindings-of, Readable}
 use Rattle.lines.specs.Contracts.Resting.{resting-bytes}
 use Rattle.lines.specs.Contracts.Line.{opening-line}
 use Rattle.lines.specs.Contracts.Layout.{line-bytes, placed}
 use Rattle.lines.specs.Contracts.Room.{lines-bytes}
 use Rattle.walking.specs.Contracts.WellFormed.{WellFormed}
 use Rattle.walking.specs.Contracts.Walking.{memory-bytes, whole-walk, Walking, left-to-do, GoesOn, Advances, AdvancesAs, EndsAs, WalkEnds}
 use Rattle.unifying.specs.Theory.Front.{Fronting, fronting-next, fronting-done}
 use Rattle.unifying.specs.Theory.PrefixForm.{form-layout}
 use Rattle.lines.specs.Theory.Placed.{placed-length}
 use Rattle.lines.specs.Theory.Line.{opening-means}
 use Rattle.walking.proofs.Walking.{placed-back, well-formed-length, ended}
 
 -- 1. The opening line.
 module _ {nodes sizes : List ℕ} (laid : InPrefixForm nodes sizes) (s t : ℕ) (i : s < length nodes) (j : t < length nodes) where
