@@ -18,15 +18,18 @@ exceeds-requires c κs =
     )
 
 fill-requires : tie.Need-fill-requires
-fill-requires c κs = omega (arith, c .before .before .scratch .given .1, c .before .before .before .before .before .before .before .before .before .before .before .pre .0 .2)
+fill-requires c κs =
+    let start = c .before .before .before .before .before .before .before .before .before .before .before in
+    omega (arith, c .before .before .scratch .given .1, start .pre .0 .2)
 
 same-length : tie.Need-same-length
 same-length c = c .before .scratch2 .given ∙ c .before .before .before .before .before .scratch .given .1
 
 returns : tie.Need-returns
 returns c =
-    let start = c .before .before .before .before .before .before .before .before .before .before .before .before .before .before in
-    let exceeds = c .before .before .before .before .before .before .before .exceeds in (
+    let at-exceeds = c .before .before .before .before .before .before .before in
+    let start = at-exceeds .before .before .before .before .before .before .before in
+    let exceeds = at-exceeds .exceeds in (
       λ s t two. exceeds .ensures .0 .is s t (two .first-stands _) (two .second-stands _),
       scratch-cleared (start .args .scratch .now) (start .pre .0 .2) (exceeds .last .1 .1 .1 .1 .0) _ (exceeds .kept .1 .1 .1 .1 .0) (c .before .before .fill .ensures),
     )

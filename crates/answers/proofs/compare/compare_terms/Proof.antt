@@ -21,14 +21,18 @@ store-requires c κs =
 
 compare-stored-requires : tie.Need-compare-stored-requires
 compare-stored-requires c κs =
-    let pre = c .before .before .before .before .before .before .before .before .before .before .before .before .pre in
-    let store = c .before .before .before .before .before .store in
+    let at-store = c .before .before .before .before .before in
+    let start = at-store .before .before .before .before .before .before .before in
+    let pre = start .pre in
+    let store = at-store .store in
     ((store .kept .1 .1 .1 .1 .0, store .kept .1 .1 .1 .1 .1 .0, pre .2, store .ensures .0), (pre .0 .first, pre .0 .second, store .ensures .1 _ _ (pair-taken (pre .1) (pre .0 .is))))
 
 returns : tie.Need-returns
 returns c =
-    let pre = c .before .before .before .before .before .before .before .before .before .before .before .before .before .before .before .pre in
-    let store = c .before .before .before .before .before .before .before .before .store in
+    let at-store = c .before .before .before .before .before .before .before .before in
+    let start = at-store .before .before .before .before .before .before .before in
+    let pre = start .pre in
+    let store = at-store .store in
     let compared = c .before .before .compare-stored in
     (λ s t p. compared .ensures .0 s t (store .ensures .1 s t (pair-taken (pre .1) p)), compared .ensures .1)
 

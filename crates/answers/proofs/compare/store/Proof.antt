@@ -19,15 +19,17 @@ decode-requires c κs =
 
 add-measure : tie.Need-add-measure
 add-measure c =
-    let start = c .before .before .before .before .before .before .before .before .before .before in
+    let at-decode = c .before .before .before .before in
+    let start = at-decode .before .before .before .before .before .before in
     let has = start .pre .0 in
-    omega (arith, pair-few (has .is), c .before .before .before .before .decode .ensures _ (has .is .spans) .0)
+    omega (arith, pair-few (has .is), at-decode .decode .ensures _ (has .is .spans) .0)
 
 measure-requires : tie.Need-measure-requires
 measure-requires c κs =
-    let start = c .before .before .before .before .before .before .before .before .before .before in
+    let at-decode = c .before .before .before .before in
+    let start = at-decode .before .before .before .before .before .before in
     let has = start .pre .0 in
-    let decoded = c .before .before .before .before .decode .ensures _ (has .is .spans) in
+    let decoded = at-decode .decode .ensures _ (has .is .spans) in
     pair-measurable (has .is) _ _ _ (placed (start .args .nodes .now) _ _ _ _ (omega (arith, start .pre .1 .0)) (decoded .1)) (decoded .0) (c .before .before .before .nodes .given .1 ∙ start .pre .1 .0) (start .pre .1 .1)
 
 add-result : tie.Need-add-result
@@ -35,8 +37,10 @@ add-result c = omega (arith, c .wide .ensures .0, c .before .slice-known5 .given
 
 returns : tie.Need-returns
 returns c =
-    let start = c .before .before .before .before .before .before .before .before .before .before .before .before .before .before .before in
-    let decode = c .before .before .before .before .before .before .before .before .before .decode in
+    let at-measure = c .before .before .before .before in
+    let at-decode = at-measure .before .before .before .before .before in
+    let start = at-decode .before .before .before .before .before .before in
+    let decode = at-decode .decode in
     let nodes = start .args .nodes .now in
     let symbols = start .pre .1 .2 in
     let behind = symbols-drop position-count nodes symbols in (
@@ -44,7 +48,7 @@ returns c =
           (symbols-drop (length nodes - position-count) (drop position-count nodes) behind) (decode .ensures _ (start .pre .0 .is .spans) .1),
       λ s t p.
           let decoded = decode .ensures _ (p .spans) in
-          pair-stands p _ (start .args .sizes .now) _ _ _ _ (placed (start .args .nodes .now) _ _ _ _ (omega (arith, start .pre .1 .0)) (decoded .1)) (decoded .0) (omega (arith, start .pre .1 .1)) (c .before .before .before .before .measure .ensures) (ap (position-count +_) (c .wide .ensures .0)),
+          pair-stands p _ (start .args .sizes .now) _ _ _ _ (placed (start .args .nodes .now) _ _ _ _ (omega (arith, start .pre .1 .0)) (decoded .1)) (decoded .0) (omega (arith, start .pre .1 .1)) (at-measure .measure .ensures) (ap (position-count +_) (c .wide .ensures .0)),
     )
 
 pub store-spec : {M : Type 1} → statement M

@@ -26,14 +26,19 @@ slice-aggregate-solve-bytes-2 c = let (roomy, few) = known-few _ (c .before .bef
 
 solve-bytes-requires : tie.Need-solve-bytes-requires
 solve-bytes-requires c κs =
-    let pre = c .before .before .before .before .before .before .before .before .before .before .before .pre in
-    ((equation-has _ _ _ (pre .0 .0) (pre .0 .1) _ _ _ (c .before .before .before .before .before .before .equation-at .ensures), equation-low _ _ _ (pre .0 .0) (pre .0 .1), pre .0 .2), pre .1)
+    let at-equation-at = c .before .before .before .before .before .before in
+    let start = at-equation-at .before .before .before .before .before in
+    let pre = start .pre in
+    ((equation-has _ _ _ (pre .0 .0) (pre .0 .1) _ _ _ (at-equation-at .equation-at .ensures), equation-low _ _ _ (pre .0 .0) (pre .0 .1), pre .0 .2), pre .1)
 
 returns : tie.Need-returns
 returns c =
-    let pre = c .before .before .before .before .before .before .before .before .before .before .before .before .before .before .before .before .pre in
-    let found = c .before .before .before .before .before .before .before .before .before .before .before .equation-at in
-    equation-answer _ _ _ _ _ _ (pre .0 .0) (pre .0 .1) (pre .0 .2) _ _ (equation-is _ _ _ (pre .0 .0) (pre .0 .1) _ _ _ (found .ensures)) (c .before .before .before .before .solve-bytes .ensures)
+    let at-solve-bytes = c .before .before .before .before in
+    let at-equation-at = at-solve-bytes .before .before .before .before .before .before .before in
+    let start = at-equation-at .before .before .before .before .before in
+    let pre = start .pre in
+    let found = at-equation-at .equation-at in
+    equation-answer _ _ _ _ _ _ (pre .0 .0) (pre .0 .1) (pre .0 .2) _ _ (equation-is _ _ _ (pre .0 .0) (pre .0 .1) _ _ _ (found .ensures)) (at-solve-bytes .solve-bytes .ensures)
 
 pub solve-found-spec : {M : Type 1} → statement M
 solve-found-spec =

@@ -19,7 +19,11 @@ refusal-number-requires-3 : tie.Need-refusal-number-requires-3
 refusal-number-requires-3 c κs = refused-line _ _ _ (c .before .before .before .read-sheet .ensures) (c .before .status .given .1)
 
 returns-3 : tie.Need-returns-3
-returns-3 c = (buffers-long _ _ _ _ _ (c .before .before .before .before .before .before .before .before .before .before .before .if1 .left) (c .before .before .before .before .before .before .before .before .before .before .if2 .left) ∙ c .before .before .before .before .solve-named .ensures, refl)
+returns-3 c =
+    let at-solve-named = c .before .before .before .before in
+    let at-if-2 = at-solve-named .before .before .before .before .before .before in
+    let at-if = at-if-2 .before in
+    (buffers-long _ _ _ _ _ (at-if .if1 .left) (at-if-2 .if2 .left) ∙ at-solve-named .solve-named .ensures, refl)
 
 returns-4 : tie.Need-returns-4
 returns-4 c = (sheet-refused _ _ _ _ _ (c .before .before .before .before .before .before .if1 .left) (c .before .before .before .before .before .if2 .left) _ _ (c .before .before .before .before .read-sheet .ensures) (c .before .before .status .given .1) (c .refusal-number3 .ensures), refl)

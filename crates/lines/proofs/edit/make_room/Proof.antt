@@ -9,9 +9,12 @@ use Rattle.lines.proofs.edit.make_room.Tie as tie
 
 returns : tie.Need-returns
 returns c =
-    let a = c .before .before .before .before .before .before .before .before .before .before .before .before .before .before .before in
-    let count = c .before .before .before .before .before .before .before .before .before .before .before .before .wide in
-    widened (a .args .i) (a .args .n) (count .result) (a .args .line .now) _ _ (a .pre) (count .ensures .0) (c .before .before .before .before .before .before .before .before .before .before .shift .ensures) (c .before .before .put-if-new2 .ensures ∙ ap (λ l. set l reduced-place (a .args .i)) (c .before .before .before .before .before .before .put-if-new .ensures))
+    let at-put-if-new = c .before .before .before .before .before .before in
+    let at-shift = at-put-if-new .before .before .before .before in
+    let at-wide = at-shift .before .before in
+    let a = at-wide .before .before .before in
+    let count = at-wide .wide in
+    widened (a .args .i) (a .args .n) (count .result) (a .args .line .now) _ _ (a .pre) (count .ensures .0) (at-shift .shift .ensures) (c .before .before .put-if-new2 .ensures ∙ ap (λ l. set l reduced-place (a .args .i)) (at-put-if-new .put-if-new .ensures))
 
 pub make-room-spec : {M : Type 1} → statement M
 make-room-spec =

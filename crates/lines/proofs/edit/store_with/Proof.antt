@@ -5,7 +5,10 @@ use Rattle.lines.proofs.edit.store_with.Statement.{statement}
 use Rattle.lines.proofs.edit.store_with.Tie as tie
 
 returns : tie.Need-returns
-returns c = let a = c .before .before .before .before .before .before .before .before .before .before in placed-with (a .args .to) (a .args .at) (a .args .a) (a .args .b) (a .args .line .now) (a .args .records .now) _ _ (a .pre .0) (a .pre .1) (a .pre .2) (c .before .before .before .before .before .before .store .ensures) (c .before .before .put .ensures)
+returns c =
+    let at-store = c .before .before .before .before .before .before in
+    let a = at-store .before .before .before .before in
+    placed-with (a .args .to) (a .args .at) (a .args .a) (a .args .b) (a .args .line .now) (a .args .records .now) _ _ (a .pre .0) (a .pre .1) (a .pre .2) (at-store .store .ensures) (c .before .before .put .ensures)
 
 pub store-with-spec : {M : Type 1} → statement M
 store-with-spec = tie.close (tie.spec (λ c κs. search needs) (λ c. search needs) (λ c κs. search needs) (λ c. search needs) returns)

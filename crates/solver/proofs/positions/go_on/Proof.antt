@@ -28,7 +28,11 @@ enum-told-2 : tie.Need-enum-told-2 Inv-loop μ-loop
 enum-told-2 c = search needs
 
 same-length : tie.Need-same-length Inv-loop μ-loop
-same-length c = c .before .before .before .before .turn .kept .1 .1 .1 .0 ∙ (c .before .before .before .before .before .before .before .before .loop .inv .walking .holds .length-is ∙ sym (c .before .before .before .before .before .before .before .before .before .before .before .before .pre .holds .length-is))
+same-length c =
+    let at-turn = c .before .before .before .before in
+    let at-loop = at-turn .before .before .before .before in
+    let start = at-loop .before .before .before .before in
+    at-turn .turn .kept .1 .1 .1 .0 ∙ (at-loop .loop .inv .walking .holds .length-is ∙ sym (start .pre .holds .length-is))
 
 returns : tie.Need-returns Inv-loop μ-loop
 returns c = underway-refused (c .before .before .before .before .before .before .before .before .loop .inv) (c .before .before .before .before .turn .result) (c .before .before .before .before .turn .ensures) (λ z. omega (arith, c .before .match .keys2, ap (tagOf the-type) z))

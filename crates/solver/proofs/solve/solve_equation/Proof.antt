@@ -13,27 +13,38 @@ array-share-prefix-sizes : tie.Need-array-share-prefix-sizes
 array-share-prefix-sizes c = let pre = c .before .before .before .before .before .before .before .before .before .pre in omega (arith, bytes-few (pre .0 .0 .is), c .before .before .before .measure .kept .1 .1 .0)
 
 slice-aggregate-solve-positions : tie.Need-slice-aggregate-solve-positions
-slice-aggregate-solve-positions c = let pre = c .before .before .before .before .before .before .before .before .before .before .pre in sizes-room (pre .0 .0 .is) _ (c .before .before .before .before .measure .kept .1 .1 .0)
+slice-aggregate-solve-positions c =
+    let at-measure = c .before .before .before .before in
+    let start = at-measure .before .before .before .before .before .before in
+    let pre = start .pre in sizes-room (pre .0 .0 .is) _ (at-measure .measure .kept .1 .1 .0)
 
 slice-aggregate-solve-positions-2 : tie.Need-slice-aggregate-solve-positions-2
-slice-aggregate-solve-positions-2 c = let start = c .before .before .before .before .before .before .before .before .before .before .before .before in walk-room (start .args .scratch .now) (start .pre .1 .1)
+slice-aggregate-solve-positions-2 c =
+    let start = c .before .before .before .before .before .before .before .before .before .before .before .before in
+    walk-room (start .args .scratch .now) (start .pre .1 .1)
 
 solve-positions-requires : tie.Need-solve-positions-requires
 solve-positions-requires c κs =
-    let start = c .before .before .before .before .before .before .before .before .before .before .before .before in
+    let at-wide = c .before .before .before .before in
+    let at-measure = at-wide .before .before in
+    let start = at-measure .before .before .before .before .before .before in
     let pre = start .pre in
     let is = pre .0 .0 .is in
-    let measured = c .before .before .before .before .before .before .measure .ensures in
-    let right = c .before .before .before .before .wide .ensures .0 in
+    let measured = at-measure .measure .ensures in
+    let right = at-wide .wide .ensures .0 in
     ((sides-laid is _ _ measured _ right, left-within is _ _ measured _ right, right-within is _ _ measured _ right), (pre .1 .0, sym (walk-room (start .args .scratch .now) (pre .1 .1))))
 
 returns : tie.Need-returns
 returns c =
-    let start = c .before .before .before .before .before .before .before .before .before .before .before .before .before .before .before .before .before in
-    let measured = c .before .before .before .before .before .before .before .before .before .before .before .measure .ensures in
-    let right = c .before .before .before .before .before .before .before .before .before .wide .ensures .0 in
-    let walked = c .before .before .before .before .solve-positions in (
-      λ e d is x. tells-left is _ _ measured _ right _ d x _ _ _ (c .before .before .before .before .before .before .before .before .if1 .taken) (walked .ensures),
+    let at-solve-positions = c .before .before .before .before in
+    let at-if = at-solve-positions .before .before .before .before in
+    let at-wide = at-if .before in
+    let at-measure = at-wide .before .before in
+    let start = at-measure .before .before .before .before .before .before in
+    let measured = at-measure .measure .ensures in
+    let right = at-wide .wide .ensures .0 in
+    let walked = at-solve-positions .solve-positions in (
+      λ e d is x. tells-left is _ _ measured _ right _ d x _ _ _ (at-if .if1 .taken) (walked .ensures),
       behind-kept (start .args .scratch .now) (walked .last .1 .1 .1 .1 .1 .0) (start .pre .1 .1) (walked .kept .1 .1 .1 .1 .1 .0),
     )
 
@@ -41,27 +52,38 @@ array-share-prefix-sizes-2 : tie.Need-array-share-prefix-sizes-2
 array-share-prefix-sizes-2 c = let pre = c .before .before .before .before .before .before .before .before .before .pre in omega (arith, bytes-few (pre .0 .0 .is), c .before .before .before .measure .kept .1 .1 .0)
 
 slice-aggregate-solve-positions-3 : tie.Need-slice-aggregate-solve-positions-3
-slice-aggregate-solve-positions-3 c = let pre = c .before .before .before .before .before .before .before .before .before .before .pre in sizes-room (pre .0 .0 .is) _ (c .before .before .before .before .measure .kept .1 .1 .0)
+slice-aggregate-solve-positions-3 c =
+    let at-measure = c .before .before .before .before in
+    let start = at-measure .before .before .before .before .before .before in
+    let pre = start .pre in sizes-room (pre .0 .0 .is) _ (at-measure .measure .kept .1 .1 .0)
 
 slice-aggregate-solve-positions-4 : tie.Need-slice-aggregate-solve-positions-4
-slice-aggregate-solve-positions-4 c = let start = c .before .before .before .before .before .before .before .before .before .before .before .before in walk-room (start .args .scratch .now) (start .pre .1 .1)
+slice-aggregate-solve-positions-4 c =
+    let start = c .before .before .before .before .before .before .before .before .before .before .before .before in
+    walk-room (start .args .scratch .now) (start .pre .1 .1)
 
 solve-positions-requires-2 : tie.Need-solve-positions-requires-2
 solve-positions-requires-2 c κs =
-    let start = c .before .before .before .before .before .before .before .before .before .before .before .before in
+    let at-wide = c .before .before .before .before in
+    let at-measure = at-wide .before .before in
+    let start = at-measure .before .before .before .before .before .before in
     let pre = start .pre in
     let is = pre .0 .0 .is in
-    let measured = c .before .before .before .before .before .before .measure .ensures in
-    let right = c .before .before .before .before .wide .ensures .0 in
+    let measured = at-measure .measure .ensures in
+    let right = at-wide .wide .ensures .0 in
     ((sides-laid is _ _ measured _ right, right-within is _ _ measured _ right, left-within is _ _ measured _ right), (pre .1 .0, sym (walk-room (start .args .scratch .now) (pre .1 .1))))
 
 returns-2 : tie.Need-returns-2
 returns-2 c =
-    let start = c .before .before .before .before .before .before .before .before .before .before .before .before .before .before .before .before .before in
-    let measured = c .before .before .before .before .before .before .before .before .before .before .before .measure .ensures in
-    let right = c .before .before .before .before .before .before .before .before .before .wide .ensures .0 in
-    let walked = c .before .before .before .before .solve-positions2 in
-    let second : start .args .direction ≡ 1 = omega (arith, start .pre .0 .1, c .before .before .before .before .before .before .before .before .if1 .left) in (
+    let at-solve-positions = c .before .before .before .before in
+    let at-if = at-solve-positions .before .before .before .before in
+    let at-wide = at-if .before in
+    let at-measure = at-wide .before .before in
+    let start = at-measure .before .before .before .before .before .before in
+    let measured = at-measure .measure .ensures in
+    let right = at-wide .wide .ensures .0 in
+    let walked = at-solve-positions .solve-positions2 in
+    let second : start .args .direction ≡ 1 = omega (arith, start .pre .0 .1, at-if .if1 .left) in (
       λ e d is x. tells-right is _ _ measured _ right _ d x _ _ _ second (walked .ensures),
       behind-kept (start .args .scratch .now) (walked .last .1 .1 .1 .1 .1 .0) (start .pre .1 .1) (walked .kept .1 .1 .1 .1 .1 .0),
     )

@@ -20,8 +20,11 @@ put-requires c κs = omega (arith, exceeding-place _ (c .before .before .before 
 
 loop-less : tie.Need-loop-less Inv-loop μ-loop
 loop-less c =
-    let e = exceeding-size _ (c .before .before .before .before .before .before .before .before .before .before .args .p) _ (c .before .before .before .before .before .before .before .loop .inv .fits) (c .before .before .before .before .before .before .loop-test .taken) in
-    omega (arith, c .wide .ensures .0, c .before .before .before .before .before .before .loop-test .taken)
+    let at-loop-test = c .before .before .before .before .before .before in
+    let at-loop = at-loop-test .before in
+    let start = at-loop .before .before .before in
+    let e = exceeding-size _ (start .args .p) _ (at-loop .loop .inv .fits) (at-loop-test .loop-test .taken) in
+    omega (arith, c .wide .ensures .0, at-loop-test .loop-test .taken)
 
 loop-again : tie.Need-loop-again Inv-loop μ-loop
 loop-again c =

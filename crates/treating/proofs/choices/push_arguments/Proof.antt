@@ -27,14 +27,20 @@ store-with-requires-2 c κs =
 
 loop-less : tie.Need-loop-less Inv-loop μ-loop
 loop-less c =
-    let e = arguments-size _ _ _ _ _ (c .before .before .before .before .before .before .before .before .before .before .before .loop .inv .fits) (c .before .before .before .before .before .before .before .before .before .before .loop-test .taken) in
-    omega (arith, c .wide .ensures .0, c .before .before .before .before .before .before .before .before .before .before .loop-test .taken)
+    let at-loop-test = c .before .before .before .before .before .before .before .before .before .before in
+    let at-loop = at-loop-test .before in
+    let e = arguments-size _ _ _ _ _ (at-loop .loop .inv .fits) (at-loop-test .loop-test .taken) in
+    omega (arith, c .wide .ensures .0, at-loop-test .loop-test .taken)
 
 loop-again : tie.Need-loop-again Inv-loop μ-loop
 loop-again c =
-    let first = c .before .before .before .before .before .before .before .before .store-with in
-    let second = c .before .before .before .before .store-with2 in
-    pushing-next _ _ _ _ _ (c .wide .result) (c .before .before .before .before .before .before .before .before .before .before .before .loop .next + line-bytes + line-bytes) (first .last .1 .1 .1 .1 .0) (second .last .1 .1 .1 .1 .0) (c .before .before .before .before .before .before .before .before .before .before .before .loop .inv) (c .before .before .before .before .before .before .before .before .before .before .loop-test .taken)
+    let at-store-with-2 = c .before .before .before .before in
+    let at-store-with = at-store-with-2 .before .before .before .before in
+    let at-loop-test = at-store-with .before .before in
+    let at-loop = at-loop-test .before in
+    let first = at-store-with .store-with in
+    let second = at-store-with-2 .store-with2 in
+    pushing-next _ _ _ _ _ (c .wide .result) (at-loop .loop .next + line-bytes + line-bytes) (first .last .1 .1 .1 .1 .0) (second .last .1 .1 .1 .1 .0) (at-loop .loop .inv) (at-loop-test .loop-test .taken)
     (first .ensures) (second .ensures) (second .kept .1 .1 .1 .1 .0 ∙ first .kept .1 .1 .1 .1 .0) (c .wide .ensures .0) (omega arith)
 
 same-length : tie.Need-same-length Inv-loop μ-loop

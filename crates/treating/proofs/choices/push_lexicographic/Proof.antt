@@ -35,15 +35,23 @@ mark-equal-requires c κs = pushing-marks _ _ _ (c .before .before .before .befo
 
 loop-less : tie.Need-loop-less Inv-loop μ-loop
 loop-less c =
-    let e = lexicographic-sizes _ _ _ (c .before .before .before .before .before .before .before .before .before .before .before .before .before .before .loop .inv .fits) (c .before .before .before .before .before .before .before .before .before .before .before .before .before .loop-test .taken) (c .before .before .before .before .before .before .before .before .before .before .before .before .if1 .left) in
-    omega (arith, c .before .before .wide .ensures .0, c .before .before .before .before .before .before .before .before .before .before .before .before .before .loop-test .taken)
+    let at-if = c .before .before .before .before .before .before .before .before .before .before .before .before in
+    let at-loop-test = at-if .before in
+    let at-loop = at-loop-test .before in
+    let e = lexicographic-sizes _ _ _ (at-loop .loop .inv .fits) (at-loop-test .loop-test .taken) (at-if .if1 .left) in
+    omega (arith, c .before .before .wide .ensures .0, at-loop-test .loop-test .taken)
 
 loop-again : tie.Need-loop-again Inv-loop μ-loop
 loop-again c =
-    let loop = c .before .before .before .before .before .before .before .before .before .before .before .before .before .before .loop in
-    let first = c .before .before .before .before .before .before .before .before .before .before .store-with in
-    let second = c .before .before .before .before .before .before .mark-equal in
-    pushing-next _ _ _ (loop .inv) (c .before .before .before .before .before .before .before .before .before .before .before .before .before .loop-test .taken) (c .before .before .before .before .before .before .before .before .before .before .before .before .if1 .left) (c .before .before .wide .result) (c .wide2 .result) (loop .place + 2) (loop .next + line-bytes) (first .last .1 .1 .1 .1 .0) (second .last .1 .0)
+    let at-mark-equal = c .before .before .before .before .before .before in
+    let at-store-with = at-mark-equal .before .before .before .before in
+    let at-if = at-store-with .before .before in
+    let at-loop-test = at-if .before in
+    let at-loop = at-loop-test .before in
+    let loop = at-loop .loop in
+    let first = at-store-with .store-with in
+    let second = at-mark-equal .mark-equal in
+    pushing-next _ _ _ (loop .inv) (at-loop-test .loop-test .taken) (at-if .if1 .left) (c .before .before .wide .result) (c .wide2 .result) (loop .place + 2) (loop .next + line-bytes) (first .last .1 .1 .1 .1 .0) (second .last .1 .0)
     (first .ensures) (second .ensures) (second .kept .1 .0 ∙ first .kept .1 .1 .1 .1 .0) (c .before .before .wide .ensures .0) (c .wide2 .ensures .0) (omega arith) (omega arith)
 
 same-length-2 : tie.Need-same-length-2 Inv-loop μ-loop

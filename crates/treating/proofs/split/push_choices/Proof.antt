@@ -54,66 +54,89 @@ make-room-requires c κs =
 
 fill-exceeding-requires : tie.Need-fill-exceeding-requires
 fill-exceeding-requires c κs =
-    let start = c .before .before .before .before .before .before .before .before .before .before .before .before .before .before .before .before in
+    let at-if = c .before .before .before .before .before in
+    let start = at-if .before .before .before .before .before .before .before .before .before .before .before in
     let choices = start .args .choices in
     let line₁ = set (start .args .line .now) reduced-place (choices .at) in
     let place = 2 * choices .at + first-element in
-    exceeding-fits (start .pre .facts) (c .before .before .before .make-room .last .0) place (c .before .before .before .make-room .kept .0 ∙ (length-set (start .args .line .now) reduced-place (choices .at) ∙ line-long (start .pre .facts))) refl (positive (c .before .before .before .before .before .if1 .left))
+    exceeding-fits (start .pre .facts) (c .before .before .before .make-room .last .0) place (c .before .before .before .make-room .kept .0 ∙ (length-set (start .args .line .now) reduced-place (choices .at) ∙ line-long (start .pre .facts))) refl (positive (at-if .if1 .left))
 
 store-requires : tie.Need-store-requires
 store-requires c κs =
-    let start = c .before .before .before .before .before .before .before .before .before .before .before .before .before .before .before .before .before .before .before .before .before .before .before in
+    let at-fill-exceeding = c .before .before .before .before .before .before in
+    let at-make-room = at-fill-exceeding .before .before .before .before in
+    let at-if = at-make-room .before .before in
+    let at-push-arguments = at-if .before .before .before in
+    let start = at-push-arguments .before .before .before .before .before .before .before .before in
     let choices = start .args .choices in
     let line₁ = set (start .args .line .now) reduced-place (choices .at) in
     let place = 2 * choices .at + first-element in
-    (one-more-fits (start .pre .facts) line₁ (c .before .before .before .before .before .before .before .before .before .before .make-room .last .0) (c .before .before .before .before .before .before .fill-exceeding .last .1 .0) (start .args .memory .now) (c .before .before .before .before .before .before .before .before .before .before .before .before .before .before .before .push-arguments .last .1 .1 .1 .1 .1 .0) (start .args .to) place (c .before .before .before .before .before .before .before .before .before .before .before .before .before .before .before .push-arguments .result) refl refl (positive (c .before .before .before .before .before .before .before .before .before .before .before .before .if1 .left)) (start .pre .room) (c .before .before .before .before .before .before .before .before .before .before .before .before .before .before .before .push-arguments .ensures) (c .before .before .before .before .before .before .before .before .before .before .make-room .ensures) (c .before .before .before .before .before .before .fill-exceeding .ensures), c .before .before .before .before .before .before .fill-exceeding .kept .1 .0 ∙ (c .before .before .before .before .before .before .before .before .before .before .make-room .kept .0 ∙ (length-set (start .args .line .now) reduced-place (choices .at) ∙ line-long (start .pre .facts))))
+    (one-more-fits (start .pre .facts) line₁ (at-make-room .make-room .last .0) (at-fill-exceeding .fill-exceeding .last .1 .0) (start .args .memory .now) (at-push-arguments .push-arguments .last .1 .1 .1 .1 .1 .0) (start .args .to) place (at-push-arguments .push-arguments .result) refl refl (positive (at-if .if1 .left)) (start .pre .room) (at-push-arguments .push-arguments .ensures) (at-make-room .make-room .ensures) (at-fill-exceeding .fill-exceeding .ensures), at-fill-exceeding .fill-exceeding .kept .1 .0 ∙ (at-make-room .make-room .kept .0 ∙ (length-set (start .args .line .now) reduced-place (choices .at) ∙ line-long (start .pre .facts))))
 
 same-length-3 : tie.Need-same-length-3
 same-length-3 c =
-    let start = c .before .before .before .before .before .before .before .before .before .before .before .before .before .before .before .before .before .before .before .before .before .before .before .before .before .before in
+    let at-fill-exceeding = c .before .before .before .before .before .before .before .before .before in
+    let at-make-room = at-fill-exceeding .before .before .before .before in
+    let start = at-make-room .before .before .before .before .before .before .before .before .before .before .before .before .before in
     let choices = start .args .choices in
     let line₁ = set (start .args .line .now) reduced-place (choices .at) in
     let place = 2 * choices .at + first-element in
-    c .before .before .before .before .before .before .before .before .before .fill-exceeding .kept .1 .0 ∙ (c .before .before .before .before .before .before .before .before .before .before .before .before .before .make-room .kept .0 ∙ length-set (start .args .line .now) reduced-place (choices .at))
+    at-fill-exceeding .fill-exceeding .kept .1 .0 ∙ (at-make-room .make-room .kept .0 ∙ length-set (start .args .line .now) reduced-place (choices .at))
 
 same-length-4 : tie.Need-same-length-4
 same-length-4 c = search needs
 
 returns-2 : tie.Need-returns-2
 returns-2 c =
-    let start = c .before .before .before .before .before .before .before .before .before .before .before .before .before .before .before .before .before .before .before .before .before .before .before .before .before .before in
+    let at-if-2 = c .before .before .before .before .before in
+    let at-fill-exceeding = at-if-2 .before .before .before .before in
+    let at-make-room = at-fill-exceeding .before .before .before .before in
+    let at-if = at-make-room .before .before in
+    let at-push-arguments = at-if .before .before .before in
+    let start = at-push-arguments .before .before .before .before .before .before .before .before in
     let choices = start .args .choices in
     let line₁ = set (start .args .line .now) reduced-place (choices .at) in
     let place = 2 * choices .at + first-element in
-    record { pushes = λ bindings pre post ss ts s. pushed-more s line₁ (c .before .before .before .before .before .before .before .before .before .before .before .before .before .make-room .last .0) (c .before .before .before .before .before .before .before .before .before .fill-exceeding .last .1 .0) (start .args .memory .now) (c .before .before .before .before .before .before .before .before .before .before .before .before .before .before .before .before .before .before .push-arguments .last .1 .1 .1 .1 .1 .0) (start .args .to) place (c .before .before .before .before .before .before .before .before .before .before .before .before .before .before .before .before .before .before .push-arguments .result) refl refl (positive (c .before .before .before .before .before .before .before .before .before .before .before .before .before .before .before .if1 .left)) (room-for s (start .pre)) (c .before .before .before .before .before .before .before .before .before .before .before .before .before .before .before .before .before .before .push-arguments .ensures) (c .before .before .before .before .before .before .before .before .before .before .before .before .before .make-room .ensures) (c .before .before .before .before .before .before .before .before .before .fill-exceeding .ensures) (c .before .before .store .last .1 .0) (c .before .before .before .before .before .if2 .taken) (c .before .before .store .ensures) }
+    record { pushes = λ bindings pre post ss ts s. pushed-more s line₁ (at-make-room .make-room .last .0) (at-fill-exceeding .fill-exceeding .last .1 .0) (start .args .memory .now) (at-push-arguments .push-arguments .last .1 .1 .1 .1 .1 .0) (start .args .to) place (at-push-arguments .push-arguments .result) refl refl (positive (at-if .if1 .left)) (room-for s (start .pre)) (at-push-arguments .push-arguments .ensures) (at-make-room .make-room .ensures) (at-fill-exceeding .fill-exceeding .ensures) (c .before .before .store .last .1 .0) (at-if-2 .if2 .taken) (c .before .before .store .ensures) }
 
 push-lexicographic-requires : tie.Need-push-lexicographic-requires
 push-lexicographic-requires c κs =
-    let start = c .before .before .before .before .before .before .before .before .before .before .before .before .before .before .before .before .before .before .before .before .before .before .before in
+    let at-fill-exceeding = c .before .before .before .before .before .before in
+    let at-make-room = at-fill-exceeding .before .before .before .before in
+    let at-if = at-make-room .before .before in
+    let at-push-arguments = at-if .before .before .before in
+    let start = at-push-arguments .before .before .before .before .before .before .before .before in
     let choices = start .args .choices in
     let line₁ = set (start .args .line .now) reduced-place (choices .at) in
     let place = 2 * choices .at + first-element in
-    lexicographic-fits (start .pre .facts) line₁ (c .before .before .before .before .before .before .before .before .before .before .make-room .last .0) (c .before .before .before .before .before .before .fill-exceeding .last .1 .0) (start .args .memory .now) (c .before .before .before .before .before .before .before .before .before .before .before .before .before .before .before .push-arguments .last .1 .1 .1 .1 .1 .0) (start .args .to) place (c .before .before .before .before .before .before .before .before .before .before .before .before .before .before .before .push-arguments .result) refl refl (positive (c .before .before .before .before .before .before .before .before .before .before .before .before .if1 .left)) (start .pre .room) (c .before .before .before .before .before .before .before .before .before .before .before .before .before .before .before .push-arguments .ensures) (c .before .before .before .before .before .before .before .before .before .before .make-room .ensures) (c .before .before .before .before .before .before .fill-exceeding .ensures) (c .before .before .if2 .left) (c .before .before .before .before .before .before .fill-exceeding .kept .1 .0 ∙ (c .before .before .before .before .before .before .before .before .before .before .make-room .kept .0 ∙ (length-set (start .args .line .now) reduced-place (choices .at) ∙ line-long (start .pre .facts))))
+    lexicographic-fits (start .pre .facts) line₁ (at-make-room .make-room .last .0) (at-fill-exceeding .fill-exceeding .last .1 .0) (start .args .memory .now) (at-push-arguments .push-arguments .last .1 .1 .1 .1 .1 .0) (start .args .to) place (at-push-arguments .push-arguments .result) refl refl (positive (at-if .if1 .left)) (start .pre .room) (at-push-arguments .push-arguments .ensures) (at-make-room .make-room .ensures) (at-fill-exceeding .fill-exceeding .ensures) (c .before .before .if2 .left) (at-fill-exceeding .fill-exceeding .kept .1 .0 ∙ (at-make-room .make-room .kept .0 ∙ (length-set (start .args .line .now) reduced-place (choices .at) ∙ line-long (start .pre .facts))))
 
 same-length-5 : tie.Need-same-length-5
 same-length-5 c =
-    let start = c .before .before .before .before .before .before .before .before .before .before .before .before .before .before .before .before .before .before .before .before .before .before .before .before .before .before in
+    let at-fill-exceeding = c .before .before .before .before .before .before .before .before .before in
+    let at-make-room = at-fill-exceeding .before .before .before .before in
+    let start = at-make-room .before .before .before .before .before .before .before .before .before .before .before .before .before in
     let choices = start .args .choices in
     let line₁ = set (start .args .line .now) reduced-place (choices .at) in
     let place = 2 * choices .at + first-element in
-    c .before .before .before .before .before .before .before .before .before .fill-exceeding .kept .1 .0 ∙ (c .before .before .before .before .before .before .before .before .before .before .before .before .before .make-room .kept .0 ∙ length-set (start .args .line .now) reduced-place (choices .at))
+    at-fill-exceeding .fill-exceeding .kept .1 .0 ∙ (at-make-room .make-room .kept .0 ∙ length-set (start .args .line .now) reduced-place (choices .at))
 
 same-length-6 : tie.Need-same-length-6
 same-length-6 c = search needs
 
 returns-3 : tie.Need-returns-3
 returns-3 c =
-    let start = c .before .before .before .before .before .before .before .before .before .before .before .before .before .before .before .before .before .before .before .before .before .before .before .before .before .before in
+    let at-if-2 = c .before .before .before .before .before in
+    let at-fill-exceeding = at-if-2 .before .before .before .before in
+    let at-make-room = at-fill-exceeding .before .before .before .before in
+    let at-if = at-make-room .before .before in
+    let at-push-arguments = at-if .before .before .before in
+    let start = at-push-arguments .before .before .before .before .before .before .before .before in
     let choices = start .args .choices in
     let line₁ = set (start .args .line .now) reduced-place (choices .at) in
     let place = 2 * choices .at + first-element in
     let put = c .before .before .push-lexicographic in
-    record { pushes = λ bindings pre post ss ts s. pushed-same s line₁ (c .before .before .before .before .before .before .before .before .before .before .before .before .before .make-room .last .0) (c .before .before .before .before .before .before .before .before .before .fill-exceeding .last .1 .0) (start .args .memory .now) (c .before .before .before .before .before .before .before .before .before .before .before .before .before .before .before .before .before .before .push-arguments .last .1 .1 .1 .1 .1 .0) (start .args .to) place (c .before .before .before .before .before .before .before .before .before .before .before .before .before .before .before .before .before .before .push-arguments .result) refl refl (positive (c .before .before .before .before .before .before .before .before .before .before .before .before .before .before .before .if1 .left)) (room-for s (start .pre)) (c .before .before .before .before .before .before .before .before .before .before .before .before .before .before .before .before .before .before .push-arguments .ensures) (c .before .before .before .before .before .before .before .before .before .before .before .before .before .make-room .ensures) (c .before .before .before .before .before .before .before .before .before .fill-exceeding .ensures) (put .last .1 .1 .1 .1 .1 .0) (put .result) (c .before .before .before .before .before .if2 .left) (put .ensures) }
+    record { pushes = λ bindings pre post ss ts s. pushed-same s line₁ (at-make-room .make-room .last .0) (at-fill-exceeding .fill-exceeding .last .1 .0) (start .args .memory .now) (at-push-arguments .push-arguments .last .1 .1 .1 .1 .1 .0) (start .args .to) place (at-push-arguments .push-arguments .result) refl refl (positive (at-if .if1 .left)) (room-for s (start .pre)) (at-push-arguments .push-arguments .ensures) (at-make-room .make-room .ensures) (at-fill-exceeding .fill-exceeding .ensures) (put .last .1 .1 .1 .1 .1 .0) (put .result) (at-if-2 .if2 .left) (put .ensures) }
 
 pub push-choices-spec : {M : Type 1} → statement M
 push-choices-spec =

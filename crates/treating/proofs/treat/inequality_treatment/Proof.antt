@@ -28,17 +28,21 @@ occurs-at-requires c κs =
 
 returns : tie.Need-returns
 returns c =
-    let start = c .before .before .before .before .before .before .before .before .before .before in
-    let s = c .before .before .before .before .before .before .reached in
-    let t = c .before .before .before .before .before .reached2 in
+    let at-reached-2 = c .before .before .before .before .before in
+    let at-reached = at-reached-2 .before in
+    let start = at-reached .before .before .before .before in
+    let s = at-reached .reached in
+    let t = at-reached-2 .reached2 in
     let sides = start .args .sides in
     left-drops (start .args .nodes .now) (start .args .sizes .now) (start .args .bindings .now) (sides .left) (sides .right) (s .result) (s .ensures .0) (s .ensures .1) (c .before .before .before .if1 .taken) (c .before .before .wide .result) (c .before .before .wide .ensures .0) (sym (c .if2 .taken) ∙ c .before .occurs-at .ensures)
 
 returns-2 : tie.Need-returns-2
 returns-2 c =
-    let start = c .before .before .before .before .before .before .before .before .before .before in
-    let s = c .before .before .before .before .before .before .reached in
-    let t = c .before .before .before .before .before .reached2 in
+    let at-reached-2 = c .before .before .before .before .before in
+    let at-reached = at-reached-2 .before in
+    let start = at-reached .before .before .before .before in
+    let s = at-reached .reached in
+    let t = at-reached-2 .reached2 in
     let sides = start .args .sides in
     left-reduced (start .args .nodes .now) (start .args .sizes .now) (start .args .bindings .now) (sides .left) (sides .right) (s .result) (s .ensures .0) (s .ensures .1) (c .before .before .before .if1 .taken) (c .before .before .wide .result) (c .before .before .wide .ensures .0) (sym (c .if2 .left) ∙ c .before .occurs-at .ensures)
 
@@ -50,27 +54,35 @@ wide-requires-2 c κs = search needs
 
 occurs-at-requires-2 : tie.Need-occurs-at-requires-2
 occurs-at-requires-2 c κs =
-    let start = c .before .before .before .before .before .before .before .before .before .before in
-    let s = c .before .before .before .before .before .before .reached in
-    let t = c .before .before .before .before .before .reached2 in
+    let at-reached-2 = c .before .before .before .before .before in
+    let at-reached = at-reached-2 .before in
+    let start = at-reached .before .before .before .before in
+    let s = at-reached .reached in
+    let t = at-reached-2 .reached2 in
     let sides = start .args .sides in
     ((start .pre .0 .laid, start .pre .1 .0), (start .pre .0 .proper, variable-free (start .pre .0) (sides .right) (t .result) (c .wide2 .result) (t .ensures .0) (t .ensures .1) (c .before .if3 .taken) (c .wide2 .ensures .0)))
 
 returns-3 : tie.Need-returns-3
 returns-3 c =
-    let start = c .before .before .before .before .before .before .before .before .before .before .before .before in
-    let s = c .before .before .before .before .before .before .before .before .reached in
-    let t = c .before .before .before .before .before .before .before .reached2 in
+    let at-if = c .before .before .before .before .before in
+    let at-reached-2 = at-if .before .before in
+    let at-reached = at-reached-2 .before in
+    let start = at-reached .before .before .before .before in
+    let s = at-reached .reached in
+    let t = at-reached-2 .reached2 in
     let sides = start .args .sides in
-    right-drops (start .args .nodes .now) (start .args .sizes .now) (start .args .bindings .now) (sides .left) (sides .right) (s .result) (s .ensures .0) (t .result) (t .ensures .0) (s .ensures .1) (c .before .before .before .before .before .if1 .left) (t .ensures .1) (c .before .before .before .if3 .taken) (c .before .before .wide2 .result) (c .before .before .wide2 .ensures .0) (sym (c .if4 .taken) ∙ c .before .occurs-at2 .ensures)
+    right-drops (start .args .nodes .now) (start .args .sizes .now) (start .args .bindings .now) (sides .left) (sides .right) (s .result) (s .ensures .0) (t .result) (t .ensures .0) (s .ensures .1) (at-if .if1 .left) (t .ensures .1) (c .before .before .before .if3 .taken) (c .before .before .wide2 .result) (c .before .before .wide2 .ensures .0) (sym (c .if4 .taken) ∙ c .before .occurs-at2 .ensures)
 
 returns-4 : tie.Need-returns-4
 returns-4 c =
-    let start = c .before .before .before .before .before .before .before .before .before .before .before .before in
-    let s = c .before .before .before .before .before .before .before .before .reached in
-    let t = c .before .before .before .before .before .before .before .reached2 in
+    let at-if = c .before .before .before .before .before in
+    let at-reached-2 = at-if .before .before in
+    let at-reached = at-reached-2 .before in
+    let start = at-reached .before .before .before .before in
+    let s = at-reached .reached in
+    let t = at-reached-2 .reached2 in
     let sides = start .args .sides in
-    right-reduced (start .args .nodes .now) (start .args .sizes .now) (start .args .bindings .now) (sides .left) (sides .right) (s .result) (s .ensures .0) (t .result) (t .ensures .0) (s .ensures .1) (c .before .before .before .before .before .if1 .left) (t .ensures .1) (c .before .before .before .if3 .taken) (c .before .before .wide2 .result) (c .before .before .wide2 .ensures .0) (sym (c .if4 .left) ∙ c .before .occurs-at2 .ensures)
+    right-reduced (start .args .nodes .now) (start .args .sizes .now) (start .args .bindings .now) (sides .left) (sides .right) (s .result) (s .ensures .0) (t .result) (t .ensures .0) (s .ensures .1) (at-if .if1 .left) (t .ensures .1) (c .before .before .before .if3 .taken) (c .before .before .wide2 .result) (c .before .before .wide2 .ensures .0) (sym (c .if4 .left) ∙ c .before .occurs-at2 .ensures)
 
 returns-5 : tie.Need-returns-5
 returns-5 c =

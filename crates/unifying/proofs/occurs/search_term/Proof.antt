@@ -36,31 +36,43 @@ returns c =
 
 shared-slice-read-if3 : tie.Need-shared-slice-read-if3 Inv-loop μ-loop
 shared-slice-read-if3 c =
-    let start = c .before .before .before .before .before .before .before .before .before .before .before .before in
-    let wide = c .before .before .before .before .before .before .before .wide in
-    let loop-test = c .before .before .before .before .before .loop-test in
-    let loop = c .before .before .before .before .before .before .loop in
+    let at-loop-test = c .before .before .before .before .before in
+    let at-loop = at-loop-test .before in
+    let at-wide = at-loop .before in
+    let start = at-wide .before .before .before .before .before in
+    let wide = at-wide .wide in
+    let loop-test = at-loop-test .loop-test in
+    let loop = at-loop .loop in
     let if1 = c .before .before .before .if1 in
     let i = variable-index (start .pre .0 .0) _ (within-nodes (start .pre .0 .0) _ (start .pre .0 .1) (wide .ensures .0) _ (omega (arith, loop-test .taken, loop .inv .1 .started))) (if1 .taken) (c .before .before .wide2 .ensures .0) in omega (arith, i, start .pre .1 .0)
 
 element-copy-out-if4 : tie.Need-element-copy-out-if4 Inv-loop μ-loop
 element-copy-out-if4 c =
-    let start = c .before .before .before .before .before .before .before .before .before .before .before .before .before in
-    let wide = c .before .before .before .before .before .before .before .before .wide in
-    let loop-test = c .before .before .before .before .before .before .loop-test in
-    let loop = c .before .before .before .before .before .before .before .loop in
-    let if1 = c .before .before .before .before .if1 in
+    let at-if = c .before .before .before .before in
+    let at-loop-test = at-if .before .before in
+    let at-loop = at-loop-test .before in
+    let at-wide = at-loop .before in
+    let start = at-wide .before .before .before .before .before in
+    let wide = at-wide .wide in
+    let loop-test = at-loop-test .loop-test in
+    let loop = at-loop .loop in
+    let if1 = at-if .if1 in
     let wide2 = c .before .before .before .wide2 in
     variable-index (start .pre .0 .0) _ (within-nodes (start .pre .0 .0) _ (start .pre .0 .1) (wide .ensures .0) _ (omega (arith, loop-test .taken, loop .inv .1 .started))) (if1 .taken) (wide2 .ensures .0)
 
 element-write-met : tie.Need-element-write-met Inv-loop μ-loop
 element-write-met c =
-    let start = c .before .before .before .before .before .before .before .before .before .before .before .before .before .before .before in
-    let wide = c .before .before .before .before .before .before .before .before .before .before .wide in
-    let loop-test = c .before .before .before .before .before .before .before .before .loop-test in
-    let loop = c .before .before .before .before .before .before .before .before .before .loop in
-    let if1 = c .before .before .before .before .before .before .if1 in
-    let wide2 = c .before .before .before .before .before .wide2 in
+    let at-wide-2 = c .before .before .before .before .before in
+    let at-if = at-wide-2 .before in
+    let at-loop-test = at-if .before .before in
+    let at-loop = at-loop-test .before in
+    let at-wide = at-loop .before in
+    let start = at-wide .before .before .before .before .before in
+    let wide = at-wide .wide in
+    let loop-test = at-loop-test .loop-test in
+    let loop = at-loop .loop in
+    let if1 = at-if .if1 in
+    let wide2 = at-wide-2 .wide2 in
     variable-index (start .pre .0 .0) _ (within-nodes (start .pre .0 .0) _ (start .pre .0 .1) (wide .ensures .0) _ (omega (arith, loop-test .taken, loop .inv .1 .started))) (if1 .taken) (wide2 .ensures .0)
 
 loop-less : tie.Need-loop-less Inv-loop μ-loop
@@ -70,13 +82,19 @@ loop-less c =
 
 loop-again : tie.Need-loop-again Inv-loop μ-loop
 loop-again c =
-    let start = c .before .before .before .before .before .before .before .before .before .before .before .before .before .before .before in
-    let wide = c .before .before .before .before .before .before .before .before .before .before .wide in
-    let loop-test = c .before .before .before .before .before .before .before .before .loop-test in
-    let loop = c .before .before .before .before .before .before .before .before .before .loop in
-    let if1 = c .before .before .before .before .before .before .if1 in
-    let wide2 = c .before .before .before .before .before .wide2 in
-    let if2 = c .before .before .before .before .if2 in
+    let at-if-2 = c .before .before .before .before in
+    let at-wide-2 = at-if-2 .before in
+    let at-if = at-wide-2 .before in
+    let at-loop-test = at-if .before .before in
+    let at-loop = at-loop-test .before in
+    let at-wide = at-loop .before in
+    let start = at-wide .before .before .before .before .before in
+    let wide = at-wide .wide in
+    let loop-test = at-loop-test .loop-test in
+    let loop = at-loop .loop in
+    let if1 = at-if .if1 in
+    let wide2 = at-wide-2 .wide2 in
+    let if2 = at-if-2 .if2 in
     let i = variable-index (start .pre .0 .0) _ (within-nodes (start .pre .0 .0) _ (start .pre .0 .1) (wide .ensures .0) _ (omega (arith, loop-test .taken, loop .inv .1 .started))) (if1 .taken) (wide2 .ensures .0) in
     (omega (arith, loop-test .taken), scanned-met (omega (arith, loop-test .taken)) (loop .inv .1) _ (omega (arith, wide2 .ensures .0, if1 .taken)) (if2 .left) (c .before .before .if3 .taken) (c .if4 .taken) (omega (arith, i, loop .inv .1 .same-length, start .pre .1 .1)))
 

@@ -32,8 +32,9 @@ shared-slice-read-next c =
 
 returns-2 : tie.Need-returns-2 Inv-loop μ-loop
 returns-2 c =
-    let loop = c .before .before .before .before .before .before .loop in
-    let start = c .before .before .before .before .before .before .before .before .before .before in
+    let at-loop = c .before .before .before .before .before .before in
+    let start = at-loop .before .before .before .before in
+    let loop = at-loop .loop in
     let f = loop .inv in
     let s = slot-there (start .pre .0) (f .within) (c .before .before .before .if1 .left) in
     (reached-free (c .before .before .wide .result) f (c .before .before .before .if1 .left) (c .before .before .wide .ensures .0) (omega (arith, s, c .before .before .wide .ensures .0)) (c .if2 .taken), f .within)
@@ -49,10 +50,13 @@ loop-less c = search needs
 
 loop-again : tie.Need-loop-again Inv-loop μ-loop
 loop-again c =
-    let loop = c .before .before .before .before .before .before .before .loop in
-    let start = c .before .before .before .before .before .before .before .before .before .before .before in
-    let if1 = c .before .before .before .before .if1 in
-    let loop-test = c .before .before .before .before .before .before .loop-test in
+    let at-if = c .before .before .before .before in
+    let at-loop-test = at-if .before .before in
+    let at-loop = at-loop-test .before in
+    let start = at-loop .before .before .before .before in
+    let loop = at-loop .loop in
+    let if1 = at-if .if1 in
+    let loop-test = at-loop-test .loop-test in
     let f = loop .inv in
     let s = slot-there (start .pre .0) (f .within) (if1 .left) in
     let q = c .wide2 .result in

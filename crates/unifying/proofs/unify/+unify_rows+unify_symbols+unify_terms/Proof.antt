@@ -85,24 +85,31 @@ unify-rows-returns t c =
 
 unify-rows-other-arguments-requires : (t : ℕ) → unify-rows-lts.Need-other-arguments-requires (unify-rows-calls t) (unify-rows-at t) unify-rows.Post
 unify-rows-other-arguments-requires t c κs =
-    let start = c .before .before .before .before .before .before .before .before .before .before .before .before .before in
-    let if1 = c .before .before .before .before .before .before .before .before .if1 in
-    let if2 = c .before .before .before .before .before .before .if2 in
+    let at-if-2 = c .before .before .before .before .before .before in
+    let at-if = at-if-2 .before .before in
+    let start = at-if .before .before .before .before .before in
+    let if1 = at-if .if1 in
+    let if2 = at-if-2 .if2 in
     omega (arith, rows-first (start .pre .1 .1) (if1 .taken) (if2 .taken) .0, start .pre .1 .0 .laid .same-length, start .pre .1 .0 .laid .few)
 
 unify-rows-other-arguments-requires-2 : (t : ℕ) → unify-rows-lts.Need-other-arguments-requires-2 (unify-rows-calls t) (unify-rows-at t) unify-rows.Post
 unify-rows-other-arguments-requires-2 t c κs =
-    let start = c .before .before .before .before .before .before .before .before .before .before .before .before .before .before in
-    let if1 = c .before .before .before .before .before .before .before .before .before .if1 in
-    let if2 = c .before .before .before .before .before .before .before .if2 in
+    let at-if-2 = c .before .before .before .before .before .before .before in
+    let at-if = at-if-2 .before .before in
+    let start = at-if .before .before .before .before .before in
+    let if1 = at-if .if1 in
+    let if2 = at-if-2 .if2 in
     omega (arith, rows-first (start .pre .1 .1) (if1 .taken) (if2 .taken) .1, start .pre .1 .0 .laid .same-length, start .pre .1 .0 .laid .few)
 
 unify-rows-unify-rows-requires : (t : ℕ) → unify-rows-lts.Need-unify-rows-requires (unify-rows-calls t) (unify-rows-at t) unify-rows.Post
 unify-rows-unify-rows-requires t c κs =
-    let start = c .before .before .before .before .before .before .before .before .before .before .before .before .before .before .before .before in
-    let if1 = c .before .before .before .before .before .before .before .before .before .before .before .if1 in
-    let if2 = c .before .before .before .before .before .before .before .before .before .if2 in
-    let unify-terms = c .before .before .before .before .before .before .before .unify-terms in
+    let at-unify-terms = c .before .before .before .before .before .before .before in
+    let at-if-2 = at-unify-terms .before .before in
+    let at-if = at-if-2 .before .before in
+    let start = at-if .before .before .before .before .before in
+    let if1 = at-if .if1 in
+    let if2 = at-if-2 .if2 in
+    let unify-terms = at-unify-terms .unify-terms in
     let enum-told = c .before .before .before .enum-told in
     let w = rows-first (start .pre .1 .1) (if1 .taken) (if2 .taken) in
     let read = unification-readable (unify-terms .last .1 .1 .0) (start .pre .1 .0) (start .args .left .from) (start .args .right .from) (w .0) (w .1) (unify-terms .ensures .found (enum-told .given .1)) in
@@ -111,13 +118,19 @@ unify-rows-unify-rows-requires t c κs =
 
 unify-rows-returns-2 : (t : ℕ) → unify-rows-lts.Need-returns-2 (unify-rows-calls t) (unify-rows-at t) unify-rows.Post
 unify-rows-returns-2 t c =
-    let start = c .before .before .before .before .before .before .before .before .before .before .before .before .before .before .before .before .before .before .before in
-    let if1 = c .before .before .before .before .before .before .before .before .before .before .before .before .before .before .if1 in
-    let if2 = c .before .before .before .before .before .before .before .before .before .before .before .before .if2 in
-    let unify-terms = c .before .before .before .before .before .before .before .before .before .before .unify-terms in
-    let enum-told = c .before .before .before .before .before .before .enum-told in
-    let other-arguments = c .before .before .before .before .before .other-arguments in
-    let other-arguments2 = c .before .before .before .before .other-arguments2 in
+    let at-other-arguments-2 = c .before .before .before .before in
+    let at-other-arguments = at-other-arguments-2 .before in
+    let at-enum-told = at-other-arguments .before in
+    let at-unify-terms = at-enum-told .before .before .before .before in
+    let at-if-2 = at-unify-terms .before .before in
+    let at-if = at-if-2 .before .before in
+    let start = at-if .before .before .before .before .before in
+    let if1 = at-if .if1 in
+    let if2 = at-if-2 .if2 in
+    let unify-terms = at-unify-terms .unify-terms in
+    let enum-told = at-enum-told .enum-told in
+    let other-arguments = at-other-arguments .other-arguments in
+    let other-arguments2 = at-other-arguments-2 .other-arguments2 in
     let w = rows-first (start .pre .1 .1) (if1 .taken) (if2 .taken) in
     rows-more (start .pre .1 .0) refl (w .0) (w .1) _ _ (unify-terms .result) (c .before .before .unify-rows .result) (if1 .taken) (if2 .taken) (unify-terms .ensures) (enum-told .given .1) (other-arguments .ensures) (other-arguments2 .ensures) (c .before .before .unify-rows .ensures)
 
@@ -154,10 +167,13 @@ unify-symbols-unify-rows-requires t c κs =
 
 unify-symbols-returns-2 : (t : ℕ) → unify-symbols-lts.Need-returns-2 (unify-symbols-calls t) (unify-symbols-at t) unify-symbols.Post
 unify-symbols-returns-2 t c =
-    let start = c .before .before .before .before .before .before .before .before .before .before .before .before in
-    let if1 = c .before .before .before .before .before .before .if1 in
-    let arguments-of = c .before .before .before .before .before .arguments-of in
-    let arguments-of2 = c .before .before .before .before .arguments-of2 in
+    let at-arguments-of-2 = c .before .before .before .before in
+    let at-arguments-of = at-arguments-of-2 .before in
+    let at-if = at-arguments-of .before in
+    let start = at-if .before .before .before .before .before .before in
+    let if1 = at-if .if1 in
+    let arguments-of = at-arguments-of .arguments-of in
+    let arguments-of2 = at-arguments-of-2 .arguments-of2 in
     symbols-same (start .pre .1 .0 .laid) (start .args .s) (start .args .t) (start .pre .1 .1 .0 .0) (start .pre .1 .1 .1 .0) (start .pre .1 .1 .0 .1) (start .pre .1 .1 .1 .1) (if1 .left) (rw (arguments-of .ensures, arguments-of2 .ensures) at (c .before .before .unify-rows .ensures))
 
 unify-terms-returns : (t : ℕ) → unify-terms-lts.Need-returns (unify-terms-calls t) (unify-terms-at t) unify-terms.Post
@@ -183,42 +199,56 @@ unify-terms-shared-slice-read-if4 t c =
 
 unify-terms-sub-unify-symbols : (t : ℕ) → unify-terms-lts.Need-sub-unify-symbols (unify-terms-calls t) (unify-terms-at t) unify-terms.Post
 unify-terms-sub-unify-symbols t c =
-    let start = c .before .before .before .before .before .before .before .before .before .before .before .before .before .before in
-    let if1 = c .before .before .before .before .before .before .before .before .before .before .if1 in
+    let at-if = c .before .before .before .before .before .before .before .before .before .before in
+    let start = at-if .before .before .before .before in
+    let if1 = at-if .if1 in
     omega (arith, one-less (start .args .depth) (if1 .left))
 
 unify-terms-unify-symbols-requires : (t : ℕ) → unify-terms-lts.Need-unify-symbols-requires (unify-terms-calls t) (unify-terms-at t) unify-terms.Post
 unify-terms-unify-symbols-requires t c κs =
-    let start = c .before .before .before .before .before .before .before .before .before .before .before .before .before .before in
-    let if1 = c .before .before .before .before .before .before .before .before .before .before .if1 in
-    let reached = c .before .before .before .before .before .before .before .before .reached in
+    let at-reached-2 = c .before .before .before .before .before .before in
+    let at-reached = at-reached-2 .before .before in
+    let at-if = at-reached .before .before in
+    let start = at-if .before .before .before .before in
+    let if1 = at-if .if1 in
+    let reached = at-reached .reached in
     let if3 = c .before .before .before .if3 in
-    let reached2 = c .before .before .before .before .before .before .reached2 in
+    let reached2 = at-reached-2 .reached2 in
     (omega (arith, start .pre .0, one-less (start .args .depth) (if1 .left)), (start .pre .1 .0, ((reached .ensures .1, if3 .taken), (reached2 .ensures .1, c .before .if4 .taken))))
 
 unify-terms-returns-3 : (t : ℕ) → unify-terms-lts.Need-returns-3 (unify-terms-calls t) (unify-terms-at t) unify-terms.Post
 unify-terms-returns-3 t c =
-    let start = c .before .before .before .before .before .before .before .before .before .before .before .before .before .before .before .before .before in
-    let reached = c .before .before .before .before .before .before .before .before .before .before .before .reached in
-    let reached2 = c .before .before .before .before .before .before .before .before .before .reached2 in
-    let if1 = c .before .before .before .before .before .before .before .before .before .before .before .before .before .if1 in
-    let if3 = c .before .before .before .before .before .before .if3 in
-    let if4 = c .before .before .before .before .if4 in
+    let at-if-3 = c .before .before .before .before in
+    let at-if-2 = at-if-3 .before .before in
+    let at-reached-2 = at-if-2 .before .before .before in
+    let at-reached = at-reached-2 .before .before in
+    let at-if = at-reached .before .before in
+    let start = at-if .before .before .before .before in
+    let reached = at-reached .reached in
+    let reached2 = at-reached-2 .reached2 in
+    let if1 = at-if .if1 in
+    let if3 = at-if-2 .if3 in
+    let if4 = at-if-3 .if4 in
     terms-symbols (start .pre .1 .0) (start .args .p) (start .args .q) (reached .result) (reached2 .result) (start .args .depth) (reached .ensures .0) (reached2 .ensures .0) (if1 .left) _ (c .before .before .unify-symbols .result) (reached .ensures .1) (reached2 .ensures .1) (if3 .taken) (if4 .taken) (c .before .before .unify-symbols .ensures)
 
 unify-terms-bind-reached-requires : (t : ℕ) → unify-terms-lts.Need-bind-reached-requires (unify-terms-calls t) (unify-terms-at t) unify-terms.Post
 unify-terms-bind-reached-requires t c κs =
-    let start = c .before .before .before .before .before .before .before .before .before .before .before .before in
-    let reached = c .before .before .before .before .before .before .reached in
-    let reached2 = c .before .before .before .before .reached2 in
+    let at-reached-2 = c .before .before .before .before in
+    let at-reached = at-reached-2 .before .before in
+    let start = at-reached .before .before .before .before .before .before in
+    let reached = at-reached .reached in
+    let reached2 = at-reached-2 .reached2 in
     (start .pre .1 .0, ((reached-free-at (start .pre .1 .0) (start .args .p) (reached .result) (reached .ensures .0) (reached .ensures .1), reached-free-at (start .pre .1 .0) (start .args .q) (reached2 .result) (reached2 .ensures .0) (reached2 .ensures .1)), λ h. ⊎-elim (λ w. w .2 .left) (λ w. absurd (omega (arith, w .left, h))) (c .before .if3 .came)))
 
 unify-terms-returns-4 : (t : ℕ) → unify-terms-lts.Need-returns-4 (unify-terms-calls t) (unify-terms-at t) unify-terms.Post
 unify-terms-returns-4 t c =
-    let start = c .before .before .before .before .before .before .before .before .before .before .before .before .before .before .before in
-    let reached = c .before .before .before .before .before .before .before .before .before .reached in
-    let reached2 = c .before .before .before .before .before .before .before .reached2 in
-    let if1 = c .before .before .before .before .before .before .before .before .before .before .before .if1 in
+    let at-reached-2 = c .before .before .before .before .before .before .before in
+    let at-reached = at-reached-2 .before .before in
+    let at-if = at-reached .before .before in
+    let start = at-if .before .before .before .before in
+    let reached = at-reached .reached in
+    let reached2 = at-reached-2 .reached2 in
+    let if1 = at-if .if1 in
     terms-bind (start .pre .1 .0) (start .args .p) (start .args .q) (reached .result) (reached2 .result) (start .args .depth) (reached .ensures .0) (reached2 .ensures .0) (if1 .left) _ (c .before .before .bind-reached .result) (start .pre .1 .1 .0) (start .pre .1 .1 .1) (c .before .before .bind-reached .ensures)
 
 pub +unify-rows+unify-symbols+unify-terms-spec : {M : Type 1} → statement M

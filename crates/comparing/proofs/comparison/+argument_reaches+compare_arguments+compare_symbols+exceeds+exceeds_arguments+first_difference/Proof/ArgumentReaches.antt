@@ -23,48 +23,61 @@ argument-reaches-loop-holds t c =
 
 pub argument-reaches-exceeds-requires : (t : ℕ) → argument-reaches-lts.Need-exceeds-requires (argument-reaches-calls t) (argument-reaches-at t) argument-reaches.Post argument-reaches-Inv-loop argument-reaches-μ-loop
 argument-reaches-exceeds-requires t c κs =
-    let loop = c .before .before .before .before .loop in
-    let start = c .before .before .before .before .before .before .before .before .before .before in
+    let at-loop = c .before .before .before .before in
+    let start = at-loop .before .before .before .before .before .before in
+    let loop = at-loop .loop in
     let h = first-argument (loop .inv .terms) (c .before .before .if1 .taken) in
     (omega (arith, start .pre .0, h .first-weight, loop .inv .light), (loop .inv .settled, (h .term, start .pre .1 .1 .1)))
 
 pub argument-reaches-same-length : (t : ℕ) → argument-reaches-lts.Need-same-length (argument-reaches-calls t) (argument-reaches-at t) argument-reaches.Post argument-reaches-Inv-loop argument-reaches-μ-loop
 argument-reaches-same-length t c =
-    let exceeds = c .before .before .before .before .before .exceeds in
-    let start = c .before .before .before .before .before .before .before .before .before .before .before .before .before .before .before .before in
+    let at-exceeds = c .before .before .before .before .before in
+    let start = at-exceeds .before .before .before .before .before .before .before .before .before .before .before in
+    let exceeds = at-exceeds .exceeds in
     omega (arith, exceeds .ensures .1 .ready-length, start .pre .1 .0 .ready-length)
 
 pub argument-reaches-same-length-2 : (t : ℕ) → argument-reaches-lts.Need-same-length-2 (argument-reaches-calls t) (argument-reaches-at t) argument-reaches.Post argument-reaches-Inv-loop argument-reaches-μ-loop
 argument-reaches-same-length-2 t c =
-    let exceeds = c .before .before .before .before .before .exceeds in
-    let start = c .before .before .before .before .before .before .before .before .before .before .before .before .before .before .before .before in
+    let at-exceeds = c .before .before .before .before .before in
+    let start = at-exceeds .before .before .before .before .before .before .before .before .before .before .before in
+    let exceeds = at-exceeds .exceeds in
     omega (arith, exceeds .ensures .1 .cells-length, start .pre .1 .0 .cells-length)
 
 pub argument-reaches-returns : (t : ℕ) → argument-reaches-lts.Need-returns (argument-reaches-calls t) (argument-reaches-at t) argument-reaches.Post argument-reaches-Inv-loop argument-reaches-μ-loop
 argument-reaches-returns t c =
-    let loop = c .before .before .before .before .before .before .before .before .before .before .loop in
-    let if1 = c .before .before .before .before .before .before .before .before .if1 in
-    let exceeds = c .before .before .before .before .before .exceeds in
+    let at-exceeds = c .before .before .before .before .before in
+    let at-if = at-exceeds .before .before .before in
+    let at-loop = at-if .before .before in
+    let loop = at-loop .loop in
+    let if1 = at-if .if1 in
+    let exceeds = at-exceeds .exceeds in
     (loop .inv .back true (reaching-first (if1 .taken) (exceeds .ensures .0) (λ e. elim (c .match .keys2) [ inl k ↦ (let z : _≡_ {A = ℕ} 0 1 = rw e at k in omega arith) | inr k ↦ (let z : _≡_ {A = ℕ} 0 2 = rw e at k in omega arith) ])), exceeds .ensures .1)
 
 pub argument-reaches-other-arguments-requires : (t : ℕ) → argument-reaches-lts.Need-other-arguments-requires (argument-reaches-calls t) (argument-reaches-at t) argument-reaches.Post argument-reaches-Inv-loop argument-reaches-μ-loop
 argument-reaches-other-arguments-requires t c κs =
-    let loop = c .before .before .before .before .before .before .before .before .before .before .before .loop in
-    let if1 = c .before .before .before .before .before .before .before .before .before .if1 in
-    let start = c .before .before .before .before .before .before .before .before .before .before .before .before .before .before .before .before .before in
+    let at-if = c .before .before .before .before .before .before .before .before .before in
+    let at-loop = at-if .before .before in
+    let start = at-loop .before .before .before .before .before .before in
+    let loop = at-loop .loop in
+    let if1 = at-if .if1 in
     omega (arith, first-argument (loop .inv .terms) (if1 .taken) .below, start .pre .1 .0 .sizes-length)
 
 pub argument-reaches-loop-less : (t : ℕ) → argument-reaches-lts.Need-loop-less (argument-reaches-calls t) (argument-reaches-at t) argument-reaches.Post argument-reaches-Inv-loop argument-reaches-μ-loop
 argument-reaches-loop-less t c =
-    let loop = c .before .before .before .before .before .before .before .before .before .before .before .before .loop in
-    let if1 = c .before .before .before .before .before .before .before .before .before .before .if1 in
+    let at-if = c .before .before .before .before .before .before .before .before .before .before in
+    let at-loop = at-if .before .before in
+    let loop = at-loop .loop in
+    let if1 = at-if .if1 in
     rw (c .other-arguments .ensures) (omega (arith, first-argument (loop .inv .terms) (if1 .taken) .some, if1 .taken))
 
 pub argument-reaches-loop-again : (t : ℕ) → argument-reaches-lts.Need-loop-again (argument-reaches-calls t) (argument-reaches-at t) argument-reaches.Post argument-reaches-Inv-loop argument-reaches-μ-loop
 argument-reaches-loop-again t c =
-    let loop = c .before .before .before .before .before .before .before .before .before .before .before .before .loop in
-    let if1 = c .before .before .before .before .before .before .before .before .before .before .if1 in
-    let exceeds = c .before .before .before .before .before .before .before .exceeds in
+    let at-exceeds = c .before .before .before .before .before .before .before in
+    let at-if = at-exceeds .before .before .before in
+    let at-loop = at-if .before .before in
+    let loop = at-loop .loop in
+    let if1 = at-if .if1 in
+    let exceeds = at-exceeds .exceeds in
     reaching-again (loop .inv) (if1 .taken) (exceeds .ensures .0) (c .before .enum-told .given .1) (exceeds .ensures .1) (c .other-arguments .ensures)
 
 pub argument-reaches-same-length-3 : (t : ℕ) → argument-reaches-lts.Need-same-length-3 (argument-reaches-calls t) (argument-reaches-at t) argument-reaches.Post argument-reaches-Inv-loop argument-reaches-μ-loop

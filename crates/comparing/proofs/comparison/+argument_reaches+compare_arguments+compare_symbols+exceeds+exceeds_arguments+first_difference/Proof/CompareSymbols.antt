@@ -31,10 +31,13 @@ compare-symbols-argument-reaches-requires t c κs =
 
 pub compare-symbols-returns : (t : ℕ) → compare-symbols-lts.Need-returns (compare-symbols-calls t) (compare-symbols-at t) compare-symbols.Post
 compare-symbols-returns t c =
-    let start = c .before .before .before .before .before .before .before .before .before .before .before .before .before .before .before .before .before in
-    let if1 = c .before .before .before .before .before .before .before .before .before .if1 in
-    let arguments-of = c .before .before .before .before .before .before .before .before .arguments-of in
-    let argument-reaches = c .before .before .before .before .before .argument-reaches in
+    let at-argument-reaches = c .before .before .before .before .before in
+    let at-arguments-of = at-argument-reaches .before .before .before in
+    let at-if = at-arguments-of .before in
+    let start = at-if .before .before .before .before .before .before .before .before in
+    let if1 = at-if .if1 in
+    let arguments-of = at-arguments-of .arguments-of in
+    let argument-reaches = at-argument-reaches .argument-reaches in
     let x = symbol-resolves (start .pre .1 .1 .0 .0) (start .pre .1 .1 .0 .1) in
     let y = subject-resolves (start .pre .1 .0) (start .pre .1 .1 .1 .0) (start .pre .1 .1 .1 .1) in
     (smaller-symbols (x .symbol) (y .symbol) (if1 .taken) (rw (arguments-of .ensures) at (argument-reaches .ensures .0)) (c .greater-if .ensures), argument-reaches .ensures .1)
@@ -53,10 +56,13 @@ compare-symbols-exceeds-arguments-requires t c κs =
 
 pub compare-symbols-returns-2 : (t : ℕ) → compare-symbols-lts.Need-returns-2 (compare-symbols-calls t) (compare-symbols-at t) compare-symbols.Post
 compare-symbols-returns-2 t c =
-    let start = c .before .before .before .before .before .before .before .before .before .before .before .before .before .before .before .before .before .before in
-    let if2 = c .before .before .before .before .before .before .before .before .before .if2 in
-    let arguments-of2 = c .before .before .before .before .before .before .before .before .arguments-of2 in
-    let exceeds-arguments = c .before .before .before .before .before .exceeds-arguments in
+    let at-exceeds-arguments = c .before .before .before .before .before in
+    let at-arguments-of = at-exceeds-arguments .before .before .before in
+    let at-if = at-arguments-of .before in
+    let start = at-if .before .before .before .before .before .before .before .before .before in
+    let if2 = at-if .if2 in
+    let arguments-of2 = at-arguments-of .arguments-of2 in
+    let exceeds-arguments = at-exceeds-arguments .exceeds-arguments in
     let x = symbol-resolves (start .pre .1 .1 .0 .0) (start .pre .1 .1 .0 .1) in
     let y = subject-resolves (start .pre .1 .0) (start .pre .1 .1 .1 .0) (start .pre .1 .1 .1 .1) in
     (greater-symbols (x .symbol) (y .symbol) (if2 .taken) (rw (arguments-of2 .ensures) at (exceeds-arguments .ensures .0)) (c .greater-if2 .ensures), exceeds-arguments .ensures .1)

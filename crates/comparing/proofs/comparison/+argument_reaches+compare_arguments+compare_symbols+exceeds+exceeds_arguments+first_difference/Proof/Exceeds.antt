@@ -23,23 +23,27 @@ exceeds-make-ready-requires t c κs =
 
 pub exceeds-mul-cell : (t : ℕ) → exceeds-lts.Need-mul-cell (exceeds-calls t) (exceeds-at t) exceeds.Post
 exceeds-mul-cell t c =
-    let start = c .before .before .before .before .before .before .before .before .before .before .before .before .before in
-    let resolve = c .before .before .before .before .before .before .before .resolve in
+    let at-resolve = c .before .before .before .before .before .before .before in
+    let start = at-resolve .before .before .before .before .before .before in
+    let resolve = at-resolve .resolve in
     let x = resolves (start .pre .1 .1 .0) (resolve .ensures) in omega (arith, x .below)
 
 pub exceeds-add-cell : (t : ℕ) → exceeds-lts.Need-add-cell (exceeds-calls t) (exceeds-at t) exceeds.Post
 exceeds-add-cell t c =
-    let start = c .before .before .before .before .before .before .before .before .before .before .before .before .before in
-    let resolve = c .before .before .before .before .before .before .before .resolve in
+    let at-resolve = c .before .before .before .before .before .before .before in
+    let start = at-resolve .before .before .before .before .before .before in
+    let resolve = at-resolve .resolve in
     let x = resolves (start .pre .1 .1 .0) (resolve .ensures) in
     let y = subject-resolves (start .pre .1 .0) (start .pre .1 .1 .1 .0) (start .pre .1 .1 .1 .1) in
     omega (arith, x .below, y .below)
 
 pub exceeds-slice-read-known : (t : ℕ) → exceeds-lts.Need-slice-read-known (exceeds-calls t) (exceeds-at t) exceeds.Post
 exceeds-slice-read-known t c =
-    let start = c .before .before .before .before .before .before .before .before .before .before .before .before .before .before in
-    let resolve = c .before .before .before .before .before .before .before .before .resolve in
-    let make-ready = c .before .before .before .before .before .make-ready in
+    let at-make-ready = c .before .before .before .before .before in
+    let at-resolve = at-make-ready .before .before .before in
+    let start = at-resolve .before .before .before .before .before .before in
+    let resolve = at-resolve .resolve in
+    let make-ready = at-make-ready .make-ready in
     let x = resolves (start .pre .1 .1 .0) (resolve .ensures) in
     let y = subject-resolves (start .pre .1 .0) (start .pre .1 .1 .1 .0) (start .pre .1 .1 .1 .1) in
     let m = made-ready-settled (start .pre .1 .0) (make-ready .ensures) in
@@ -47,35 +51,43 @@ exceeds-slice-read-known t c =
 
 pub exceeds-returns : (t : ℕ) → exceeds-lts.Need-returns (exceeds-calls t) (exceeds-at t) exceeds.Post
 exceeds-returns t c =
-    let start = c .before .before .before .before .before .before .before .before .before .before .before .before .before .before .before .before in
-    let resolve = c .before .before .before .before .before .before .before .before .before .before .resolve in
-    let make-ready = c .before .before .before .before .before .before .before .make-ready in
+    let at-make-ready = c .before .before .before .before .before .before .before in
+    let at-resolve = at-make-ready .before .before .before in
+    let start = at-resolve .before .before .before .before .before .before in
+    let resolve = at-resolve .resolve in
+    let make-ready = at-make-ready .make-ready in
     let x = resolves (start .pre .1 .1 .0) (resolve .ensures) in
     let y = subject-resolves (start .pre .1 .0) (start .pre .1 .1 .1 .0) (start .pre .1 .1 .1 .1) in
     known x y (made-ready-settled (start .pre .1 .0) (make-ready .ensures)) (make-ready .ensures .is-ready) (start .pre .1 .1 .1 .1) (c .before .if1 .taken) (c .held .ensures)
 
 pub exceeds-compare-symbols-requires : (t : ℕ) → exceeds-lts.Need-compare-symbols-requires (exceeds-calls t) (exceeds-at t) exceeds.Post
 exceeds-compare-symbols-requires t c κs =
-    let start = c .before .before .before .before .before .before .before .before .before .before .before .before .before .before .before .before .before in
-    let resolve = c .before .before .before .before .before .before .before .before .before .before .before .resolve in
-    let make-ready = c .before .before .before .before .before .before .before .before .make-ready in
+    let at-make-ready = c .before .before .before .before .before .before .before .before in
+    let at-resolve = at-make-ready .before .before .before in
+    let start = at-resolve .before .before .before .before .before .before in
+    let resolve = at-resolve .resolve in
+    let make-ready = at-make-ready .make-ready in
     let x = resolves (start .pre .1 .1 .0) (resolve .ensures) in
     (omega (arith, start .pre .0, x .same-weight), (made-ready-settled (start .pre .1 .0) (make-ready .ensures), ((x .here, x .symbol), start .pre .1 .1 .1)))
 
 pub exceeds-settle-requires : (t : ℕ) → exceeds-lts.Need-settle-requires (exceeds-calls t) (exceeds-at t) exceeds.Post
 exceeds-settle-requires t c κs =
-    let start = c .before .before .before .before .before .before .before .before .before .before .before .before .before .before .before .before .before .before .before .before .before .before .before in
-    let resolve = c .before .before .before .before .before .before .before .before .before .before .before .before .before .before .before .before .before .resolve in
-    let compare-symbols = c .before .before .before .before .before .compare-symbols in
+    let at-compare-symbols = c .before .before .before .before .before in
+    let at-resolve = at-compare-symbols .before .before .before .before .before .before .before .before .before .before .before .before in
+    let start = at-resolve .before .before .before .before .before .before in
+    let resolve = at-resolve .resolve in
+    let compare-symbols = at-compare-symbols .compare-symbols in
     let x = resolves (start .pre .1 .1 .0) (resolve .ensures) in
     let y = subject-resolves (start .pre .1 .0) (start .pre .1 .1 .1 .0) (start .pre .1 .1 .1 .1) in
     omega (arith, x .below, y .below, compare-symbols .ensures .1 .cells-length)
 
 pub exceeds-returns-2 : (t : ℕ) → exceeds-lts.Need-returns-2 (exceeds-calls t) (exceeds-at t) exceeds.Post
 exceeds-returns-2 t c =
-    let start = c .before .before .before .before .before .before .before .before .before .before .before .before .before .before .before .before .before .before .before .before .before .before .before .before .before .before in
-    let resolve = c .before .before .before .before .before .before .before .before .before .before .before .before .before .before .before .before .before .before .before .before .resolve in
-    let compare-symbols = c .before .before .before .before .before .before .before .before .compare-symbols in
+    let at-compare-symbols = c .before .before .before .before .before .before .before .before in
+    let at-resolve = at-compare-symbols .before .before .before .before .before .before .before .before .before .before .before .before in
+    let start = at-resolve .before .before .before .before .before .before in
+    let resolve = at-resolve .resolve in
+    let compare-symbols = at-compare-symbols .compare-symbols in
     let x = resolves (start .pre .1 .1 .0) (resolve .ensures) in
     let y = subject-resolves (start .pre .1 .0) (start .pre .1 .1 .1 .0) (start .pre .1 .1 .1 .1) in
     settled x y (compare-symbols .ensures .1) (compare-symbols .ensures .0) (c .before .before .settle .ensures .0) (c .before .before .settle .ensures .1)

@@ -23,48 +23,61 @@ exceeds-arguments-loop-holds t c =
 
 pub exceeds-arguments-exceeds-requires : (t : ℕ) → exceeds-arguments-lts.Need-exceeds-requires (argument-reaches-calls t) (exceeds-arguments-at t) exceeds-arguments.Post exceeds-arguments-Inv-loop exceeds-arguments-μ-loop
 exceeds-arguments-exceeds-requires t c κs =
-    let loop = c .before .before .before .before .loop in
-    let start = c .before .before .before .before .before .before .before .before .before .before in
+    let at-loop = c .before .before .before .before in
+    let start = at-loop .before .before .before .before .before .before in
+    let loop = at-loop .loop in
     let h = first-argument (loop .inv .terms) (c .before .before .if1 .taken) in
     (omega (arith, start .pre .0, h .first-weight, loop .inv .light), (loop .inv .settled, (start .pre .1 .1 .0, (h .term, loop .inv .low))))
 
 pub exceeds-arguments-same-length : (t : ℕ) → exceeds-arguments-lts.Need-same-length (argument-reaches-calls t) (exceeds-arguments-at t) exceeds-arguments.Post exceeds-arguments-Inv-loop exceeds-arguments-μ-loop
 exceeds-arguments-same-length t c =
-    let exceeds = c .before .before .before .before .before .exceeds in
-    let start = c .before .before .before .before .before .before .before .before .before .before .before .before .before .before .before .before in
+    let at-exceeds = c .before .before .before .before .before in
+    let start = at-exceeds .before .before .before .before .before .before .before .before .before .before .before in
+    let exceeds = at-exceeds .exceeds in
     omega (arith, exceeds .ensures .1 .ready-length, start .pre .1 .0 .ready-length)
 
 pub exceeds-arguments-same-length-2 : (t : ℕ) → exceeds-arguments-lts.Need-same-length-2 (argument-reaches-calls t) (exceeds-arguments-at t) exceeds-arguments.Post exceeds-arguments-Inv-loop exceeds-arguments-μ-loop
 exceeds-arguments-same-length-2 t c =
-    let exceeds = c .before .before .before .before .before .exceeds in
-    let start = c .before .before .before .before .before .before .before .before .before .before .before .before .before .before .before .before in
+    let at-exceeds = c .before .before .before .before .before in
+    let start = at-exceeds .before .before .before .before .before .before .before .before .before .before .before in
+    let exceeds = at-exceeds .exceeds in
     omega (arith, exceeds .ensures .1 .cells-length, start .pre .1 .0 .cells-length)
 
 pub exceeds-arguments-returns : (t : ℕ) → exceeds-arguments-lts.Need-returns (argument-reaches-calls t) (exceeds-arguments-at t) exceeds-arguments.Post exceeds-arguments-Inv-loop exceeds-arguments-μ-loop
 exceeds-arguments-returns t c =
-    let loop = c .before .before .before .before .before .before .before .before .before .before .loop in
-    let if1 = c .before .before .before .before .before .before .before .before .if1 in
-    let exceeds = c .before .before .before .before .before .exceeds in
+    let at-exceeds = c .before .before .before .before .before in
+    let at-if = at-exceeds .before .before .before in
+    let at-loop = at-if .before .before in
+    let loop = at-loop .loop in
+    let if1 = at-if .if1 in
+    let exceeds = at-exceeds .exceeds in
     (loop .inv .back false (all-not (if1 .taken) (exceeds .ensures .0) (λ e. elim (c .match .keys2) [ inl k ↦ (let z : _≡_ {A = ℕ} 2 0 = rw e at k in omega arith) | inr k ↦ (let z : _≡_ {A = ℕ} 2 1 = rw e at k in omega arith) ])), exceeds .ensures .1)
 
 pub exceeds-arguments-other-arguments-requires : (t : ℕ) → exceeds-arguments-lts.Need-other-arguments-requires (argument-reaches-calls t) (exceeds-arguments-at t) exceeds-arguments.Post exceeds-arguments-Inv-loop exceeds-arguments-μ-loop
 exceeds-arguments-other-arguments-requires t c κs =
-    let loop = c .before .before .before .before .before .before .before .before .before .before .before .loop in
-    let if1 = c .before .before .before .before .before .before .before .before .before .if1 in
-    let start = c .before .before .before .before .before .before .before .before .before .before .before .before .before .before .before .before .before in
+    let at-if = c .before .before .before .before .before .before .before .before .before in
+    let at-loop = at-if .before .before in
+    let start = at-loop .before .before .before .before .before .before in
+    let loop = at-loop .loop in
+    let if1 = at-if .if1 in
     omega (arith, first-argument (loop .inv .terms) (if1 .taken) .below, start .pre .1 .0 .sizes-length)
 
 pub exceeds-arguments-loop-less : (t : ℕ) → exceeds-arguments-lts.Need-loop-less (argument-reaches-calls t) (exceeds-arguments-at t) exceeds-arguments.Post exceeds-arguments-Inv-loop exceeds-arguments-μ-loop
 exceeds-arguments-loop-less t c =
-    let loop = c .before .before .before .before .before .before .before .before .before .before .before .before .loop in
-    let if1 = c .before .before .before .before .before .before .before .before .before .before .if1 in
+    let at-if = c .before .before .before .before .before .before .before .before .before .before in
+    let at-loop = at-if .before .before in
+    let loop = at-loop .loop in
+    let if1 = at-if .if1 in
     rw (c .other-arguments .ensures) (omega (arith, first-argument (loop .inv .terms) (if1 .taken) .some, if1 .taken))
 
 pub exceeds-arguments-loop-again : (t : ℕ) → exceeds-arguments-lts.Need-loop-again (argument-reaches-calls t) (exceeds-arguments-at t) exceeds-arguments.Post exceeds-arguments-Inv-loop exceeds-arguments-μ-loop
 exceeds-arguments-loop-again t c =
-    let loop = c .before .before .before .before .before .before .before .before .before .before .before .before .loop in
-    let if1 = c .before .before .before .before .before .before .before .before .before .before .if1 in
-    let exceeds = c .before .before .before .before .before .before .before .exceeds in
+    let at-exceeds = c .before .before .before .before .before .before .before in
+    let at-if = at-exceeds .before .before .before in
+    let at-loop = at-if .before .before in
+    let loop = at-loop .loop in
+    let if1 = at-if .if1 in
+    let exceeds = at-exceeds .exceeds in
     exceeding-again (loop .inv) (if1 .taken) (exceeds .ensures .0) (c .before .enum-told .given .1) (exceeds .ensures .1) (c .other-arguments .ensures)
 
 pub exceeds-arguments-same-length-3 : (t : ℕ) → exceeds-arguments-lts.Need-same-length-3 (argument-reaches-calls t) (exceeds-arguments-at t) exceeds-arguments.Post exceeds-arguments-Inv-loop exceeds-arguments-μ-loop

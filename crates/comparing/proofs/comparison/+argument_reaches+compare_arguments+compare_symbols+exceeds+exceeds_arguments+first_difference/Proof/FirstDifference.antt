@@ -35,14 +35,16 @@ first-difference-loop-holds t c =
 
 pub first-difference-same-length : (t : ℕ) → first-difference-lts.Need-same-length (first-difference-calls t) (first-difference-at t) first-difference.Post first-difference-Inv-loop first-difference-μ-loop
 first-difference-same-length t c =
-    let loop = c .before .before .before .before .loop in
-    let start = c .before .before .before .before .before .before .before .before .before .before .before .before in
+    let at-loop = c .before .before .before .before in
+    let start = at-loop .before .before .before .before .before .before .before .before in
+    let loop = at-loop .loop in
     omega (arith, loop .inv .settled .ready-length, start .pre .1 .0 .ready-length)
 
 pub first-difference-same-length-2 : (t : ℕ) → first-difference-lts.Need-same-length-2 (first-difference-calls t) (first-difference-at t) first-difference.Post first-difference-Inv-loop first-difference-μ-loop
 first-difference-same-length-2 t c =
-    let loop = c .before .before .before .before .loop in
-    let start = c .before .before .before .before .before .before .before .before .before .before .before .before in
+    let at-loop = c .before .before .before .before in
+    let start = at-loop .before .before .before .before .before .before .before .before in
+    let loop = at-loop .loop in
     omega (arith, loop .inv .settled .cells-length, start .pre .1 .0 .cells-length)
 
 pub first-difference-returns : (t : ℕ) → first-difference-lts.Need-returns (first-difference-calls t) (first-difference-at t) first-difference.Post first-difference-Inv-loop first-difference-μ-loop
@@ -52,9 +54,11 @@ first-difference-returns t c =
 
 pub first-difference-exceeds-requires : (t : ℕ) → first-difference-lts.Need-exceeds-requires (first-difference-calls t) (first-difference-at t) first-difference.Post first-difference-Inv-loop first-difference-μ-loop
 first-difference-exceeds-requires t c κs =
-    let loop = c .before .before .before .before .before .before .loop in
-    let if1 = c .before .before .before .before .if1 in
-    let start = c .before .before .before .before .before .before .before .before .before .before .before .before .before .before in
+    let at-if = c .before .before .before .before in
+    let at-loop = at-if .before .before in
+    let start = at-loop .before .before .before .before .before .before .before .before in
+    let loop = at-loop .loop in
+    let if1 = at-if .if1 in
     let x = first-argument (left-arguments (loop .inv .lists)) (if1 .taken) in
     let y = first-argument (right-arguments (loop .inv .lists)) (c .before .before .if2 .left) in
     let b = balanced (loop .inv .lists) in
@@ -62,32 +66,42 @@ first-difference-exceeds-requires t c κs =
 
 pub first-difference-other-arguments-requires : (t : ℕ) → first-difference-lts.Need-other-arguments-requires (first-difference-calls t) (first-difference-at t) first-difference.Post first-difference-Inv-loop first-difference-μ-loop
 first-difference-other-arguments-requires t c κs =
-    let loop = c .before .before .before .before .before .before .before .before .before .before .before .loop in
-    let if1 = c .before .before .before .before .before .before .before .before .before .if1 in
-    let start = c .before .before .before .before .before .before .before .before .before .before .before .before .before .before .before .before .before .before .before in
+    let at-if = c .before .before .before .before .before .before .before .before .before in
+    let at-loop = at-if .before .before in
+    let start = at-loop .before .before .before .before .before .before .before .before in
+    let loop = at-loop .loop in
+    let if1 = at-if .if1 in
     omega (arith, first-argument (left-arguments (loop .inv .lists)) (if1 .taken) .below, start .pre .1 .0 .sizes-length)
 
 pub first-difference-other-arguments-requires-2 : (t : ℕ) → first-difference-lts.Need-other-arguments-requires-2 (first-difference-calls t) (first-difference-at t) first-difference.Post first-difference-Inv-loop first-difference-μ-loop
 first-difference-other-arguments-requires-2 t c κs =
-    let loop = c .before .before .before .before .before .before .before .before .before .before .before .before .loop in
-    let if2 = c .before .before .before .before .before .before .before .before .if2 in
-    let start = c .before .before .before .before .before .before .before .before .before .before .before .before .before .before .before .before .before .before .before .before in
+    let at-if = c .before .before .before .before .before .before .before .before in
+    let at-loop = at-if .before .before .before .before in
+    let start = at-loop .before .before .before .before .before .before .before .before in
+    let loop = at-loop .loop in
+    let if2 = at-if .if2 in
     omega (arith, first-argument (right-arguments (loop .inv .lists)) (if2 .left) .below, start .pre .1 .0 .sizes-length)
 
 pub first-difference-loop-less : (t : ℕ) → first-difference-lts.Need-loop-less (first-difference-calls t) (first-difference-at t) first-difference.Post first-difference-Inv-loop first-difference-μ-loop
 first-difference-loop-less t c =
+    let at-if = c .before .before .before .before .before .before .before .before .before .before .before .before .before in
+    let at-loop = at-if .before .before in
     let other-arguments = c .before .before .before .other-arguments in
-    let loop = c .before .before .before .before .before .before .before .before .before .before .before .before .before .before .before .loop in
-    let if1 = c .before .before .before .before .before .before .before .before .before .before .before .before .before .if1 in
+    let loop = at-loop .loop in
+    let if1 = at-if .if1 in
     rw (other-arguments .ensures) (omega (arith, first-argument (left-arguments (loop .inv .lists)) (if1 .taken) .some, if1 .taken))
 
 pub first-difference-loop-again : (t : ℕ) → first-difference-lts.Need-loop-again (first-difference-calls t) (first-difference-at t) first-difference.Post first-difference-Inv-loop first-difference-μ-loop
 first-difference-loop-again t c =
+    let at-exceeds = c .before .before .before .before .before .before .before .before in
+    let at-if-2 = at-exceeds .before .before .before in
+    let at-if = at-if-2 .before .before in
+    let at-loop = at-if .before .before in
     let other-arguments = c .before .before .before .other-arguments in
-    let exceeds = c .before .before .before .before .before .before .before .before .exceeds in
-    let loop = c .before .before .before .before .before .before .before .before .before .before .before .before .before .before .before .loop in
-    let if1 = c .before .before .before .before .before .before .before .before .before .before .before .before .before .if1 in
-    let if2 = c .before .before .before .before .before .before .before .before .before .before .before .if2 in
+    let exceeds = at-exceeds .exceeds in
+    let loop = at-loop .loop in
+    let if1 = at-if .if1 in
+    let if2 = at-if-2 .if2 in
     rw (other-arguments .ensures, c .before .before .other-arguments2 .ensures) (record {
       settled = exceeds .ensures .1;
       lists = other-lists (loop .inv .lists) (if1 .taken) (if2 .left) (exceeds .ensures .0) (c .enum-told .given .1);
@@ -96,34 +110,42 @@ first-difference-loop-again t c =
 
 pub first-difference-same-length-3 : (t : ℕ) → first-difference-lts.Need-same-length-3 (first-difference-calls t) (first-difference-at t) first-difference.Post first-difference-Inv-loop first-difference-μ-loop
 first-difference-same-length-3 t c =
-    let exceeds = c .before .before .before .before .before .before .before .exceeds in
-    let start = c .before .before .before .before .before .before .before .before .before .before .before .before .before .before .before .before .before .before .before .before .before .before in
+    let at-exceeds = c .before .before .before .before .before .before .before in
+    let start = at-exceeds .before .before .before .before .before .before .before .before .before .before .before .before .before .before .before in
+    let exceeds = at-exceeds .exceeds in
     omega (arith, exceeds .ensures .1 .ready-length, start .pre .1 .0 .ready-length)
 
 pub first-difference-same-length-4 : (t : ℕ) → first-difference-lts.Need-same-length-4 (first-difference-calls t) (first-difference-at t) first-difference.Post first-difference-Inv-loop first-difference-μ-loop
 first-difference-same-length-4 t c =
-    let exceeds = c .before .before .before .before .before .before .before .exceeds in
-    let start = c .before .before .before .before .before .before .before .before .before .before .before .before .before .before .before .before .before .before .before .before .before .before in
+    let at-exceeds = c .before .before .before .before .before .before .before in
+    let start = at-exceeds .before .before .before .before .before .before .before .before .before .before .before .before .before .before .before in
+    let exceeds = at-exceeds .exceeds in
     omega (arith, exceeds .ensures .1 .cells-length, start .pre .1 .0 .cells-length)
 
 pub first-difference-returns-2 : (t : ℕ) → first-difference-lts.Need-returns-2 (first-difference-calls t) (first-difference-at t) first-difference.Post first-difference-Inv-loop first-difference-μ-loop
 first-difference-returns-2 t c =
-    let loop = c .before .before .before .before .before .before .before .before .before .before .before .before .before .before .loop in
-    let if1 = c .before .before .before .before .before .before .before .before .before .before .before .before .if1 in
-    let if2 = c .before .before .before .before .before .before .before .before .before .before .if2 in
-    let exceeds = c .before .before .before .before .before .before .before .exceeds in
+    let at-exceeds = c .before .before .before .before .before .before .before in
+    let at-if-2 = at-exceeds .before .before .before in
+    let at-if = at-if-2 .before .before in
+    let at-loop = at-if .before .before in
+    let loop = at-loop .loop in
+    let if1 = at-if .if1 in
+    let if2 = at-if-2 .if2 in
+    let exceeds = at-exceeds .exceeds in
     (rw (c .before .before .other-arguments .ensures, c .before .other-arguments2 .ensures) (difference (loop .inv .lists) (if1 .taken) (if2 .left) (exceeds .ensures .0) (λ e. elim (c .match .keys2) [ inl k ↦ (let z : _≡_ {A = ℕ} 1 0 = rw e at k in omega arith) | inr k ↦ (let z : _≡_ {A = ℕ} 1 2 = rw e at k in omega arith) ]) (loop .inv .low)), exceeds .ensures .1)
 
 pub first-difference-same-length-5 : (t : ℕ) → first-difference-lts.Need-same-length-5 (first-difference-calls t) (first-difference-at t) first-difference.Post first-difference-Inv-loop first-difference-μ-loop
 first-difference-same-length-5 t c =
-    let loop = c .before .before .before .before .loop in
-    let start = c .before .before .before .before .before .before .before .before .before .before .before .before in
+    let at-loop = c .before .before .before .before in
+    let start = at-loop .before .before .before .before .before .before .before .before in
+    let loop = at-loop .loop in
     omega (arith, loop .inv .settled .ready-length, start .pre .1 .0 .ready-length)
 
 pub first-difference-same-length-6 : (t : ℕ) → first-difference-lts.Need-same-length-6 (first-difference-calls t) (first-difference-at t) first-difference.Post first-difference-Inv-loop first-difference-μ-loop
 first-difference-same-length-6 t c =
-    let loop = c .before .before .before .before .loop in
-    let start = c .before .before .before .before .before .before .before .before .before .before .before .before in
+    let at-loop = c .before .before .before .before in
+    let start = at-loop .before .before .before .before .before .before .before .before in
+    let loop = at-loop .loop in
     omega (arith, loop .inv .settled .cells-length, start .pre .1 .0 .cells-length)
 
 pub first-difference-returns-3 : (t : ℕ) → first-difference-lts.Need-returns-3 (first-difference-calls t) (first-difference-at t) first-difference.Post first-difference-Inv-loop first-difference-μ-loop
@@ -133,14 +155,16 @@ first-difference-returns-3 t c =
 
 pub first-difference-same-length-7 : (t : ℕ) → first-difference-lts.Need-same-length-7 (first-difference-calls t) (first-difference-at t) first-difference.Post first-difference-Inv-loop first-difference-μ-loop
 first-difference-same-length-7 t c =
-    let loop = c .before .before .before .before .loop in
-    let start = c .before .before .before .before .before .before .before .before .before .before .before .before in
+    let at-loop = c .before .before .before .before in
+    let start = at-loop .before .before .before .before .before .before .before .before in
+    let loop = at-loop .loop in
     omega (arith, loop .inv .settled .ready-length, start .pre .1 .0 .ready-length)
 
 pub first-difference-same-length-8 : (t : ℕ) → first-difference-lts.Need-same-length-8 (first-difference-calls t) (first-difference-at t) first-difference.Post first-difference-Inv-loop first-difference-μ-loop
 first-difference-same-length-8 t c =
-    let loop = c .before .before .before .before .loop in
-    let start = c .before .before .before .before .before .before .before .before .before .before .before .before in
+    let at-loop = c .before .before .before .before in
+    let start = at-loop .before .before .before .before .before .before .before .before in
+    let loop = at-loop .loop in
     omega (arith, loop .inv .settled .cells-length, start .pre .1 .0 .cells-length)
 
 pub first-difference-returns-4 : (t : ℕ) → first-difference-lts.Need-returns-4 (first-difference-calls t) (first-difference-at t) first-difference.Post first-difference-Inv-loop first-difference-μ-loop

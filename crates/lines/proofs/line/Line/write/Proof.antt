@@ -33,21 +33,29 @@ add-pad : tie.Need-add-pad
 add-pad c = search needs
 
 pad-requires : tie.Need-pad-requires
-pad-requires c κs = let start = c .before .before .before .before .before .before .before .before .before .before .before .before in
-    let bound = c .before .before .before .before .before .before .before .rebind in
+pad-requires c κs =
+    let at-rebind = c .before .before .before .before .before .before .before in
+    let start = at-rebind .before .before .before .before .before in
+    let bound = at-rebind .rebind in
     let marked = c .before .before .before .put-elements in
     (omega (arith, start .pre .0 .few), marked .kept .1 .0 ∙ (length-set (bound .last .0) count-place (start .args .self .count) ∙ (bound .kept .0 ∙ start .pre .1)))
 
 same-length : tie.Need-same-length
-same-length c = let start = c .before .before .before .before .before .before .before .before .before .before .before .before .before .before .before in
-    let bound = c .before .before .before .before .before .before .before .before .before .before .rebind in
-    let marked = c .before .before .before .before .before .before .put-elements in
+same-length c =
+    let at-put-elements = c .before .before .before .before .before .before in
+    let at-rebind = at-put-elements .before .before .before .before in
+    let start = at-rebind .before .before .before .before .before in
+    let bound = at-rebind .rebind in
+    let marked = at-put-elements .put-elements in
     c .before .before .pad .kept .0 ∙ (marked .kept .1 .0 ∙ (length-set (bound .last .0) count-place (start .args .self .count) ∙ bound .kept .0))
 
 returns : tie.Need-returns
-returns c = let start = c .before .before .before .before .before .before .before .before .before .before .before .before .before .before .before in
-    let bound = c .before .before .before .before .before .before .before .before .before .before .rebind in
-    let marked = c .before .before .before .before .before .before .put-elements in
+returns c =
+    let at-put-elements = c .before .before .before .before .before .before in
+    let at-rebind = at-put-elements .before .before .before .before in
+    let start = at-rebind .before .before .before .before .before in
+    let bound = at-rebind .rebind in
+    let marked = at-put-elements .put-elements in
     let self = start .args .self in
     line-written self (bindings-slots self (start .good .0)) (elements-places self (start .good .0)) (start .pre .0 .few) (start .pre .0 .fresh) (start .args .line .now) (bound .last .0) _ (marked .last .1 .0) _ _
     (start .pre .1) (bound .ensures) refl (marked .ensures) refl (c .before .before .pad .ensures)

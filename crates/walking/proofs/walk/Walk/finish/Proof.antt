@@ -25,8 +25,10 @@ same-length c = search needs
 
 returns : tie.Need-returns
 returns c =
-    let start = c .before .before .before .before .before .before .before .before .before .before .before in
-    finishing-goes-on (start .pre) (c .before .before .before .before .write-record .last .0) (λ i. omega (arith, c .before .before .before .before .before .before .before .before .slice-known .given i)) (c .before .before .before .before .write-record .ensures)
+    let at-write-record = c .before .before .before .before in
+    let at-slice-known = at-write-record .before .before .before .before in
+    let start = at-slice-known .before .before .before in
+    finishing-goes-on (start .pre) (at-write-record .write-record .last .0) (λ i. omega (arith, at-slice-known .slice-known .given i)) (at-write-record .write-record .ensures)
 
 pub finish-spec : {M : Type 1} → statement M
 finish-spec =

@@ -42,7 +42,11 @@ enum-known-treatment : tie.Need-enum-known-treatment
 enum-known-treatment c = search needs
 
 unify-requires : tie.Need-unify-requires
-unify-requires c κs = (treating-as (treating-number (c .before .before .before .before .before .before .before .before .before .before .pre .0) (c .before .before .before .before .wide .result) (c .before .before .before .before .wide .ensures .0)) (c .before .before .treatment .given .1), below-limit (c .before .before .before .before .before .before .before .before .before .before .pre .0 .treating .turns-within) (c .before .before .before .before .before .if1 .left))
+unify-requires c κs =
+    let at-wide = c .before .before .before .before in
+    let at-if = at-wide .before in
+    let start = at-if .before .before .before .before .before in
+    (treating-as (treating-number (start .pre .0) (at-wide .wide .result) (at-wide .wide .ensures .0)) (c .before .before .treatment .given .1), below-limit (start .pre .0 .treating .turns-within) (at-if .if1 .left))
 
 going-requires-4 : tie.Need-going-requires-4
 going-requires-4 c κs = search needs
@@ -51,13 +55,20 @@ enum-known-treatment-2 : tie.Need-enum-known-treatment-2
 enum-known-treatment-2 c = search needs
 
 split-requires : tie.Need-split-requires
-split-requires c κs = treating-counted (treating-as (treating-number (c .before .before .before .before .before .before .before .before .before .before .pre .0) (c .before .before .before .before .wide .result) (c .before .before .before .before .wide .ensures .0)) (c .before .before .treatment2 .given .1)) (below-limit (c .before .before .before .before .before .before .before .before .before .before .pre .0 .treating .turns-within) (c .before .before .before .before .before .if1 .left))
+split-requires c κs =
+    let at-wide = c .before .before .before .before in
+    let at-if = at-wide .before in
+    let start = at-if .before .before .before .before .before in
+    treating-counted (treating-as (treating-number (start .pre .0) (at-wide .wide .result) (at-wide .wide .ensures .0)) (c .before .before .treatment2 .given .1)) (below-limit (start .pre .0 .treating .turns-within) (at-if .if1 .left))
 
 returns-2 : tie.Need-returns-2
 returns-2 c = absurd (c .before .before .before .before .before .before .before .before .before .pre .1 (c .before .enum-told .given .1))
 
 returns-3 : tie.Need-returns-3
-returns-3 c = rw (c .going2 .ensures, c .before .turned .ensures) (record { outcome = line-dropped (c .before .before .before .before .before .before .before .before .before .before .before .pre .0 .treating) (below-limit (c .before .before .before .before .before .before .before .before .before .before .before .pre .0 .treating .turns-within) (c .before .before .before .before .before .before .if1 .left)) (c .before .before .before .enum-told2 .given .1) })
+returns-3 c =
+    let at-if = c .before .before .before .before .before .before in
+    let start = at-if .before .before .before .before .before in
+    rw (c .going2 .ensures, c .before .turned .ensures) (record { outcome = line-dropped (start .pre .0 .treating) (below-limit (start .pre .0 .treating .turns-within) (at-if .if1 .left)) (c .before .before .before .enum-told2 .given .1) })
 
 same-length : tie.Need-same-length
 same-length c = search needs

@@ -36,19 +36,34 @@ add-element-at : tie.Need-add-element-at Inv-loop μ-loop Inv-loop2 μ-loop2
 add-element-at c = search needs
 
 mul-element-at : tie.Need-mul-element-at Inv-loop μ-loop Inv-loop2 μ-loop2
-mul-element-at c = omega (arith, head-few (c .before .before .before .before .before .before .before .before .before .before .pre .0) (c .before .before .before .before .before .before .before .before .before .before .pre .1) (c .before .before .before .before .head .ensures))
+mul-element-at c =
+    let at-head = c .before .before .before .before in
+    let start = at-head .before .before .before .before .before .before in
+    omega (arith, head-few (start .pre .0) (start .pre .1) (at-head .head .ensures))
 
 add-element-at-2 : tie.Need-add-element-at-2 Inv-loop μ-loop Inv-loop2 μ-loop2
-add-element-at-2 c = omega (arith, head-few (c .before .before .before .before .before .before .before .before .before .before .pre .0) (c .before .before .before .before .before .before .before .before .before .before .pre .1) (c .before .before .before .before .head .ensures), place-there (c .before .before .before .before .before .before .before .before .before .before .pre .0) (c .before .before .before .before .before .before .before .before .before .before .pre .1))
+add-element-at-2 c =
+    let at-head = c .before .before .before .before in
+    let start = at-head .before .before .before .before .before .before in
+    omega (arith, head-few (start .pre .0) (start .pre .1) (at-head .head .ensures), place-there (start .pre .0) (start .pre .1))
 
 element-at-requires : tie.Need-element-at-requires Inv-loop μ-loop Inv-loop2 μ-loop2
-element-at-requires c κs = omega (arith, head-few (c .before .before .before .before .before .before .before .before .before .before .pre .0) (c .before .before .before .before .before .before .before .before .before .before .pre .1) (c .before .before .before .before .head .ensures), place-there (c .before .before .before .before .before .before .before .before .before .before .pre .0) (c .before .before .before .before .before .before .before .before .before .before .pre .1))
+element-at-requires c κs =
+    let at-head = c .before .before .before .before in
+    let start = at-head .before .before .before .before .before .before in
+    omega (arith, head-few (start .pre .0) (start .pre .1) (at-head .head .ensures), place-there (start .pre .0) (start .pre .1))
 
 mul-t23 : tie.Need-mul-t23 Inv-loop μ-loop Inv-loop2 μ-loop2
-mul-t23 c = omega (arith, head-few (c .before .before .before .before .before .before .before .before .before .before .before .pre .0) (c .before .before .before .before .before .before .before .before .before .before .before .pre .1) (c .before .before .before .before .before .head .ensures))
+mul-t23 c =
+    let at-head = c .before .before .before .before .before in
+    let start = at-head .before .before .before .before .before .before in
+    omega (arith, head-few (start .pre .0) (start .pre .1) (at-head .head .ensures))
 
 element-set-from-line : tie.Need-element-set-from-line Inv-loop μ-loop Inv-loop2 μ-loop2
-element-set-from-line c = omega (arith, head-few (c .before .before .before .before .before .before .before .before .before .before .before .pre .0) (c .before .before .before .before .before .before .before .before .before .before .before .pre .1) (c .before .before .before .before .before .head .ensures))
+element-set-from-line c =
+    let at-head = c .before .before .before .before .before in
+    let start = at-head .before .before .before .before .before .before in
+    omega (arith, head-few (start .pre .0) (start .pre .1) (at-head .head .ensures))
 
 add-i : tie.Need-add-i Inv-loop μ-loop Inv-loop2 μ-loop2
 add-i c = search needs
@@ -57,16 +72,25 @@ loop-less : tie.Need-loop-less Inv-loop μ-loop Inv-loop2 μ-loop2
 loop-less c = search needs
 
 loop-again : tie.Need-loop-again Inv-loop μ-loop Inv-loop2 μ-loop2
-loop-again c = filling-next (c .before .before .before .loop .inv) (omega (arith, head-few (c .before .before .before .before .before .before .before .before .before .before .before .pre .0) (c .before .before .before .before .before .before .before .before .before .before .before .pre .1) (c .before .before .before .before .before .head .ensures))) _ (c .element-at .ensures)
+loop-again c =
+    let at-head = c .before .before .before .before .before in
+    let start = at-head .before .before .before .before .before .before in
+    filling-next (c .before .before .before .loop .inv) (omega (arith, head-few (start .pre .0) (start .pre .1) (at-head .head .ensures))) _ (c .element-at .ensures)
 
 loop2-holds : tie.Need-loop2-holds Inv-loop μ-loop Inv-loop2 μ-loop2
 loop2-holds c = (refl, searching-start _ _ _ _ _)
 
 mul-element : tie.Need-mul-element Inv-loop μ-loop Inv-loop2 μ-loop2
-mul-element c = omega (arith, head-few (c .before .before .before .before .before .before .before .before .before .before .before .pre .0) (c .before .before .before .before .before .before .before .before .before .before .before .pre .1) (c .before .before .before .before .before .head .ensures))
+mul-element c =
+    let at-head = c .before .before .before .before .before in
+    let start = at-head .before .before .before .before .before .before in
+    omega (arith, head-few (start .pre .0) (start .pre .1) (at-head .head .ensures))
 
 element-copy-out-element : tie.Need-element-copy-out-element Inv-loop μ-loop Inv-loop2 μ-loop2
-element-copy-out-element c = omega (arith, head-few (c .before .before .before .before .before .before .before .before .before .before .before .pre .0) (c .before .before .before .before .before .before .before .before .before .before .before .pre .1) (c .before .before .before .before .before .head .ensures))
+element-copy-out-element c =
+    let at-head = c .before .before .before .before .before in
+    let start = at-head .before .before .before .before .before .before in
+    omega (arith, head-few (start .pre .0) (start .pre .1) (at-head .head .ensures))
 
 slice-aggregate-treatment-of :
     tie.Need-slice-aggregate-treatment-of Inv-loop μ-loop Inv-loop2 μ-loop2
@@ -74,27 +98,38 @@ slice-aggregate-treatment-of c = search needs
 
 treatment-of-requires : tie.Need-treatment-of-requires Inv-loop μ-loop Inv-loop2 μ-loop2
 treatment-of-requires c κs =
-    let start = c .before .before .before .before .before .before .before .before .before .before .before .before .before in
-    let head = c .before .before .before .before .before .before .before .head .ensures in
-    let filled = c .before .before .before .before .before .loop .inv in
-    let full = c .before .before .before .before .loop-test .left in
+    let at-loop-test = c .before .before .before .before in
+    let at-loop = at-loop-test .before in
+    let at-head = at-loop .before .before in
+    let start = at-head .before .before .before .before .before .before in
+    let head = at-head .head .ensures in
+    let filled = at-loop .loop .inv in
+    let full = at-loop-test .loop-test .left in
     (head-readable (start .pre .0) (start .pre .1) head, head-within (start .pre .0) (start .pre .1) head filled full (c .before .before .before .loop2 .inv .1) (c .before .before .loop2-test .taken))
 
 enum-told : tie.Need-enum-told Inv-loop μ-loop Inv-loop2 μ-loop2
 enum-told c = search needs
 
 cast-treat : tie.Need-cast-treat Inv-loop μ-loop Inv-loop2 μ-loop2
-cast-treat c = omega (arith, head-few (c .before .before .before .before .before .before .before .before .before .before .before .before .before .before .before .before .pre .0) (c .before .before .before .before .before .before .before .before .before .before .before .before .before .before .before .before .pre .1) (c .before .before .before .before .before .before .before .before .before .before .head .ensures))
+cast-treat c =
+    let at-head = c .before .before .before .before .before .before .before .before .before .before in
+    let start = at-head .before .before .before .before .before .before in
+    omega (arith, head-few (start .pre .0) (start .pre .1) (at-head .head .ensures))
 
 treat-requires : tie.Need-treat-requires Inv-loop μ-loop Inv-loop2 μ-loop2
 treat-requires c κs =
-    let start = c .before .before .before .before .before .before .before .before .before .before .before .before .before .before .before .before in
-    let head = c .before .before .before .before .before .before .before .before .before .before .head .ensures in
-    let filled = c .before .before .before .before .before .before .before .before .loop .inv in
-    let full = c .before .before .before .before .before .before .before .loop-test .left in
+    let at-loop2-test = c .before .before .before .before .before in
+    let at-loop-2 = at-loop2-test .before in
+    let at-loop-test = at-loop-2 .before in
+    let at-loop = at-loop-test .before in
+    let at-head = at-loop .before .before in
+    let start = at-head .before .before .before .before .before .before in
+    let head = at-head .head .ensures in
+    let filled = at-loop .loop .inv in
+    let full = at-loop-test .loop-test .left in
     let found = c .before .before .treatment-of in
-    let loop = c .before .before .before .before .before .before .loop2 in
-    (head-treating (start .pre .0) (start .pre .1) head filled full (loop .inv .1) (c .before .before .before .before .before .loop2-test .taken) (found .result) (found .ensures) _ (loop .inv .0), λ z. not-first (c .before .match .keys2) (ap (tagOf the-type) z))
+    let loop = at-loop-2 .loop2 in
+    (head-treating (start .pre .0) (start .pre .1) head filled full (loop .inv .1) (at-loop2-test .loop2-test .taken) (found .result) (found .ensures) _ (loop .inv .0), λ z. not-first (c .before .match .keys2) (ap (tagOf the-type) z))
 
 same-length : tie.Need-same-length Inv-loop μ-loop Inv-loop2 μ-loop2
 same-length c = c .before .before .treat .kept .1 .1 .1 .1 .0 ∙ ap length (c .before .before .before .before .before .before .before .before .before .loop2 .inv .0)
@@ -110,19 +145,26 @@ loop2-less c = search needs
 
 loop2-again : tie.Need-loop2-again Inv-loop μ-loop Inv-loop2 μ-loop2
 loop2-again c =
-    let start = c .before .before .before .before .before .before .before .before .before .before .before .before .before .before .before .before in
-    let head = c .before .before .before .before .before .before .before .before .before .before .head .ensures in
-    let filled = c .before .before .before .before .before .before .before .before .loop .inv in
-    let full = c .before .before .before .before .before .before .before .loop-test .left in
+    let at-loop2-test = c .before .before .before .before .before in
+    let at-loop-2 = at-loop2-test .before in
+    let at-loop-test = at-loop-2 .before in
+    let at-loop = at-loop-test .before in
+    let at-head = at-loop .before .before in
+    let start = at-head .before .before .before .before .before .before in
+    let head = at-head .head .ensures in
+    let filled = at-loop .loop .inv in
+    let full = at-loop-test .loop-test .left in
     let found = c .before .before .treatment-of in
-    let loop = c .before .before .before .before .before .before .loop2 in
-    (loop .inv .0, head-next (start .pre .0) (start .pre .1) head filled full (loop .inv .1) (c .before .before .before .before .before .loop2-test .taken) (found .result) (found .ensures) (c .enum-told .given .1))
+    let loop = at-loop-2 .loop2 in
+    (loop .inv .0, head-next (start .pre .0) (start .pre .1) head filled full (loop .inv .1) (at-loop2-test .loop2-test .taken) (found .result) (found .ensures) (c .enum-told .given .1))
 
 finish-requires : tie.Need-finish-requires Inv-loop μ-loop Inv-loop2 μ-loop2
 finish-requires c κs =
-    let start = c .before .before .before .before .before .before .before .before .before .before .before .before in
-    let head = c .before .before .before .before .before .before .head .ensures in
-    let filled = c .before .before .before .before .loop .inv in
+    let at-loop = c .before .before .before .before in
+    let at-head = at-loop .before .before in
+    let start = at-head .before .before .before .before .before .before in
+    let head = at-head .head .ensures in
+    let filled = at-loop .loop .inv in
     let full = c .before .before .before .loop-test .left in
     let loop = c .before .before .loop2 in
     head-finishing (start .pre .0) (start .pre .1) head filled full (loop .inv .1) (c .before .loop2-test .left) _ (loop .inv .0)

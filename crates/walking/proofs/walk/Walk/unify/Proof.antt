@@ -28,25 +28,39 @@ turned-requires : tie.Need-turned-requires
 turned-requires c κs = search needs
 
 returns : tie.Need-returns
-returns c = rw (c .turned .ensures) (unify-failed (c .before .before .before .before .before .before .before .before .before .before .before .pre .0) (c .before .before .before .before .before .before .before .before .before .before .before .pre .1) _ refl (c .before .before .before .before .unify-positions .result) (c .before .before .before .before .unify-positions .ensures) (c .before .before .enum-told2 .given .1))
+returns c =
+    let at-unify-positions = c .before .before .before .before in
+    let start = at-unify-positions .before .before .before .before .before .before .before in
+    rw (c .turned .ensures) (unify-failed (start .pre .0) (start .pre .1) _ refl (at-unify-positions .unify-positions .result) (at-unify-positions .unify-positions .ensures) (c .before .before .enum-told2 .given .1))
 
 put-without-requires : tie.Need-put-without-requires
-put-without-requires c κs = removal-fits (c .before .before .before .before .before .before .before .before .before .before .pre .0)
+put-without-requires c κs =
+    let start = c .before .before .before .before .before .before .before .before .before .before in
+    removal-fits (start .pre .0)
 
 slice-aggregate-differ : tie.Need-slice-aggregate-differ
-slice-aggregate-differ c = sym (line-slots (c .before .before .before .before .before .before .before .before .before .before .before .before .before .before .before .pre .0))
+slice-aggregate-differ c =
+    let start = c .before .before .before .before .before .before .before .before .before .before .before .before .before .before .before in
+    sym (line-slots (start .pre .0))
 
 slice-aggregate-differ-2 : tie.Need-slice-aggregate-differ-2
 slice-aggregate-differ-2 c = search needs
 
 differ-requires : tie.Need-differ-requires
-differ-requires c κs = (line-slots (c .before .before .before .before .before .before .before .before .before .before .before .before .before .before .before .before .pre .0), c .before .before .before .before .before .before .before .before .before .unify-positions .ensures .whole)
+differ-requires c κs =
+    let at-unify-positions = c .before .before .before .before .before .before .before .before .before in
+    let start = at-unify-positions .before .before .before .before .before .before .before in
+    (line-slots (start .pre .0), at-unify-positions .unify-positions .ensures .whole)
 
 slice-aggregate-rebind : tie.Need-slice-aggregate-rebind
 slice-aggregate-rebind c = search needs
 
 rebind-requires : tie.Need-rebind-requires
-rebind-requires c κs = (omega (arith, treating-place (c .before .before .before .before .before .before .before .before .before .before .before .before .before .before .before .before .before .before .before .before .pre .0 .treating), c .before .before .before .before .before .before .before .before .before .put-without .kept .1 .0), c .before .before .before .before .before .before .before .before .before .before .before .before .before .unify-positions .ensures .whole)
+rebind-requires c κs =
+    let at-put-without = c .before .before .before .before .before .before .before .before .before in
+    let at-unify-positions = at-put-without .before .before .before .before in
+    let start = at-unify-positions .before .before .before .before .before .before .before in
+    (omega (arith, treating-place (start .pre .0 .treating), at-put-without .put-without .kept .1 .0), at-unify-positions .unify-positions .ensures .whole)
 
 turned-requires-2 : tie.Need-turned-requires-2
 turned-requires-2 c κs = search needs
@@ -55,7 +69,12 @@ same-length : tie.Need-same-length
 same-length c = search needs
 
 returns-2 : tie.Need-returns-2
-returns-2 c = rw (c .turned2 .ensures) (unify-changed (c .before .before .before .before .before .before .before .before .before .before .before .before .before .before .before .before .before .before .before .before .before .before .before .before .pre .0) (c .before .before .before .before .before .before .before .before .before .before .before .before .before .before .before .before .before .before .before .before .before .before .before .before .pre .1) _ refl (c .before .before .before .before .before .before .before .before .before .before .before .before .before .before .before .before .before .unify-positions .result) (c .before .before .before .before .before .before .before .before .before .before .before .before .before .before .before .before .before .unify-positions .ensures) (c .before .before .before .before .before .before .before .before .before .before .before .before .before .before .before .enum-told .given .1) _ _ (c .before .before .before .before .before .before .before .before .before .before .before .before .before .put-without .ensures) (c .before .before .before .rebind .ensures))
+returns-2 c =
+    let at-put-without = c .before .before .before .before .before .before .before .before .before .before .before .before .before in
+    let at-enum-told = at-put-without .before .before in
+    let at-unify-positions = at-enum-told .before .before in
+    let start = at-unify-positions .before .before .before .before .before .before .before in
+    rw (c .turned2 .ensures) (unify-changed (start .pre .0) (start .pre .1) _ refl (at-unify-positions .unify-positions .result) (at-unify-positions .unify-positions .ensures) (at-enum-told .enum-told .given .1) _ _ (at-put-without .put-without .ensures) (c .before .before .before .rebind .ensures))
 
 turned-requires-3 : tie.Need-turned-requires-3
 turned-requires-3 c κs = search needs
@@ -64,7 +83,12 @@ same-length-2 : tie.Need-same-length-2
 same-length-2 c = search needs
 
 returns-3 : tie.Need-returns-3
-returns-3 c = rw (c .turned3 .ensures) (unify-kept (c .before .before .before .before .before .before .before .before .before .before .before .before .before .before .before .before .before .before .before .pre .0) (c .before .before .before .before .before .before .before .before .before .before .before .before .before .before .before .before .before .before .before .pre .1) _ refl (c .before .before .before .before .before .before .before .before .before .before .before .before .unify-positions .result) (c .before .before .before .before .before .before .before .before .before .before .before .before .unify-positions .ensures) (c .before .before .before .before .before .before .before .before .before .before .enum-told .given .1) _ (c .before .before .differ .ensures .same (c .before .if1 .left)) (c .before .before .before .before .before .before .before .before .put-without .ensures))
+returns-3 c =
+    let at-put-without = c .before .before .before .before .before .before .before .before in
+    let at-enum-told = at-put-without .before .before in
+    let at-unify-positions = at-enum-told .before .before in
+    let start = at-unify-positions .before .before .before .before .before .before .before in
+    rw (c .turned3 .ensures) (unify-kept (start .pre .0) (start .pre .1) _ refl (at-unify-positions .unify-positions .result) (at-unify-positions .unify-positions .ensures) (at-enum-told .enum-told .given .1) _ (c .before .before .differ .ensures .same (c .before .if1 .left)) (at-put-without .put-without .ensures))
 
 pub unify-spec : {M : Type 1} → statement M
 unify-spec =
