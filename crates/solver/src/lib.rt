@@ -1,3 +1,4 @@
 // One direction of an equation, solved.
 pub mod positions;
 pub mod solve;
+pub mod variables;

@@ -1,4 +1,5 @@
 // The walk of one direction over an equation's bytes.
+use crate::variables::collect_variables;
 use format::limits::Limits;
 use format::refusal::Refusal;
 use lines::edit::store;
@@ -14,6 +15,7 @@ ghost use lib.ListN.{length, take};
 ghost use Rattle.format.specs.Buffer.{written};
 ghost use Rattle.format.specs.Limits.{table-bytes};
 ghost use Rattle.unifying.specs.Contracts.PrefixForm.{InPrefixForm};
+ghost use Rattle.unifying.specs.Contracts.Sets.{HasVariables};
 ghost use Rattle.walking.specs.Contracts.Walking.{memory-bytes, Walking, WalkEnds};
 ghost use Rattle.solver.specs.Contracts.Reports.{ReportsWalk};
 
@@ -57,13 +59,13 @@ fn begin_walk(nodes: &[u8], sizes: &[u8], source: usize, target: usize, memory: 
 }
 
 // Turn after turn, until no line is unfinished or the walk is refused.
-fn go_on(walk: Walk, nodes: &[u8], sizes: &[u8], memory: &mut [u8]) -> Advanced
-    requires { ⌜ Walking (now nodes) (now sizes) (now memory) walk ⌝ }
+fn go_on(walk: Walk, nodes: &[u8], sizes: &[u8], variables: &[u16], memory: &mut [u8]) -> Advanced
+    requires { ⌜ Walking (now nodes) (now sizes) (now memory) walk × HasVariables (now nodes) (now sizes) (now variables) ⌝ }
     ensures { λ r. ⌜ WalkEnds (now (nodes .entry)) (now (sizes .entry)) (now (memory .exit)) walk r ⌝ }
 {
     let mut cursor = walk;
     while cursor.top < Limits::LINES {
-        let next = cursor.turn(nodes, sizes, memory);
+        let next = cursor.turn(nodes, sizes, variables, memory);
         let progress = next.progress;
         let Progress::Going = progress else {
             return next;
@@ -98,8 +100,11 @@ pub fn solve_positions(
     requires { ⌜ (table-bytes ≤ length (now table)) × (length (now memory) ≡ memory-bytes) ⌝ }
     ensures { λ r. ⌜ ReportsWalk (now (nodes .entry)) (now (sizes .entry)) source target (now (table .entry)) (now (table .exit)) r ⌝ }
 {
+    let n = nodes.len();
+    let mut variables = [0u16; Limits::POSITIONS];
+    collect_variables(nodes, sizes, &mut variables[..n]);
     let first = begin_walk(nodes, sizes, source, target, memory);
-    let last = go_on(first, nodes, sizes, memory);
+    let last = go_on(first, nodes, sizes, &variables[..n], memory);
     let walk = last.walk;
     let progress = last.progress;
     match progress {

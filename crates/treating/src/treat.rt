@@ -11,6 +11,7 @@ ghost use lib.ListN.{length};
 ghost use Rattle.solving.specs.Line.{greater};
 ghost use Rattle.solving.specs.Contracts.Within.{Within};
 ghost use Rattle.unifying.specs.Contracts.Bindings.{Readable};
+ghost use Rattle.unifying.specs.Contracts.Sets.{HasVariables};
 ghost use Rattle.lines.specs.Contracts.Resting.{meaning};
 ghost use Rattle.treating.specs.Contracts.Treatment.{Treated};
 
@@ -39,8 +40,14 @@ fn sides_of(p: u8, q: u8) -> Sides
 }
 
 // "Inequality l > r", by what l and r are.
-fn inequality_treatment(nodes: &[u8], sizes: &[u8], bindings: &[u8], sides: Sides) -> Treatment
-    requires { ⌜ Readable (now nodes) (now sizes) (now bindings) ⌝ }
+fn inequality_treatment(
+    nodes: &[u8],
+    sizes: &[u8],
+    variables: &[u16],
+    bindings: &[u8],
+    sides: Sides,
+) -> Treatment
+    requires { ⌜ Readable (now nodes) (now sizes) (now bindings) × HasVariables (now nodes) (now sizes) (now variables) ⌝ }
     requires { ⌜ (sides .left < length (now nodes)) × (sides .right < length (now nodes)) ⌝ }
     ensures { λ r. ⌜ Treated (now (nodes .entry)) (now (sizes .entry)) (now (bindings .entry)) (greater (sides .left) (sides .right)) r ⌝ }
 {
@@ -50,14 +57,28 @@ fn inequality_treatment(nodes: &[u8], sizes: &[u8], bindings: &[u8], sides: Side
     let t = reached(nodes, sizes, bindings, q);
     let f = nodes[s];
     if Limits::FIRST_VARIABLE <= f {
-        if occurs_at(nodes, sizes, bindings, wide(f - Limits::FIRST_VARIABLE), q) {
+        if occurs_at(
+            nodes,
+            sizes,
+            variables,
+            bindings,
+            wide(f - Limits::FIRST_VARIABLE),
+            q,
+        ) {
             return Treatment::DropLine;
         }
         return Treatment::Reduced;
     }
     let g = nodes[t];
     if Limits::FIRST_VARIABLE <= g {
-        if occurs_at(nodes, sizes, bindings, wide(g - Limits::FIRST_VARIABLE), p) {
+        if occurs_at(
+            nodes,
+            sizes,
+            variables,
+            bindings,
+            wide(g - Limits::FIRST_VARIABLE),
+            p,
+        ) {
             return Treatment::DropElement;
         }
         return Treatment::Reduced;
@@ -66,14 +87,26 @@ fn inequality_treatment(nodes: &[u8], sizes: &[u8], bindings: &[u8], sides: Side
     Treatment::Split(sides, terms)
 }
 
-pub fn treatment_of(nodes: &[u8], sizes: &[u8], bindings: &[u8], element: Element) -> Treatment
-    requires { ⌜ Readable (now nodes) (now sizes) (now bindings) ⌝ }
+pub fn treatment_of(
+    nodes: &[u8],
+    sizes: &[u8],
+    variables: &[u16],
+    bindings: &[u8],
+    element: Element,
+) -> Treatment
+    requires { ⌜ Readable (now nodes) (now sizes) (now bindings) × HasVariables (now nodes) (now sizes) (now variables) ⌝ }
     requires { ⌜ Within (length (now nodes)) (meaning element) ⌝ }
     ensures { λ r. ⌜ Treated (now (nodes .entry)) (now (sizes .entry)) (now (bindings .entry)) (meaning element) r ⌝ }
 {
     let relation = element.relation;
     match relation {
-        Relation::Greater(p, q) => inequality_treatment(nodes, sizes, bindings, sides_of(p, q)),
+        Relation::Greater(p, q) => inequality_treatment(
+            nodes,
+            sizes,
+            variables,
+            bindings,
+            sides_of(p, q),
+        ),
         Relation::Equal(p, q) => Treatment::Unify(sides_of(p, q)),
     }
 }

@@ -3,4 +3,4 @@ pub mod Occurrence
 pub mod Within
 pub mod Copied
 pub mod Rows
-pub mod Marks
+pub mod Bits

@@ -1,14 +1,13 @@
--- The occurs test that looks through each bound variable once finds what occurs.
-use Prim.Native.Nat.{ℕ, zero, suc, _+_, _-_, _<_}
+-- The occurs test that looks through each variable once finds what occurs.
+use Prim.Native.Nat.{ℕ, _+_, _-_, _≤_, _<_}
 use mathlib.Core.Path.{_≡_, refl, sym, ap, _∙_}
 use mathlib.Core.Bool.{Bool, true, false}
 use mathlib.Core.Option.{none, some}
 use mathlib.Core.List.{List}
 use mathlib.Core.Logic.{_⊎_, inl, inr, ⊎-elim}
-use lib.ListN.{length, getD, set, replicate, length-set, List·getD-eq-default}
-use lib.Seq.{getD-set-other}
+use lib.ListN.{length, getD, List·getD-eq-default}
 use native.Mathlib.Omega.{arith}
-use native.Mathlib.Decide.{ℕ-discrete, decLt}
+use native.Mathlib.Decide.{decLt}
 use Rattle.format.specs.Limits.{first-variable, variable-count, no-position}
 use Rattle.terms.specs.Position.{var-node}
 use Rattle.solving.specs.Line.{Bindings, lookup}
@@ -16,14 +15,13 @@ use Rattle.solving.specs.Walk.{enough, occurs}
 use Rattle.solving.specs.Theory.Seen.{bound-variable, variable-bound, occurs-up, occurs-back}
 use Rattle.solving.specs.Contracts.Seen.{Reaches, stays, goes, Occurs, here, inside}
 use Rattle.solving.specs.Theory.Reach.{enough-suffices, occurs-found, occurs-finds}
-use Rattle.solving.specs.Contracts.Bindings.{Proper}
 use Rattle.unifying.specs.Contracts.PrefixForm.{view-of, InPrefixForm}
-use Rattle.unifying.specs.Contracts.Bindings.{bindings-of}
+use Rattle.unifying.specs.Contracts.Bindings.{bindings-of, Readable}
 use Rattle.unifying.specs.Theory.PrefixForm.{getD-any, variable-seen, seen-variable, form-layout}
 use Rattle.unifying.specs.Theory.Bindings.{bound-byte, free-byte, lookup-byte, length-bindings, bound-there}
 use Rattle.unifying.proofs.Within.{Part, whole, inside as within, size-pos, part-at, part-start, part-end, part-argument}
-use Rattle.unifying.specs.Contracts.Marks.{OccursAmong, Covered, SearchedNodes}
-use Rattle.unifying.proofs.Marks.{set-keeps, covered-more}
+use Rattle.unifying.specs.Contracts.Sets.{Has, Singleton, Joined, Within, OccursAmong, HasVariables}
+use Rattle.unifying.specs.Theory.Sets.{none-has}
 
 -- A binding and its byte.
 bound-lookup : (bs : List ℕ) (w q : ℕ) → lookup (bindings-of bs) w ≡ some q → (getD bs w 0 < no-position) × (getD bs w 0 ≡ q)
@@ -37,55 +35,32 @@ bound-lookup bs w q e = go (decLt (getD bs w no-position) no-position) (decLt w 
     go (yes h) (no l) = let z : getD bs w no-position ≡ no-position = List·getD-eq-default bs no-position (omega arith) in absurd (omega arith)
     go (no h) d = let x = lookup-byte bs w ∙ free-byte (getD bs w no-position) (omega arith) in let z : _≡_ {A = ℕ} 0 1 = cc in absurd (omega arith)
 
--- The term at `q` was looked through, or is the next: it is the first, or a variable that is looked through is bound to it.
-pub data Visited (bs : List ℕ) (p : ℕ) (met : List ℕ) (q : ℕ) : Type 0 where
-  first : q ≡ p → Visited bs p met q
-  bound : (w : ℕ) → 1 < getD met w 0 → getD bs w 0 ≡ q → Visited bs p met q
+-- The term at `q` was looked through: it is the first, or a variable that was looked through is bound to it.
+pub data Visited (bs : List ℕ) (p through q : ℕ) : Type 0 where
+  first : q ≡ p → Visited bs p through q
+  bound : (w : ℕ) → Has through w → getD bs w 0 < no-position → getD bs w 0 ≡ q → Visited bs p through q
 
 -- The free variable `v` is looked for.
-pub record Sought (nodes sizes bs : List ℕ) (v : ℕ) : Type 0 where
-  pub laid : InPrefixForm nodes sizes
-  pub proper : Proper (view-of nodes sizes) variable-count (length nodes) (bindings-of bs)
+pub record Sought (nodes sizes variables bs : List ℕ) (v : ℕ) : Type 0 where
+  pub readable : Readable nodes sizes bs
+  pub sets : HasVariables nodes sizes variables
   pub free : lookup (bindings-of bs) v ≡ none
 
 abbrev OccursAt : (nodes sizes bs : List ℕ) → ℕ → ℕ → Type 0
 OccursAt nodes sizes bs v q = Occurs (view-of nodes sizes) (bindings-of bs) v q
 
-module _ (nodes sizes bs : List ℕ) (v p : ℕ) where
-  -- What is met is bound, to terms that are seen in the term at `p`.
-  pub record Marks (met : List ℕ) : Type 0 where
-    pub each : length met ≡ variable-count
-    pub bound : (w : ℕ) → 0 < getD met w 0 → getD bs w 0 < no-position
-    pub leads : (w : ℕ) → 0 < getD met w 0 → OccursAt nodes sizes bs v (getD bs w 0) → OccursAt nodes sizes bs v p
+-- A variable is seen in the term at `p`, through the bindings.
+pub record Seen (nodes sizes bs : List ℕ) (v p w : ℕ) : Type 0 where
+  pub low : w < variable-count
+  pub leads : getD bs w 0 < no-position → OccursAt nodes sizes bs v (getD bs w 0) → OccursAt nodes sizes bs v p
+  pub itself : w ≡ v → OccursAt nodes sizes bs v p
 
-  -- Before the term at `next` is looked through.
-  pub record Search (met : List ℕ) (next : ℕ) : Type 0 where
-    pub marks : Marks met
-    pub within : next < length nodes
-    pub leads : OccursAt nodes sizes bs v next → OccursAt nodes sizes bs v p
-    pub closed : (q : ℕ) → Visited bs p met q → (q ≡ next) ⊎ Covered nodes bs v met q (q + getD sizes q 0)
-
-  -- After it.
-  pub record Searched (met : List ℕ) : Type 0 where
-    pub marks : Marks met
-    pub closed : (q : ℕ) → Visited bs p met q → Covered nodes bs v met q (q + getD sizes q 0)
-
-zeros : (n w : ℕ) → getD (replicate {A = ℕ} n 0) w 0 ≡ 0
-zeros zero w = refl
-zeros (suc n) zero = refl
-zeros (suc n) (suc w) = zeros n w
-
-pub search-start : (nodes sizes bs : List ℕ) (v p : ℕ) → p < length nodes → Search nodes sizes bs v p (replicate variable-count 0) p
-search-start nodes sizes bs v p l = record {
-  marks = record { each = refl; bound = λ w h. absurd (omega (arith, zeros variable-count w)); leads = λ w h. absurd (omega (arith, zeros variable-count w)) };
-  within = l;
-  leads = λ o. o;
-  closed = start;
-}
-  where
-    start : (q : ℕ) → Visited bs p (replicate variable-count 0) q → (q ≡ p) ⊎ Covered nodes bs v (replicate variable-count 0) q (q + getD sizes q 0)
-    start q (first e) = inl e
-    start q (bound w h e) = absurd (omega (arith, zeros variable-count w))
+-- The variables that were seen in the term at `p`, and those of them that were looked through, which `v` is not among.
+pub record Search (nodes sizes variables bs : List ℕ) (v p seen through : ℕ) : Type 0 where
+  pub within : Within through seen
+  pub each : (w : ℕ) → Has seen w → Seen nodes sizes bs v p w
+  pub other : Has through v → ⊥
+  pub closed : (q : ℕ) → Visited bs p through q → Within (getD variables q 0) seen
 
 -- Occurrence passes up to the whole term.
 part-up : {nodes sizes : List ℕ} {θ : Bindings} {v i q : ℕ} → Part nodes sizes i q → Occurs (view-of nodes sizes) θ v i → Occurs (view-of nodes sizes) θ v q
@@ -109,124 +84,112 @@ seen-stands {nodes} {sizes} {i} {q} {w} laid l d e = record {
   byte = getD-any nodes i 0 first-variable l ∙ seen-variable laid i w e .0;
 }
 
-module _ {nodes sizes bs : List ℕ} {v : ℕ} (g : Sought nodes sizes bs v) where
+module _ {nodes sizes variables bs : List ℕ} {v : ℕ} (g : Sought nodes sizes variables bs v) where
+  laid : InPrefixForm nodes sizes
+  laid = g .readable .laid
+
   pub slots : length bs ≡ variable-count
-  slots = sym (length-bindings bs) ∙ g .proper .slots
+  slots = sym (length-bindings bs) ∙ g .readable .proper .slots
 
-  -- What stands in a term, and what a bound variable that stands there is bound to, occurs in it.
-  stands-occurs : {q : ℕ} → q < length nodes → OccursAmong nodes q (q + getD sizes q 0) v → OccursAt nodes sizes bs v q
-  stands-occurs l s =
-      let (a, e, d) = stands-seen (g .laid) l s in
-      part-up d (here (stays (variable-bound (bindings-of bs) e ∙ g .free)) e)
+  -- What stands in a term that is seen in the term at `p` is seen there.
+  stands-in : {p q w : ℕ} → q < length nodes → (OccursAt nodes sizes bs v q → OccursAt nodes sizes bs v p) → Has (getD variables q 0) w → Seen nodes sizes bs v p w
+  stands-in {p} {q} {w} l up h =
+      let (a, e, d) = stands-seen laid l (g .sets .each q (omega arith) l .stands w h) in
+      record {
+        low = a;
+        leads = λ b o. up (part-up d (occurs-back (variable-bound (bindings-of bs) e ∙ bound-there bs w (omega (arith, slots)) b) o));
+        itself = λ i. up (part-up d (here (stays (variable-bound (bindings-of bs) e ∙ ap (lookup (bindings-of bs)) i ∙ g .free)) (e ∙ ap var-node i)));
+      }
 
-  bound-occurs : {q w : ℕ} → q < length nodes → OccursAmong nodes q (q + getD sizes q 0) w → getD bs w 0 < no-position → OccursAt nodes sizes bs v (getD bs w 0) → OccursAt nodes sizes bs v q
-  bound-occurs {w = w} l s b o =
-      let (a, e, d) = stands-seen (g .laid) l s in
-      part-up d (occurs-back (variable-bound (bindings-of bs) e ∙ bound-there bs w (omega (arith, slots)) b) o)
-
-  module _ {p : ℕ} where
-    pub search-found : {met : List ℕ} {next : ℕ} → Search nodes sizes bs v p met next → OccursAmong nodes next (next + getD sizes next 0) v → OccursAt nodes sizes bs v p
-    search-found k s = k .leads (stands-occurs (k .within) s)
-
-    pub search-passed : {met after : List ℕ} {next : ℕ} → Search nodes sizes bs v p met next → SearchedNodes nodes bs v next (next + getD sizes next 0) met after → Searched nodes sizes bs v p after
-    search-passed {met} {after} {next} k a = record {
-      marks = record { each = a .same-length ∙ k .marks .each; bound = λ w h. bound-now w h (decLt 0 (getD met w 0)); leads = λ w h o. leads-now w h o (decLt 0 (getD met w 0)) };
-      closed = closed;
+  module _ {p : ℕ} (l : p < length nodes) where
+    pub search-start : Search nodes sizes variables bs v p (getD variables p 0) 0
+    search-start = record {
+      within = record { each = λ w h. absurd (none-has w h) };
+      each = λ w h. stands-in l (λ o. o) h;
+      other = none-has v;
+      closed = start;
     }
       where
-        bound-now : (w : ℕ) → 0 < getD after w 0 → Dec (0 < getD met w 0) → getD bs w 0 < no-position
-        bound-now w h (yes l) = k .marks .bound w l
-        bound-now w h (no l) = a .new w (omega arith) h .1
+        start : (q : ℕ) → Visited bs p 0 q → Within (getD variables q 0) (getD variables p 0)
+        start q (first e) = rw e (record { each = λ w h. h })
+        start q (bound w h b e) = absurd (none-has w h)
 
-        leads-now : (w : ℕ) → 0 < getD after w 0 → OccursAt nodes sizes bs v (getD bs w 0) → Dec (0 < getD met w 0) → OccursAt nodes sizes bs v p
-        leads-now w h o (yes l) = k .marks .leads w l o
-        leads-now w h o (no l) = let (x, b, s) = a .new w (omega arith) h in k .leads (bound-occurs (k .within) s b o)
+    module _ {seen through : ℕ} (k : Search nodes sizes variables bs v p seen through) where
+      -- The term that a variable is bound to.
+      pub bound-within : {w : ℕ} → Has seen w → getD bs w 0 < no-position → getD bs w 0 < length nodes
+      bound-within {w} h b = g .readable .proper .within w (getD bs w 0) (bound-there bs w (omega (arith, slots, k .each w h .low)) b)
 
-        kept : (w : ℕ) → 0 < getD met w 0 → 0 < getD after w 0
-        kept w l = omega (arith, a .kept w l)
-
-        done : {q : ℕ} (w : ℕ) → 1 < getD after w 0 → getD bs w 0 ≡ q → Dec (0 < getD met w 0) → Visited bs p met q
-        done w h e (yes l) = bound w (omega (arith, a .kept w l)) e
-        done w h e (no l) = absurd (omega (arith, a .new w (omega arith) (omega arith) .0))
-
-        before : {q : ℕ} → Visited bs p after q → Visited bs p met q
-        before (first e) = first e
-        before (bound w h e) = done w h e (decLt 0 (getD met w 0))
-
-        closed : (q : ℕ) → Visited bs p after q → Covered nodes bs v after q (q + getD sizes q 0)
-        closed q x = ⊎-elim (λ e. rw e (a .closed)) (λ c. covered-more kept c) (k .closed q (before x))
-
-    -- A variable that is met is looked through next.
-    pub search-next : {met : List ℕ} → Searched nodes sizes bs v p met → (w : ℕ) → getD met w 0 ≡ 1 → w < variable-count → Search nodes sizes bs v p (set met w 2) (getD bs w 0)
-    search-next {met} k w e l = record {
-      marks = record {
-        each = length-set met w 2 ∙ k .marks .each;
-        bound = λ u h. k .marks .bound u (met-before u h (ℕ-discrete u w));
-        leads = λ u h. k .marks .leads u (met-before u h (ℕ-discrete u w));
-      };
-      within = g .proper .within w (getD bs w 0) (bound-there bs w (omega (arith, slots)) (k .marks .bound w (omega arith)));
-      leads = k .marks .leads w (omega arith);
-      closed = closed;
-    }
-      where
-        met-before : (u : ℕ) → 0 < getD (set met w 2) u 0 → Dec (u ≡ w) → 0 < getD met u 0
-        met-before u h (yes x) = rw x (omega arith)
-        met-before u h (no n) = omega (arith, getD-set-other met w u 2 0 n)
-
-        more : {q : ℕ} → Visited bs p met q → Covered nodes bs v (set met w 2) q (q + getD sizes q 0)
-        more {q} x = covered-more (set-keeps met w 2 (omega arith)) (k .closed q x)
-
-        done : {q : ℕ} (u : ℕ) → 1 < getD (set met w 2) u 0 → getD bs u 0 ≡ q → Dec (u ≡ w) → (q ≡ getD bs w 0) ⊎ Covered nodes bs v (set met w 2) q (q + getD sizes q 0)
-        done u h x (yes d) = inl (sym x ∙ ap (λ (y : ℕ). getD bs y 0) d)
-        done u h x (no n) = inr (more (bound u (omega (arith, getD-set-other met w u 2 0 n)) x))
-
-        closed : (q : ℕ) → Visited bs p (set met w 2) q → (q ≡ getD bs w 0) ⊎ Covered nodes bs v (set met w 2) q (q + getD sizes q 0)
-        closed q (first x) = inr (more (first x))
-        closed q (bound u h x) = done u h x (ℕ-discrete u w)
-
-    -- Where no variable is left to look through, `v` does not occur.
-    module _ {met : List ℕ} (k : Searched nodes sizes bs v p met) (none-left : (w : ℕ) → w < variable-count → getD met w 0 ≡ 1 → ⊥) (l : p < length nodes) where
-      met-done : (w : ℕ) → 0 < getD met w 0 → 1 < getD met w 0
-      met-done w h = go (decLt w variable-count) (ℕ-discrete (getD met w 0) 1)
+      -- A variable more is looked through. What its term has is seen now, if it has one.
+      search-next : {w one more now : ℕ} → Has seen w → (w ≡ v → ⊥) → Singleton w one → Joined through one more → Within seen now
+          → ((u : ℕ) → Has now u → Has seen u ⊎ ((getD bs w 0 < no-position) × Has (getD variables (getD bs w 0) 0) u))
+          → (getD bs w 0 < no-position → Within (getD variables (getD bs w 0) 0) now)
+          → Search nodes sizes variables bs v p now more
+      search-next {w} {one} {more} {now} h n s j up new own = record {
+        within = record { each = λ u x. ⊎-elim (λ y. up .each u (k .within .each u y)) (λ y. up .each u (rw (s .alone u y) h)) (j .either u x) };
+        each = λ u x. ⊎-elim (λ y. k .each u y) (λ y. behind u (y .0) (y .1)) (new u x);
+        other = λ x. ⊎-elim (k .other) (λ y. n (sym (s .alone v y))) (j .either v x);
+        closed = closed;
+      }
         where
-          go : Dec (w < variable-count) → Dec (getD met w 0 ≡ 1) → 1 < getD met w 0
-          go (yes m) (yes e) = absurd (none-left w m e)
-          go (yes m) (no n) = omega arith
-          go (no m) d = let z : getD met w 0 ≡ 0 = List·getD-eq-default met 0 (omega (arith, k .marks .each)) in absurd (omega arith)
+          behind : (u : ℕ) → getD bs w 0 < no-position → Has (getD variables (getD bs w 0) 0) u → Seen nodes sizes bs v p u
+          behind u b x = stands-in (bound-within h b) (k .each w h .leads b) x
 
-      -- A position in a term that was looked through.
-      record Inside (i : ℕ) : Type 0 where
-        root : ℕ
-        visited : Visited bs p met root
-        part : Part nodes sizes i root
-        low : i < length nodes
+          risen : {q : ℕ} → Visited bs p through q → Within (getD variables q 0) now
+          risen {q} x = record { each = λ u y. up .each u (k .closed q x .each u y) }
 
-      reaches-inside : {i r : ℕ} → Reaches (view-of nodes sizes) (bindings-of bs) i r → Inside i → Inside r
-      reaches-inside (stays e) x = x
-      reaches-inside (goes {p = i} {q = q} e c) x =
-          let (w, d, y) = bound-variable (bindings-of bs) (view-of nodes sizes i) q e in
-          let (b, z) = bound-lookup bs w q y in
-          let m = met-done w (k .closed (x .root) (x .visited) .marked w (seen-stands (g .laid) (x .low) (x .part) d) b) in
-          reaches-inside c (record { root = q; visited = bound w m z; part = whole; low = g .proper .within w q y })
+          closed : (q : ℕ) → Visited bs p more q → Within (getD variables q 0) now
+          closed q (first e) = risen (first e)
+          closed q (bound u x b e) =
+              ⊎-elim (λ y. risen (bound u y b e)) (λ y. let i = s .alone u y in rw (← e, i) (own (rw i at b))) (j .either u x)
 
-      nowhere : {i : ℕ} → Inside i → OccursAt nodes sizes bs v i → ⊥
-      nowhere x (here c e) = let y = reaches-inside c x in k .closed (y .root) (y .visited) .absent (seen-stands (g .laid) (y .low) (y .part) e)
-      nowhere x (inside {r = r} {f = f} {c = c} {ps = ps} a e j o) =
-          let y = reaches-inside a x in
-          nowhere (record { root = y .root; visited = y .visited; part = part-argument (y .part) e j; low = form-layout (g .laid) .argument-within r f c ps e j }) o
+      module _ {w one more : ℕ} (h : Has seen w) (n : w ≡ v → ⊥) (s : Singleton w one) (j : Joined through one more) where
+        pub search-free : no-position ≤ getD bs w 0 → Search nodes sizes variables bs v p seen more
+        search-free b = search-next h n s j (record { each = λ u x. x }) (λ u x. inl x) (λ x. absurd (omega arith))
 
-      pub search-nowhere : OccursAt nodes sizes bs v p → ⊥
-      search-nowhere o = nowhere (record { root = p; visited = first refl; part = whole; low = l }) o
+        pub search-bound : {now : ℕ} → getD bs w 0 < no-position → Joined seen (getD variables (getD bs w 0) 0) now → Search nodes sizes variables bs v p now more
+        search-bound b i = search-next h n s j (record { each = i .left }) (λ u x. ⊎-elim inl (λ y. inr (b, y)) (i .either u x)) (λ x. record { each = i .right })
+
+      search-found : {w : ℕ} → Has seen w → w ≡ v → OccursAt nodes sizes bs v p
+      search-found {w} h e = k .each w h .itself e
+
+      -- Where all that was seen was looked through, `v` does not occur.
+      module _ (all : seen ≡ through) where
+        -- A position in a term that was looked through.
+        record Inside (i : ℕ) : Type 0 where
+          root : ℕ
+          visited : Visited bs p through root
+          part : Part nodes sizes i root
+          inner : i < length nodes
+
+        stands-through : {i w : ℕ} (x : Inside i) → view-of nodes sizes i ≡ var-node w → Has through w
+        stands-through {i} {w} x e =
+            let h = g .sets .each (x .root) (omega arith) (omega (arith, part-start laid (x .part), x .inner)) .has w (seen-stands laid (x .inner) (x .part) e) in
+            rw all at (k .closed (x .root) (x .visited) .each w h)
+
+        reaches-inside : {i r : ℕ} → Reaches (view-of nodes sizes) (bindings-of bs) i r → Inside i → Inside r
+        reaches-inside (stays e) x = x
+        reaches-inside (goes {p = i} {q = q} e c) x =
+            let (w, d, y) = bound-variable (bindings-of bs) (view-of nodes sizes i) q e in
+            let (b, z) = bound-lookup bs w q y in
+            reaches-inside c (record { root = q; visited = bound w (stands-through x d) b z; part = whole; inner = g .readable .proper .within w q y })
+
+        nowhere : {i : ℕ} → Inside i → OccursAt nodes sizes bs v i → ⊥
+        nowhere x (here c e) = k .other (stands-through (reaches-inside c x) e)
+        nowhere x (inside {r = r} {f = f} {c = c} {ps = ps} a e j o) =
+            let y = reaches-inside a x in
+            nowhere (record { root = y .root; visited = y .visited; part = part-argument (y .part) e j; inner = form-layout laid .argument-within r f c ps e j }) o
+
+        search-nowhere : OccursAt nodes sizes bs v p → ⊥
+        search-nowhere o = nowhere (record { root = p; visited = first refl; part = whole; inner = l }) o
 
 -- What the search says is what the walk's own test says.
-pub search-true : {nodes sizes bs met : List ℕ} {v p next : ℕ} → Sought nodes sizes bs v → Search nodes sizes bs v p met next → OccursAmong nodes next (next + getD sizes next 0) v
-    → true ≡ occurs enough (view-of nodes sizes) (enough .occurs-depth) (bindings-of bs) v p
-search-true g k s = sym (occurs-finds (form-layout (g .laid)) (enough-suffices (g .laid .few)) (g .proper) (search-found g k s))
+module _ {nodes sizes variables bs : List ℕ} {v p seen through : ℕ} (g : Sought nodes sizes variables bs v) (l : p < length nodes) (k : Search nodes sizes variables bs v p seen through) where
+  pub search-true : {w : ℕ} → Has seen w → w ≡ v → true ≡ occurs enough (view-of nodes sizes) (enough .occurs-depth) (bindings-of bs) v p
+  search-true h e = sym (occurs-finds (form-layout (laid g)) (enough-suffices (laid g .few)) (g .readable .proper) (search-found g l k h e))
 
-pub search-false : {nodes sizes bs met : List ℕ} {v p : ℕ} → Sought nodes sizes bs v → Searched nodes sizes bs v p met → ((w : ℕ) → w < variable-count → getD met w 0 ≡ 1 → ⊥) → p < length nodes
-    → false ≡ occurs enough (view-of nodes sizes) (enough .occurs-depth) (bindings-of bs) v p
-search-false {nodes} {sizes} {bs} {v = v} {p = p} g k n l = go (occurs enough (view-of nodes sizes) (enough .occurs-depth) (bindings-of bs) v p) refl
-  where
-    go : (b : Bool) → occurs enough (view-of nodes sizes) (enough .occurs-depth) (bindings-of bs) v p ≡ b → false ≡ b
-    go true e = absurd (search-nowhere g k n l (occurs-found (form-layout (g .laid)) (enough-suffices (g .laid .few)) (g .proper) (enough .occurs-depth) v p e))
-    go false e = refl
+  pub search-false : seen ≡ through → false ≡ occurs enough (view-of nodes sizes) (enough .occurs-depth) (bindings-of bs) v p
+  search-false a = go (occurs enough (view-of nodes sizes) (enough .occurs-depth) (bindings-of bs) v p) refl
+    where
+      go : (b : Bool) → occurs enough (view-of nodes sizes) (enough .occurs-depth) (bindings-of bs) v p ≡ b → false ≡ b
+      go true e = absurd (search-nowhere g l k a (occurs-found (form-layout (laid g)) (enough-suffices (laid g .few)) (g .readable .proper) (enough .occurs-depth) v p e))
+      go false e = refl

@@ -1,15 +1,15 @@
 -- The positions of a term: its own, and those of its arguments.
-use Prim.Native.Nat.{ℕ, zero, suc, _+_, _-_, _≤_, _<_}
+use Prim.Native.Nat.{ℕ, zero, suc, _+_, _≤_, _<_}
 use mathlib.Core.Path.{_≡_}
 use mathlib.Core.List.{List, _∷_}
 use lib.ListN.{length, getD}
 use native.Mathlib.Omega.{arith}
 use native.Mathlib.Decide.{ℕ-discrete, decLt}
-use Rattle.format.specs.Limits.{first-variable, variable-count}
+use Rattle.format.specs.Limits.{first-variable}
 use Rattle.terms.specs.Position.{app-node}
 use Rattle.terms.specs.Theory.View.{In, head, tail}
 use Rattle.unifying.specs.Contracts.PrefixForm.{view-of, Row, none, more, InPrefixForm}
-use Rattle.unifying.specs.Theory.PrefixForm.{getD-any, row-ordered, row-start, row-end, row-some, symbol-seen, seen-symbol}
+use Rattle.unifying.specs.Theory.PrefixForm.{row-ordered, row-start, row-end, row-some, symbol-seen, seen-symbol}
 
 -- The term at `i` is a part of the term at `p`.
 pub data Part (nodes sizes : List ℕ) (i : ℕ) : ℕ → Type 0 where
@@ -62,10 +62,3 @@ module _ {nodes sizes : List ℕ} (laid : InPrefixForm nodes sizes) where
   pub part-end : {p i : ℕ} → Part nodes sizes i p → i + getD sizes i 0 ≤ p + getD sizes p 0
   part-end whole = omega arith
   part-end (inside {p = p} {f = f} {ps = ps} e j d) = omega (arith, part-end d, row-end (seen-symbol laid p f ps e .4) j)
-
-  -- What the code reads: a position of a term has a byte, and a variable there a number.
-  pub within-nodes : (p : ℕ) {r : ℕ} → p < length nodes → r ≡ getD sizes p 0 → (i : ℕ) → i < p + r → i < length nodes
-  within-nodes p l e i h = omega (arith, laid .ends-within p l)
-
-  pub variable-index : (i : ℕ) {w : ℕ} → i < length nodes → first-variable ≤ getD nodes i 0 → w ≡ getD nodes i 0 - first-variable → w < variable-count
-  variable-index i l h e = let x = getD-any nodes i 0 first-variable l in omega (arith, laid .variable-low i l (omega arith))

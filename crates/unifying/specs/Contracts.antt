@@ -4,5 +4,5 @@ pub mod Equation
 pub mod Unifier
 pub mod Unify
 pub mod Bindings
-pub mod Marks
+pub mod Sets
 pub mod PrefixForm

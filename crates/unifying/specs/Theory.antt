@@ -4,3 +4,4 @@ pub mod Front
 pub mod Unify
 pub mod Bindings
 pub mod PrefixForm
+pub mod Sets

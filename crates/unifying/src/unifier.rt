@@ -5,6 +5,7 @@ use format::limits::Limits;
 ghost use Prim.Native.Nat.{_<_};
 ghost use lib.ListN.{length};
 ghost use Rattle.unifying.specs.Contracts.Bindings.{Readable};
+ghost use Rattle.unifying.specs.Contracts.Sets.{HasVariables};
 ghost use Rattle.unifying.specs.Contracts.Unifier.{Unifies};
 
 // Whether there is a unifier, and the bindings that give it.
@@ -17,8 +18,15 @@ pub struct Unifier {
 const DEPTH: usize = Limits::POSITIONS + 1;
 
 // Unifies the terms at two positions. The bindings stay as they are.
-pub fn unify_positions(nodes: &[u8], sizes: &[u8], bindings: &[u8], p: usize, q: usize) -> Unifier
-    requires { ⌜ Readable (now nodes) (now sizes) (now bindings) ⌝ }
+pub fn unify_positions(
+    nodes: &[u8],
+    sizes: &[u8],
+    variables: &[u16],
+    bindings: &[u8],
+    p: usize,
+    q: usize,
+) -> Unifier
+    requires { ⌜ Readable (now nodes) (now sizes) (now bindings) × HasVariables (now nodes) (now sizes) (now variables) ⌝ }
     requires { ⌜ (p < length (now nodes)) × (q < length (now nodes)) ⌝ }
     ensures { λ r. ⌜ Unifies (now (nodes .entry)) (now (sizes .entry)) (now (bindings .entry)) p q r ⌝ }
 {
@@ -26,7 +34,7 @@ pub fn unify_positions(nodes: &[u8], sizes: &[u8], bindings: &[u8], p: usize, q:
     for i in 0..Limits::VARIABLES {
         own[i] = bindings[i];
     }
-    let answer = unify_terms(nodes, sizes, &mut own, p, q, DEPTH);
+    let answer = unify_terms(nodes, sizes, variables, &mut own, p, q, DEPTH);
     Unifier {
         answer: answer,
         bindings: own,

@@ -16,6 +16,7 @@ ghost use Rattle.solving.specs.Line.{lookup};
 ghost use Rattle.solving.specs.Walk.{enough, occurs, bind-unless, unify-variables};
 ghost use Rattle.unifying.specs.Contracts.PrefixForm.{view-of};
 ghost use Rattle.unifying.specs.Contracts.Bindings.{bindings-of, Readable};
+ghost use Rattle.unifying.specs.Contracts.Sets.{HasVariables};
 ghost use Rattle.unifying.specs.Contracts.Unify.{answered, FreeAt, HasRows, BindsTo, UnifiesSymbols, UnifiesTo, UnifiesRows};
 
 // Whether there is a unifier; the bindings beside it are then those that give it.
@@ -41,12 +42,19 @@ fn bind_variables(bindings: &mut [u8], v: usize, w: usize, p: usize, q: usize) -
 }
 
 // "Variable and term: bind to the term's position unless it occurs there."
-fn bind_term(nodes: &[u8], sizes: &[u8], bindings: &mut [u8], v: usize, p: usize) -> Answer
-    requires { ⌜ Readable (now nodes) (now sizes) (now bindings) × (p < length (now nodes)) ⌝ }
+fn bind_term(
+    nodes: &[u8],
+    sizes: &[u8],
+    variables: &[u16],
+    bindings: &mut [u8],
+    v: usize,
+    p: usize,
+) -> Answer
+    requires { ⌜ Readable (now nodes) (now sizes) (now bindings) × HasVariables (now nodes) (now sizes) (now variables) × (p < length (now nodes)) ⌝ }
     requires { ⌜ (v < variable-count) × (lookup (bindings-of (now bindings)) v ≡ none) ⌝ }
     ensures { λ r. ⌜ bind-unless (occurs enough (view-of (now (nodes .entry)) (now (sizes .entry))) (enough .occurs-depth) (bindings-of (now (bindings .entry))) v p) (bindings-of (now (bindings .entry))) v p ≡ answered r (bindings-of (now (bindings .exit))) ⌝ }
 {
-    if occurs_at(nodes, sizes, bindings, v, p) {
+    if occurs_at(nodes, sizes, variables, bindings, v, p) {
         return Answer::Failed;
     }
     bindings[v] = p as u8;
@@ -54,8 +62,15 @@ fn bind_term(nodes: &[u8], sizes: &[u8], bindings: &mut [u8], v: usize, p: usize
 }
 
 // Binds a variable at one of two positions that are reached.
-fn bind_reached(nodes: &[u8], sizes: &[u8], bindings: &mut [u8], s: usize, t: usize) -> Answer
-    requires { ⌜ Readable (now nodes) (now sizes) (now bindings) ⌝ }
+fn bind_reached(
+    nodes: &[u8],
+    sizes: &[u8],
+    variables: &[u16],
+    bindings: &mut [u8],
+    s: usize,
+    t: usize,
+) -> Answer
+    requires { ⌜ Readable (now nodes) (now sizes) (now bindings) × HasVariables (now nodes) (now sizes) (now variables) ⌝ }
     requires { ⌜ FreeAt (now nodes) (now sizes) (now bindings) s × FreeAt (now nodes) (now sizes) (now bindings) t ⌝ }
     requires { ⌜ (getD (now nodes) s 0 < first-variable → first-variable ≤ getD (now nodes) t 0) ⌝ }
     ensures { λ r. ⌜ BindsTo (now (nodes .entry)) (now (sizes .entry)) (bindings-of (now (bindings .entry))) s t r (bindings-of (now (bindings .exit))) ⌝ }
@@ -63,10 +78,24 @@ fn bind_reached(nodes: &[u8], sizes: &[u8], bindings: &mut [u8], s: usize, t: us
     let f = nodes[s];
     let g = nodes[t];
     if f < Limits::FIRST_VARIABLE {
-        return bind_term(nodes, sizes, bindings, wide(g - Limits::FIRST_VARIABLE), s);
+        return bind_term(
+            nodes,
+            sizes,
+            variables,
+            bindings,
+            wide(g - Limits::FIRST_VARIABLE),
+            s,
+        );
     }
     if g < Limits::FIRST_VARIABLE {
-        return bind_term(nodes, sizes, bindings, wide(f - Limits::FIRST_VARIABLE), t);
+        return bind_term(
+            nodes,
+            sizes,
+            variables,
+            bindings,
+            wide(f - Limits::FIRST_VARIABLE),
+            t,
+        );
     }
     bind_variables(
         bindings,
@@ -81,12 +110,13 @@ fn bind_reached(nodes: &[u8], sizes: &[u8], bindings: &mut [u8], s: usize, t: us
 pub fn unify_terms(
     nodes: &[u8],
     sizes: &[u8],
+    variables: &[u16],
     bindings: &mut [u8],
     p: usize,
     q: usize,
     depth: usize,
 ) -> Answer
-    requires { ⌜ Readable (now nodes) (now sizes) (now bindings) ⌝ }
+    requires { ⌜ Readable (now nodes) (now sizes) (now bindings) × HasVariables (now nodes) (now sizes) (now variables) ⌝ }
     requires { ⌜ (p < length (now nodes)) × (q < length (now nodes)) ⌝ }
     ensures { λ r. ⌜ UnifiesTo (now (nodes .entry)) (now (sizes .entry)) depth (bindings-of (now (bindings .entry))) p q r (bindings-of (now (bindings .exit))) ⌝ }
 {
@@ -101,22 +131,23 @@ pub fn unify_terms(
     }
     if nodes[s] < Limits::FIRST_VARIABLE {
         if nodes[t] < Limits::FIRST_VARIABLE {
-            return unify_symbols(nodes, sizes, bindings, s, t, depth - 1);
+            return unify_symbols(nodes, sizes, variables, bindings, s, t, depth - 1);
         }
     }
-    bind_reached(nodes, sizes, bindings, s, t)
+    bind_reached(nodes, sizes, variables, bindings, s, t)
 }
 
 // Unifies two terms that are no variables, their arguments at most `depth` deep.
 fn unify_symbols(
     nodes: &[u8],
     sizes: &[u8],
+    variables: &[u16],
     bindings: &mut [u8],
     s: usize,
     t: usize,
     depth: usize,
 ) -> Answer
-    requires { ⌜ Readable (now nodes) (now sizes) (now bindings) ⌝ }
+    requires { ⌜ Readable (now nodes) (now sizes) (now bindings) × HasVariables (now nodes) (now sizes) (now variables) ⌝ }
     requires { ⌜ (s < length (now nodes)) × (getD (now nodes) s 0 < first-variable) ⌝ }
     requires { ⌜ (t < length (now nodes)) × (getD (now nodes) t 0 < first-variable) ⌝ }
     ensures { λ r. ⌜ UnifiesSymbols (now (nodes .entry)) (now (sizes .entry)) depth (bindings-of (now (bindings .entry))) s t r (bindings-of (now (bindings .exit))) ⌝ }
@@ -126,31 +157,40 @@ fn unify_symbols(
     }
     let left = arguments_of(sizes, s);
     let right = arguments_of(sizes, t);
-    unify_rows(nodes, sizes, bindings, left, right, depth)
+    unify_rows(nodes, sizes, variables, bindings, left, right, depth)
 }
 
 // Unifies the terms of two rows, one by one.
 fn unify_rows(
     nodes: &[u8],
     sizes: &[u8],
+    variables: &[u16],
     bindings: &mut [u8],
     left: Arguments,
     right: Arguments,
     depth: usize,
 ) -> Answer
-    requires { ⌜ Readable (now nodes) (now sizes) (now bindings) ⌝ }
+    requires { ⌜ Readable (now nodes) (now sizes) (now bindings) × HasVariables (now nodes) (now sizes) (now variables) ⌝ }
     requires { ⌜ HasRows (now nodes) (now sizes) left right ⌝ }
     ensures { λ r. ⌜ UnifiesRows (now (nodes .entry)) (now (sizes .entry)) depth (bindings-of (now (bindings .entry))) left right r (bindings-of (now (bindings .exit))) ⌝ }
 {
     if left.from < left.end {
         if right.from < right.end {
-            let answer = unify_terms(nodes, sizes, bindings, left.from, right.from, depth);
+            let answer = unify_terms(
+                nodes,
+                sizes,
+                variables,
+                bindings,
+                left.from,
+                right.from,
+                depth,
+            );
             let Answer::Unified = answer else {
                 return Answer::Failed;
             };
             let others = other_arguments(sizes, left);
             let opposite = other_arguments(sizes, right);
-            return unify_rows(nodes, sizes, bindings, others, opposite, depth);
+            return unify_rows(nodes, sizes, variables, bindings, others, opposite, depth);
         }
         return Answer::Failed;
     }

@@ -33,6 +33,7 @@ use unifying::unify::Answer;
 ghost use mathlib.Core.Path.{_≡_};
 ghost use Prim.Native.Nat.{_+_, _<_};
 ghost use Rattle.format.specs.Limits.{max-lines, max-turns};
+ghost use Rattle.unifying.specs.Contracts.Sets.{HasVariables};
 ghost use Rattle.treating.specs.declared.treat.Treatment.the-variants.{DropElement, Reduced, Split, Unify};
 ghost use Rattle.walking.specs.declared.walk.Progress.the-variants.{Going};
 ghost use Rattle.walking.specs.Contracts.Walking.{Walking, Finishing, TreatingLine, TreatingCount, GoesOn, Advances};
@@ -109,16 +110,17 @@ impl Walk {
         line: Line,
         nodes: &[u8],
         sizes: &[u8],
+        variables: &[u16],
         memory: &mut [u8],
         at: usize,
         sides: Sides,
     ) -> Walk
-        requires { ⌜ TreatingLine (now nodes) (now sizes) (now memory) self line at (Unify sides) × (self .turns < max-turns) ⌝ }
+        requires { ⌜ TreatingLine (now nodes) (now sizes) (now memory) self line at (Unify sides) × (self .turns < max-turns) × HasVariables (now nodes) (now sizes) (now variables) ⌝ }
         ensures { λ r. ⌜ GoesOn (now (nodes .entry)) (now (sizes .entry)) (now (memory .exit)) self r ⌝ }
     {
         let place = self.top * LINE;
         let bindings = line.bindings;
-        let unifier = unify_positions(nodes, sizes, &bindings, sides.left, sides.right);
+        let unifier = unify_positions(nodes, sizes, variables, &bindings, sides.left, sides.right);
         let answer = unifier.answer;
         let Answer::Unified = answer else {
             return self.turned(self.top + 1);
@@ -176,11 +178,12 @@ impl Walk {
         line: Line,
         nodes: &[u8],
         sizes: &[u8],
+        variables: &[u16],
         memory: &mut [u8],
         element: u8,
         treatment: Treatment,
     ) -> Advanced
-        requires { ⌜ TreatingLine (now nodes) (now sizes) (now memory) self line element treatment × (treatment ≡ Reduced → ⊥) ⌝ }
+        requires { ⌜ TreatingLine (now nodes) (now sizes) (now memory) self line element treatment × (treatment ≡ Reduced → ⊥) × HasVariables (now nodes) (now sizes) (now variables) ⌝ }
         ensures { λ r. ⌜ Advances (now (nodes .entry)) (now (sizes .entry)) (now (memory .exit)) self r ⌝ }
     {
         if self.turns == Limits::TURNS {
@@ -194,7 +197,15 @@ impl Walk {
             Treatment::Reduced => going(self),
             Treatment::DropLine => going(self.turned(self.top + 1)),
             Treatment::DropElement => going(self.drop_element(line, nodes, sizes, memory, at)),
-            Treatment::Unify(sides) => going(self.unify(line, nodes, sizes, memory, at, sides)),
+            Treatment::Unify(sides) => going(self.unify(
+                line,
+                nodes,
+                sizes,
+                variables,
+                memory,
+                at,
+                sides,
+            )),
             Treatment::Split(sides, terms) => self.split(
                 line.count,
                 nodes,
@@ -209,8 +220,8 @@ impl Walk {
 
     // "Take the first unfinished line and in it the leftmost element that is not fully reduced. Treating it is one turn." A line that has none is finished.
     // The line is filled and searched here, where it is a local: handed to a function it would be copied before each search.
-    pub fn turn(self, nodes: &[u8], sizes: &[u8], memory: &mut [u8]) -> Advanced
-        requires { ⌜ Walking (now nodes) (now sizes) (now memory) self × (self .top < max-lines) ⌝ }
+    pub fn turn(self, nodes: &[u8], sizes: &[u8], variables: &[u16], memory: &mut [u8]) -> Advanced
+        requires { ⌜ Walking (now nodes) (now sizes) (now memory) self × (self .top < max-lines) × HasVariables (now nodes) (now sizes) (now variables) ⌝ }
         ensures { λ r. ⌜ Advances (now (nodes .entry)) (now (sizes .entry)) (now (memory .exit)) self r ⌝ }
     {
         let place = self.top * LINE;
@@ -225,9 +236,9 @@ impl Walk {
         i = line.reduced;
         while i < count {
             let element = line.elements[i];
-            let treatment = treatment_of(nodes, sizes, &bindings, element);
+            let treatment = treatment_of(nodes, sizes, variables, &bindings, element);
             let Treatment::Reduced = treatment else {
-                return self.treat(line, nodes, sizes, memory, i as u8, treatment);
+                return self.treat(line, nodes, sizes, variables, memory, i as u8, treatment);
             };
             i = i + 1;
         }

@@ -1,15 +1,48 @@
 -- `solve_positions` meets its contract.
+use Prim.Native.Nat.{ℕ, _≤_}
+use mathlib.Core.Path.{_≡_, sym, ap, _∙_}
+use mathlib.Core.List.{List, _++_}
+use lib.ListN.{length, length-append}
+use lib.Seq.{take-at, length-take-le}
 use native.Mathlib.Omega.{arith}
 use Rattle.solver.proofs.Begin.{places-within, solved-tells, refused-tells}
 use borrow.Author.Needs.{needs}
 use Rattle.solver.proofs.positions.solve_positions.Statement.{statement}
 use Rattle.solver.proofs.positions.solve_positions.Tie as tie
 
+array-borrow-prefix-variables : tie.Need-array-borrow-prefix-variables
+array-borrow-prefix-variables c = c .before .before .before .before .pre .0 .0 .few
+
+slice-aggregate-collect-variables : tie.Need-slice-aggregate-collect-variables
+slice-aggregate-collect-variables c = sym (length-take-le _ _ (c .before .before .before .before .before .pre .0 .0 .few))
+
+collect-variables-requires : tie.Need-collect-variables-requires
+collect-variables-requires c κs =
+    let laid = c .before .before .before .before .before .pre .0 .0 in
+    (laid, length-take-le _ _ (laid .few))
+
 begin-walk-requires : tie.Need-begin-walk-requires
 begin-walk-requires c κs = search needs
 
+-- The variables' sets stand in the front of their array.
+front-fits : (xs ys : List ℕ) {n : ℕ} → length xs ≡ n → n ≤ length (xs ++ ys)
+front-fits xs ys e = omega (arith, length-append xs ys)
+
+array-share-prefix-variables : tie.Need-array-share-prefix-variables
+array-share-prefix-variables c =
+    let collected = c .before .before .before .before .before .collect-variables in
+    front-fits (collected .last .1 .1 .0) _ (collected .ensures .same-length)
+
+slice-aggregate-go-on : tie.Need-slice-aggregate-go-on
+slice-aggregate-go-on c =
+    let collected = c .before .before .before .before .before .before .collect-variables in
+    let same = collected .ensures .same-length in
+    sym (ap length (take-at (collected .last .1 .1 .0) _ _ same) ∙ same)
+
 go-on-requires : tie.Need-go-on-requires
-go-on-requires c κs = search needs
+go-on-requires c κs =
+    let collected = c .before .before .before .before .before .before .before .collect-variables in
+    (c .before .before .before .before .begin-walk .ensures .0, rw (take-at (collected .last .1 .1 .0) _ _ (collected .ensures .same-length)) (collected .ensures))
 
 enum-told : tie.Need-enum-told
 enum-told c = search needs
@@ -17,8 +50,8 @@ enum-told c = search needs
 mul-copy-front : tie.Need-mul-copy-front
 mul-copy-front c =
     let at-go-on = c .before .before .before .before .before .before .before .before in
-    let at-begin-walk = at-go-on .before .before .before .before in
-    let start = at-begin-walk .before .before .before .before .before .before in
+    let at-begin-walk = at-go-on .before .before .before .before .before in
+    let start = at-begin-walk .before .before .before .before .before .before .before .before .before in
     let begun = at-begin-walk .begin-walk in
     let walked = at-go-on .go-on in
     let within = places-within (start .args .source) (start .args .target) (begun .ensures .1 .0) (begun .ensures .1 .1) (walked .result) (walked .ensures) (c .before .before .before .enum-told .given .1) in
@@ -27,12 +60,12 @@ mul-copy-front c =
 copy-front-requires : tie.Need-copy-front-requires
 copy-front-requires c κs =
     let at-go-on = c .before .before .before .before .before .before .before .before in
-    let at-begin-walk = at-go-on .before .before .before .before in
-    let start = at-begin-walk .before .before .before .before .before .before in
+    let at-begin-walk = at-go-on .before .before .before .before .before in
+    let start = at-begin-walk .before .before .before .before .before .before .before .before .before in
     let begun = at-begin-walk .begin-walk in
     let walked = at-go-on .go-on in
     let within = places-within (start .args .source) (start .args .target) (begun .ensures .1 .0) (begun .ensures .1 .1) (walked .result) (walked .ensures) (c .before .before .before .enum-told .given .1) in
-    (omega (arith, within .0, within .1, walked .kept .1 .1 .1 .0, begun .kept .1 .1 .1 .1 .0, start .pre .1 .1), omega (arith, within .0, within .1, start .pre .1 .0))
+    (omega (arith, within .0, within .1, walked .kept .1 .1 .1 .1 .0, begun .kept .1 .1 .1 .1 .0, start .pre .1 .1), omega (arith, within .0, within .1, start .pre .1 .0))
 
 enum-known-progress : tie.Need-enum-known-progress
 enum-known-progress c = search needs
@@ -47,8 +80,8 @@ returns : tie.Need-returns
 returns c =
     let at-enum-told = c .before .before .before .before .before .before in
     let at-go-on = at-enum-told .before .before .before .before .before in
-    let at-begin-walk = at-go-on .before .before .before .before in
-    let start = at-begin-walk .before .before .before .before .before .before in
+    let at-begin-walk = at-go-on .before .before .before .before .before in
+    let start = at-begin-walk .before .before .before .before .before .before .before .before .before in
     let begun = at-begin-walk .begin-walk in
     let walked = at-go-on .go-on in
     solved-tells (start .args .source) (start .args .target) (begun .ensures .1 .0) (begun .ensures .1 .1) (walked .result) (walked .ensures) (at-enum-told .enum-told .given .1) (start .args .table .now) (c .before .before .copy-front .last .1 .0) (c .before .before .copy-front .ensures)
@@ -59,8 +92,8 @@ same-length-3 c = search needs
 returns-2 : tie.Need-returns-2
 returns-2 c =
     let at-go-on = c .before .before .before .before .before .before in
-    let at-begin-walk = at-go-on .before .before .before .before in
-    let start = at-begin-walk .before .before .before .before .before .before in
+    let at-begin-walk = at-go-on .before .before .before .before .before in
+    let start = at-begin-walk .before .before .before .before .before .before .before .before .before in
     let begun = at-begin-walk .begin-walk in
     let walked = at-go-on .go-on in
     refused-tells (start .args .source) (start .args .target) (begun .ensures .1 .0) (begun .ensures .1 .1) (walked .result) (walked .ensures) (c .before .progress .given .0 .0) (c .before .progress .given .1) (start .args .table .now)
@@ -69,7 +102,12 @@ pub solve-positions-spec : {M : Type 1} → statement M
 solve-positions-spec =
     tie.close
     (tie.spec
+    array-borrow-prefix-variables
+    slice-aggregate-collect-variables
+    collect-variables-requires
     begin-walk-requires
+    array-share-prefix-variables
+    slice-aggregate-go-on
     go-on-requires
     enum-told
     mul-copy-front

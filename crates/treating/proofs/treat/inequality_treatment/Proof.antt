@@ -20,17 +20,18 @@ wide-requires c κs = search needs
 
 occurs-at-requires : tie.Need-occurs-at-requires
 occurs-at-requires c κs =
-    let start = c .before .before .before .before .before .before .before .before in
+    let start = c .before .before .before .before .before .before .before .before .before in
     let s = c .before .before .before .before .reached in
     let t = c .before .before .before .reached2 in
     let sides = start .args .sides in
-    ((start .pre .0 .laid, start .pre .1 .1), (start .pre .0 .proper, variable-free (start .pre .0) (sides .left) (s .result) (c .wide .result) (s .ensures .0) (s .ensures .1) (c .before .if1 .taken) (c .wide .ensures .0)))
+    let free = variable-free (start .pre .0 .0) (sides .left) (s .result) (c .wide .result) (s .ensures .0) (s .ensures .1) (c .before .if1 .taken) (c .wide .ensures .0) in
+    (start .pre .0, (start .pre .1 .1, free .0, free .1))
 
 returns : tie.Need-returns
 returns c =
     let at-reached-2 = c .before .before .before .before .before in
     let at-reached = at-reached-2 .before in
-    let start = at-reached .before .before .before .before in
+    let start = at-reached .before .before .before .before .before in
     let s = at-reached .reached in
     let t = at-reached-2 .reached2 in
     let sides = start .args .sides in
@@ -40,7 +41,7 @@ returns-2 : tie.Need-returns-2
 returns-2 c =
     let at-reached-2 = c .before .before .before .before .before in
     let at-reached = at-reached-2 .before in
-    let start = at-reached .before .before .before .before in
+    let start = at-reached .before .before .before .before .before in
     let s = at-reached .reached in
     let t = at-reached-2 .reached2 in
     let sides = start .args .sides in
@@ -56,18 +57,19 @@ occurs-at-requires-2 : tie.Need-occurs-at-requires-2
 occurs-at-requires-2 c κs =
     let at-reached-2 = c .before .before .before .before .before in
     let at-reached = at-reached-2 .before in
-    let start = at-reached .before .before .before .before in
+    let start = at-reached .before .before .before .before .before in
     let s = at-reached .reached in
     let t = at-reached-2 .reached2 in
     let sides = start .args .sides in
-    ((start .pre .0 .laid, start .pre .1 .0), (start .pre .0 .proper, variable-free (start .pre .0) (sides .right) (t .result) (c .wide2 .result) (t .ensures .0) (t .ensures .1) (c .before .if3 .taken) (c .wide2 .ensures .0)))
+    let free = variable-free (start .pre .0 .0) (sides .right) (t .result) (c .wide2 .result) (t .ensures .0) (t .ensures .1) (c .before .if3 .taken) (c .wide2 .ensures .0) in
+    (start .pre .0, (start .pre .1 .0, free .0, free .1))
 
 returns-3 : tie.Need-returns-3
 returns-3 c =
     let at-if = c .before .before .before .before .before in
     let at-reached-2 = at-if .before .before in
     let at-reached = at-reached-2 .before in
-    let start = at-reached .before .before .before .before in
+    let start = at-reached .before .before .before .before .before in
     let s = at-reached .reached in
     let t = at-reached-2 .reached2 in
     let sides = start .args .sides in
@@ -78,7 +80,7 @@ returns-4 c =
     let at-if = c .before .before .before .before .before in
     let at-reached-2 = at-if .before .before in
     let at-reached = at-reached-2 .before in
-    let start = at-reached .before .before .before .before in
+    let start = at-reached .before .before .before .before .before in
     let s = at-reached .reached in
     let t = at-reached-2 .reached2 in
     let sides = start .args .sides in
@@ -86,7 +88,7 @@ returns-4 c =
 
 returns-5 : tie.Need-returns-5
 returns-5 c =
-    let start = c .before .before .before .before .before .before .before .before .before in
+    let start = c .before .before .before .before .before .before .before .before .before .before in
     let s = c .before .before .before .before .before .reached in
     let t = c .before .before .before .before .reached2 in
     let sides = start .args .sides in

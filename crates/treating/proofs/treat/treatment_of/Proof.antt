@@ -12,7 +12,7 @@ sides-of-requires c κs = search needs
 
 inequality-treatment-requires : tie.Need-inequality-treatment-requires
 inequality-treatment-requires c κs =
-    let start = c .before .before .before .before .before .before .before in
+    let start = c .before .before .before .before .before .before .before .before in
     let r = c .before .before .relation .given in
     (start .pre .0, greater-within (start .args .element) (r .0 .0) (r .0 .1 .0) (c .sides-of .result) (c .sides-of .ensures) _ (r .1) (start .pre .1))
 
@@ -24,13 +24,13 @@ sides-of-requires-2 c κs = search needs
 
 returns : tie.Need-returns
 returns c =
-    let start = c .before .before .before .before .before .before .before .before in
+    let start = c .before .before .before .before .before .before .before .before .before in
     let r = c .before .before .before .relation .given in
     asks-as-greater (start .args .element) (r .0 .0) (r .0 .1 .0) (c .before .sides-of .result) (c .before .sides-of .ensures) _ _ _ _ (r .1) (c .inequality-treatment .ensures)
 
 returns-2 : tie.Need-returns-2
 returns-2 c =
-    let start = c .before .before .before .before .before .before .before in
+    let start = c .before .before .before .before .before .before .before .before in
     let r = c .before .before .relation2 .given in
     asks-unify (start .args .element) (r .0 .0) (r .0 .1 .0) (c .sides-of2 .result) (c .sides-of2 .ensures) _ _ _ (r .1)
 

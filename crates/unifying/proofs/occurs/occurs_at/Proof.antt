@@ -1,64 +1,93 @@
--- `occurs_at` meets its contract. The loop's invariant is `Search`; the marks rise with each turn, so that their `weight` falls.
-use Prim.Native.Nat.{_<_}
+-- `occurs_at` meets its contract. The loop's invariant is `Search`; with each turn one variable more is looked through.
+use Prim.Native.Nat.{_-_, _<_}
 use borrow.Author.Needs.{needs}
 use native.Mathlib.Omega.{arith}
-use Rattle.format.specs.Limits.{variable-count}
-use Rattle.unifying.proofs.Marks.{weight, weight-next}
-use Rattle.unifying.proofs.Occurrence.{Search, Searched, Sought, slots, search-start, search-passed, search-next, search-true, search-false}
+use Rattle.unifying.proofs.Bits.{joined-more}
+use Rattle.unifying.proofs.Occurrence.{Sought, Search, slots, search-start, bound-within, search-free, search-bound, search-true, search-false}
 use Rattle.unifying.proofs.occurs.occurs_at.Statement.{statement}
 use Rattle.unifying.proofs.occurs.occurs_at.Tie as tie
 
 abbrev Inv-loop : tie.InvT-loop
-Inv-loop nodes sizes bindings v p met₀ next₀ met next = Search nodes sizes bindings v p met next
+Inv-loop nodes sizes variables bindings v p seen₀ through₀ seen through = Search nodes sizes variables bindings v p seen through × (through < 65536)
 
 abbrev μ-loop : tie.MeasureT-loop
-μ-loop nodes sizes bindings v p met₀ next₀ met next = weight met
+μ-loop nodes sizes variables bindings v p seen₀ through₀ seen through = 65536 - through
 
-sought : (c : tie.Start Inv-loop μ-loop) → Sought (c .args .nodes .now) (c .args .sizes .now) (c .args .bindings .now) (c .args .v)
-sought c = record { laid = c .pre .0 .0; proper = c .pre .1 .0; free = c .pre .1 .1 .1 }
+sought : (c : tie.Start Inv-loop μ-loop) → Sought (c .args .nodes .now) (c .args .sizes .now) (c .args .variables .now) (c .args .bindings .now) (c .args .v)
+sought c = record { readable = c .pre .0 .0; sets = c .pre .0 .1; free = c .pre .1 .2 }
+
+mul-seen : tie.Need-mul-seen Inv-loop μ-loop
+mul-seen c =
+    let start = c .before .before .before .before in
+    omega (arith, start .pre .1 .0, start .pre .0 .0 .laid .few)
+
+shared-slice-read-seen : tie.Need-shared-slice-read-seen Inv-loop μ-loop
+shared-slice-read-seen c =
+    let start = c .before .before .before .before .before in
+    omega (arith, start .pre .1 .0, start .pre .0 .1 .same-length)
 
 loop-holds : tie.Need-loop-holds Inv-loop μ-loop
-loop-holds c = search-start _ _ _ _ _ (c .before .before .before .pre .0 .1)
-
-search-term-requires : tie.Need-search-term-requires Inv-loop μ-loop
-search-term-requires c κs =
+loop-holds c =
     let start = c .before .before .before .before .before in
-    ((start .pre .0 .0, c .before .loop .inv .within), (slots (sought start), c .before .loop .inv .marks .each))
+    (search-start (sought start) (start .pre .1 .0), omega arith)
+
+lowest-beside-requires : tie.Need-lowest-beside-requires Inv-loop μ-loop
+lowest-beside-requires c κs = (c .before .loop .inv .0 .within, c .loop-test .taken)
 
 returns : tie.Need-returns Inv-loop μ-loop
-returns c = search-true (sought (c .before .before .before .before .before .before .before)) (c .before .before .before .loop .inv) (c .before .search-term .ensures .0 (c .if1 .taken))
+returns c =
+    let start = c .before .before .before .before .before .before .before .before .before in
+    search-true (sought start) (start .pre .1 .0) (c .before .before .before .loop .inv .0) (c .before .lowest-beside .ensures .0) (c .if1 .taken)
 
--- What the call of `first_met` is given, and what it finds.
-searched : (c : tie.After-first-met Inv-loop μ-loop)
-    → let start = c .before .before .before .before .before .before .before .before .before in
-    Searched (start .args .nodes .now) (start .args .sizes .now) (start .args .bindings .now) (start .args .v) (start .args .p) (c .before .before .before .search-term .last .1 .1 .1 .1 .1 .0)
-searched c =
-    search-passed (sought (c .before .before .before .before .before .before .before .before .before)) (c .before .before .before .before .before .loop .inv) (c .before .before .before .search-term .ensures .1 (c .before .before .if1 .left))
+singleton-requires : tie.Need-singleton-requires Inv-loop μ-loop
+singleton-requires c κs = c .before .before .before .loop .inv .0 .each _ (c .before .lowest-beside .ensures .0) .low
 
-returns-2 : tie.Need-returns-2 Inv-loop μ-loop
-returns-2 c =
-    let start = c .before .before .before .before .before .before .before .before .before .before in
-    search-false (sought start) (searched (c .before)) (λ w l. c .before .first-met .ensures .1 .1 w (omega (arith, c .if2 .taken))) (start .pre .0 .1)
+shared-slice-read-next : tie.Need-shared-slice-read-next Inv-loop μ-loop
+shared-slice-read-next c =
+    let at-lowest = c .before .before .before .before in
+    let at-loop = at-lowest .before .before in
+    omega (arith, at-loop .loop .inv .0 .each _ (at-lowest .lowest-beside .ensures .0) .low, slots (sought (at-loop .before .before .before .before .before .before)))
 
-index : (c : tie.Else2 Inv-loop μ-loop) → c .before .first-met .result < variable-count
-index c = omega (arith, c .if2 .left, c .before .first-met .ensures .0)
-
-shared-slice-read-wide : tie.Need-shared-slice-read-wide Inv-loop μ-loop
-shared-slice-read-wide c =
-    let start = c .before .before .before .before .before .before .before .before .before .before .before in
-    omega (arith, index (c .before), slots (sought start))
+shared-slice-read-joined : tie.Need-shared-slice-read-joined Inv-loop μ-loop
+shared-slice-read-joined c =
+    let at-if = c .before .before in
+    let at-lowest = at-if .before .before .before .before .before in
+    let at-loop = at-lowest .before .before in
+    let start = at-loop .before .before .before .before .before .before in
+    omega (arith, bound-within (sought start) (start .pre .1 .0) (at-loop .loop .inv .0) (at-lowest .lowest-beside .ensures .0) (omega (arith, at-if .if2 .taken)), c .before .wide .ensures .0, start .pre .0 .1 .same-length)
 
 loop-less : tie.Need-loop-less Inv-loop μ-loop
 loop-less c =
-    let call = c .before .before .before in
-    weight-next (call .before .before .before .search-term .ensures .1 (call .before .before .if1 .left)) _ (call .first-met .ensures .1 .0 (index (c .before .before)))
+    let at-joined = c .before .before .before .before .before in
+    let at-lowest = at-joined .before .before .before in
+    omega (arith, joined-more (at-joined .before .singleton .ensures) (at-joined .joined .ensures) (at-lowest .lowest-beside .ensures .1), at-lowest .before .before .loop .inv .1)
 
 loop-again : tie.Need-loop-again Inv-loop μ-loop
 loop-again c =
-    let call = c .before .before .before in
-    let start = call .before .before .before .before .before .before .before .before .before in
-    let low = index (c .before .before) in
-    rw (c .wide .ensures .0) (search-next (sought start) (searched call) _ (call .first-met .ensures .1 .0 low) low)
+    let at-joined = c .before .before .before .before .before in
+    let at-lowest = at-joined .before .before .before in
+    let at-loop = at-lowest .before .before in
+    let start = at-loop .before .before .before .before .before .before in
+    (search-bound (sought start) (start .pre .1 .0) (at-loop .loop .inv .0) (at-lowest .lowest-beside .ensures .0) (at-joined .before .before .if1 .left) (at-joined .before .singleton .ensures) (at-joined .joined .ensures) (omega (arith, c .before .before .before .if2 .taken)) (rw (c .before .before .wide .ensures .0) at (c .joined2 .ensures)), at-joined .joined .ok)
+
+loop-less-2 : tie.Need-loop-less-2 Inv-loop μ-loop
+loop-less-2 c =
+    let at-joined = c .before .before in
+    let at-lowest = at-joined .before .before .before in
+    omega (arith, joined-more (at-joined .before .singleton .ensures) (at-joined .joined .ensures) (at-lowest .lowest-beside .ensures .1), at-lowest .before .before .loop .inv .1)
+
+loop-again-2 : tie.Need-loop-again-2 Inv-loop μ-loop
+loop-again-2 c =
+    let at-joined = c .before .before in
+    let at-lowest = at-joined .before .before .before in
+    let at-loop = at-lowest .before .before in
+    let start = at-loop .before .before .before .before .before .before in
+    (search-free (sought start) (start .pre .1 .0) (at-loop .loop .inv .0) (at-lowest .lowest-beside .ensures .0) (at-joined .before .before .if1 .left) (at-joined .before .singleton .ensures) (at-joined .joined .ensures) (c .if2 .left), at-joined .joined .ok)
+
+returns-2 : tie.Need-returns-2 Inv-loop μ-loop
+returns-2 c =
+    let start = c .before .before .before .before .before .before .before in
+    search-false (sought start) (start .pre .1 .0) (c .before .loop .inv .0) (c .loop-test .left)
 
 pub occurs-at-spec : {M : Type 1} → statement M
 occurs-at-spec =
@@ -66,13 +95,20 @@ occurs-at-spec =
     (tie.spec
     Inv-loop
     μ-loop
+    mul-seen
+    shared-slice-read-seen
     loop-holds
-    search-term-requires
+    lowest-beside-requires
     returns
+    singleton-requires
     (λ c κs. search needs)
-    returns-2
+    shared-slice-read-next
+    (λ c κs. search needs)
     (λ c. search needs)
-    shared-slice-read-wide
+    shared-slice-read-joined
     (λ c κs. search needs)
     loop-less
-    loop-again)
+    loop-again
+    loop-less-2
+    loop-again-2
+    returns-2)

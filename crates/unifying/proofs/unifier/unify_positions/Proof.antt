@@ -11,13 +11,13 @@ use Rattle.unifying.proofs.unifier.unify_positions.Statement.{statement
 use Rattle.unifying.proofs.unifier.unify_positions.Tie as tie
 
 abbrev Inv-loop : tie.InvT-loop
-Inv-loop nodes sizes bindings p q own₀ i₀ own i = Fronting variable-count bindings own₀ own i
+Inv-loop nodes sizes variables bindings p q own₀ i₀ own i = Fronting variable-count bindings own₀ own i
 
 abbrev μ-loop : tie.MeasureT-loop
-μ-loop nodes sizes bindings p q own₀ i₀ own i = variable-count - i
+μ-loop nodes sizes variables bindings p q own₀ i₀ own i = variable-count - i
 
 loop-holds : tie.Need-loop-holds Inv-loop μ-loop
-loop-holds c = fronting-start _ _ _ (readable-slots (c .before .before .before .pre .0)) (omega arith)
+loop-holds c = fronting-start _ _ _ (readable-slots (c .before .before .before .before .pre .0 .0)) (omega arith)
 
 shared-slice-read-own : tie.Need-shared-slice-read-own Inv-loop μ-loop
 shared-slice-read-own c = search needs
@@ -39,14 +39,14 @@ slice-aggregate-unify-terms c = sym (fronting-length (c .before .before .loop .i
 
 unify-terms-requires : tie.Need-unify-terms-requires Inv-loop μ-loop
 unify-terms-requires c κs =
-    let start = c .before .before .before .before .before .before in
+    let start = c .before .before .before .before .before .before .before in
     ((rw (fronting-whole (c .before .before .loop .inv) (c .before .loop-test .left) refl) (start .pre .0)), start .pre .1)
 
 returns : tie.Need-returns Inv-loop μ-loop
 returns c =
     let loop = c .before .before .before .before .loop in
-    let start = c .before .before .before .before .before .before .before .before in
-    copy-unified _ _ _ _ (c .before .unify-terms .last .1 .1 .0) _ _ _ (start .pre .0) (start .pre .1 .0) (start .pre .1 .1) (fronting-whole (loop .inv) (c .before .before .before .loop-test .left) refl) (c .before .unify-terms .ensures) (c .own2 .given)
+    let start = c .before .before .before .before .before .before .before .before .before in
+    copy-unified _ _ _ _ (c .before .unify-terms .last .1 .1 .1 .0) _ _ _ (start .pre .0 .0) (start .pre .1 .0) (start .pre .1 .1) (fronting-whole (loop .inv) (c .before .before .before .loop-test .left) refl) (c .before .unify-terms .ensures) (c .own2 .given)
 
 pub unify-positions-spec : {M : Type 1} → statement M
 unify-positions-spec =

@@ -6,7 +6,7 @@ use Rattle.walking.proofs.walk.Walk.treat.Statement.{statement}
 use Rattle.walking.proofs.walk.Walk.treat.Tie as tie
 
 returns : tie.Need-returns
-returns c = let start = c .before .before .before .before .before in record { outcome = too-long-walk (start .pre .0 .treating) (start .pre .1) (c .if1 .taken) }
+returns c = let start = c .before .before .before .before .before .before in record { outcome = too-long-walk (start .pre .0 .treating) (start .pre .1) (c .if1 .taken) }
 
 wide-requires : tie.Need-wide-requires
 wide-requires c κs = search needs
@@ -24,7 +24,7 @@ add-turned : tie.Need-add-turned
 add-turned c = search needs
 
 turned-requires : tie.Need-turned-requires
-turned-requires c κs = below-limit (c .before .before .before .before .before .before .before .before .before .pre .0 .treating .turns-within) (c .before .before .before .before .if1 .left)
+turned-requires c κs = below-limit (c .before .before .before .before .before .before .before .before .before .before .pre .0 .treating .turns-within) (c .before .before .before .before .if1 .left)
 
 going-requires-2 : tie.Need-going-requires-2
 going-requires-2 c κs = search needs
@@ -33,7 +33,7 @@ enum-told-3 : tie.Need-enum-told-3
 enum-told-3 c = search needs
 
 drop-element-requires : tie.Need-drop-element-requires
-drop-element-requires c κs = (treating-as (treating-number (c .before .before .before .before .before .before .before .before .before .pre .0) (c .before .before .before .wide .result) (c .before .before .before .wide .ensures .0)) (c .before .enum-told3 .given .1), below-limit (c .before .before .before .before .before .before .before .before .before .pre .0 .treating .turns-within) (c .before .before .before .before .if1 .left))
+drop-element-requires c κs = (treating-as (treating-number (c .before .before .before .before .before .before .before .before .before .before .pre .0) (c .before .before .before .wide .result) (c .before .before .before .wide .ensures .0)) (c .before .enum-told3 .given .1), below-limit (c .before .before .before .before .before .before .before .before .before .before .pre .0 .treating .turns-within) (c .before .before .before .before .if1 .left))
 
 going-requires-3 : tie.Need-going-requires-3
 going-requires-3 c κs = search needs
@@ -45,8 +45,8 @@ unify-requires : tie.Need-unify-requires
 unify-requires c κs =
     let at-wide = c .before .before .before .before in
     let at-if = at-wide .before in
-    let start = at-if .before .before .before .before .before in
-    (treating-as (treating-number (start .pre .0) (at-wide .wide .result) (at-wide .wide .ensures .0)) (c .before .before .treatment .given .1), below-limit (start .pre .0 .treating .turns-within) (at-if .if1 .left))
+    let start = at-if .before .before .before .before .before .before in
+    (treating-as (treating-number (start .pre .0) (at-wide .wide .result) (at-wide .wide .ensures .0)) (c .before .before .treatment .given .1), below-limit (start .pre .0 .treating .turns-within) (at-if .if1 .left), start .pre .2)
 
 going-requires-4 : tie.Need-going-requires-4
 going-requires-4 c κs = search needs
@@ -58,16 +58,16 @@ split-requires : tie.Need-split-requires
 split-requires c κs =
     let at-wide = c .before .before .before .before in
     let at-if = at-wide .before in
-    let start = at-if .before .before .before .before .before in
+    let start = at-if .before .before .before .before .before .before in
     treating-counted (treating-as (treating-number (start .pre .0) (at-wide .wide .result) (at-wide .wide .ensures .0)) (c .before .before .treatment2 .given .1)) (below-limit (start .pre .0 .treating .turns-within) (at-if .if1 .left))
 
 returns-2 : tie.Need-returns-2
-returns-2 c = absurd (c .before .before .before .before .before .before .before .before .before .pre .1 (c .before .enum-told .given .1))
+returns-2 c = absurd (c .before .before .before .before .before .before .before .before .before .before .pre .1 (c .before .enum-told .given .1))
 
 returns-3 : tie.Need-returns-3
 returns-3 c =
     let at-if = c .before .before .before .before .before .before in
-    let start = at-if .before .before .before .before .before in
+    let start = at-if .before .before .before .before .before .before in
     rw (c .going2 .ensures, c .before .turned .ensures) (record { outcome = line-dropped (start .pre .0 .treating) (below-limit (start .pre .0 .treating .turns-within) (at-if .if1 .left)) (c .before .before .before .enum-told2 .given .1) })
 
 same-length : tie.Need-same-length

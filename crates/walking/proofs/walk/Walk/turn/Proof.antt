@@ -12,22 +12,22 @@ use Rattle.walking.proofs.walk.Walk.turn.Statement.{statement}
 use Rattle.walking.proofs.walk.Walk.turn.Tie as tie
 
 abbrev Inv-loop : tie.InvT-loop
-Inv-loop self nodes sizes memory place line₀ bindings count i₀ line i = Filling memory place line₀ line i
+Inv-loop self nodes sizes variables memory place line₀ bindings count i₀ line i = Filling memory place line₀ line i
 
 abbrev μ-loop : tie.MeasureT-loop
-μ-loop self nodes sizes memory place line₀ bindings count i₀ line i = count - i
+μ-loop self nodes sizes variables memory place line₀ bindings count i₀ line i = count - i
 
 abbrev Inv-loop2 : tie.InvT-loop2
-Inv-loop2 self nodes sizes memory₀ place line bindings count i₀ memory i = (memory ≡ memory₀) × Searching nodes sizes memory₀ place line i
+Inv-loop2 self nodes sizes variables memory₀ place line bindings count i₀ memory i = (memory ≡ memory₀) × Searching nodes sizes memory₀ place line i
 
 abbrev μ-loop2 : tie.MeasureT-loop2
-μ-loop2 self nodes sizes memory₀ place line bindings count i₀ memory i = count - i
+μ-loop2 self nodes sizes variables memory₀ place line bindings count i₀ memory i = count - i
 
 mul-place : tie.Need-mul-place Inv-loop μ-loop Inv-loop2 μ-loop2
 mul-place c = search needs
 
 head-requires : tie.Need-head-requires Inv-loop μ-loop Inv-loop2 μ-loop2
-head-requires c κs = place-there (c .before .before .before .before .before .pre .0) (c .before .before .before .before .before .pre .1)
+head-requires c κs = place-there (c .before .before .before .before .before .before .pre .0) (c .before .before .before .before .before .before .pre .1)
 
 loop-holds : tie.Need-loop-holds Inv-loop μ-loop Inv-loop2 μ-loop2
 loop-holds c = filling-start _ _ _ (c .before .head .ensures .places)
@@ -38,31 +38,31 @@ add-element-at c = search needs
 mul-element-at : tie.Need-mul-element-at Inv-loop μ-loop Inv-loop2 μ-loop2
 mul-element-at c =
     let at-head = c .before .before .before .before in
-    let start = at-head .before .before .before .before .before .before in
+    let start = at-head .before .before .before .before .before .before .before in
     omega (arith, head-few (start .pre .0) (start .pre .1) (at-head .head .ensures))
 
 add-element-at-2 : tie.Need-add-element-at-2 Inv-loop μ-loop Inv-loop2 μ-loop2
 add-element-at-2 c =
     let at-head = c .before .before .before .before in
-    let start = at-head .before .before .before .before .before .before in
+    let start = at-head .before .before .before .before .before .before .before in
     omega (arith, head-few (start .pre .0) (start .pre .1) (at-head .head .ensures), place-there (start .pre .0) (start .pre .1))
 
 element-at-requires : tie.Need-element-at-requires Inv-loop μ-loop Inv-loop2 μ-loop2
 element-at-requires c κs =
     let at-head = c .before .before .before .before in
-    let start = at-head .before .before .before .before .before .before in
+    let start = at-head .before .before .before .before .before .before .before in
     omega (arith, head-few (start .pre .0) (start .pre .1) (at-head .head .ensures), place-there (start .pre .0) (start .pre .1))
 
-mul-t23 : tie.Need-mul-t23 Inv-loop μ-loop Inv-loop2 μ-loop2
-mul-t23 c =
+mul-t24 : tie.Need-mul-t24 Inv-loop μ-loop Inv-loop2 μ-loop2
+mul-t24 c =
     let at-head = c .before .before .before .before .before in
-    let start = at-head .before .before .before .before .before .before in
+    let start = at-head .before .before .before .before .before .before .before in
     omega (arith, head-few (start .pre .0) (start .pre .1) (at-head .head .ensures))
 
 element-set-from-line : tie.Need-element-set-from-line Inv-loop μ-loop Inv-loop2 μ-loop2
 element-set-from-line c =
     let at-head = c .before .before .before .before .before in
-    let start = at-head .before .before .before .before .before .before in
+    let start = at-head .before .before .before .before .before .before .before in
     omega (arith, head-few (start .pre .0) (start .pre .1) (at-head .head .ensures))
 
 add-i : tie.Need-add-i Inv-loop μ-loop Inv-loop2 μ-loop2
@@ -74,7 +74,7 @@ loop-less c = search needs
 loop-again : tie.Need-loop-again Inv-loop μ-loop Inv-loop2 μ-loop2
 loop-again c =
     let at-head = c .before .before .before .before .before in
-    let start = at-head .before .before .before .before .before .before in
+    let start = at-head .before .before .before .before .before .before .before in
     filling-next (c .before .before .before .loop .inv) (omega (arith, head-few (start .pre .0) (start .pre .1) (at-head .head .ensures))) _ (c .element-at .ensures)
 
 loop2-holds : tie.Need-loop2-holds Inv-loop μ-loop Inv-loop2 μ-loop2
@@ -83,13 +83,13 @@ loop2-holds c = (refl, searching-start _ _ _ _ _)
 mul-element : tie.Need-mul-element Inv-loop μ-loop Inv-loop2 μ-loop2
 mul-element c =
     let at-head = c .before .before .before .before .before in
-    let start = at-head .before .before .before .before .before .before in
+    let start = at-head .before .before .before .before .before .before .before in
     omega (arith, head-few (start .pre .0) (start .pre .1) (at-head .head .ensures))
 
 element-copy-out-element : tie.Need-element-copy-out-element Inv-loop μ-loop Inv-loop2 μ-loop2
 element-copy-out-element c =
     let at-head = c .before .before .before .before .before in
-    let start = at-head .before .before .before .before .before .before in
+    let start = at-head .before .before .before .before .before .before .before in
     omega (arith, head-few (start .pre .0) (start .pre .1) (at-head .head .ensures))
 
 slice-aggregate-treatment-of :
@@ -101,11 +101,11 @@ treatment-of-requires c κs =
     let at-loop-test = c .before .before .before .before in
     let at-loop = at-loop-test .before in
     let at-head = at-loop .before .before in
-    let start = at-head .before .before .before .before .before .before in
+    let start = at-head .before .before .before .before .before .before .before in
     let head = at-head .head .ensures in
     let filled = at-loop .loop .inv in
     let full = at-loop-test .loop-test .left in
-    (head-readable (start .pre .0) (start .pre .1) head, head-within (start .pre .0) (start .pre .1) head filled full (c .before .before .before .loop2 .inv .1) (c .before .before .loop2-test .taken))
+    ((head-readable (start .pre .0) (start .pre .1) head, start .pre .2), head-within (start .pre .0) (start .pre .1) head filled full (c .before .before .before .loop2 .inv .1) (c .before .before .loop2-test .taken))
 
 enum-told : tie.Need-enum-told Inv-loop μ-loop Inv-loop2 μ-loop2
 enum-told c = search needs
@@ -113,7 +113,7 @@ enum-told c = search needs
 cast-treat : tie.Need-cast-treat Inv-loop μ-loop Inv-loop2 μ-loop2
 cast-treat c =
     let at-head = c .before .before .before .before .before .before .before .before .before .before in
-    let start = at-head .before .before .before .before .before .before in
+    let start = at-head .before .before .before .before .before .before .before in
     omega (arith, head-few (start .pre .0) (start .pre .1) (at-head .head .ensures))
 
 treat-requires : tie.Need-treat-requires Inv-loop μ-loop Inv-loop2 μ-loop2
@@ -123,16 +123,16 @@ treat-requires c κs =
     let at-loop-test = at-loop-2 .before in
     let at-loop = at-loop-test .before in
     let at-head = at-loop .before .before in
-    let start = at-head .before .before .before .before .before .before in
+    let start = at-head .before .before .before .before .before .before .before in
     let head = at-head .head .ensures in
     let filled = at-loop .loop .inv in
     let full = at-loop-test .loop-test .left in
     let found = c .before .before .treatment-of in
     let loop = at-loop-2 .loop2 in
-    (head-treating (start .pre .0) (start .pre .1) head filled full (loop .inv .1) (at-loop2-test .loop2-test .taken) (found .result) (found .ensures) _ (loop .inv .0), λ z. not-first (c .before .match .keys2) (ap (tagOf the-type) z))
+    (head-treating (start .pre .0) (start .pre .1) head filled full (loop .inv .1) (at-loop2-test .loop2-test .taken) (found .result) (found .ensures) _ (loop .inv .0), λ z. not-first (c .before .match .keys2) (ap (tagOf the-type) z), start .pre .2)
 
 same-length : tie.Need-same-length Inv-loop μ-loop Inv-loop2 μ-loop2
-same-length c = c .before .before .treat .kept .1 .1 .1 .1 .0 ∙ ap length (c .before .before .before .before .before .before .before .before .before .loop2 .inv .0)
+same-length c = c .before .before .treat .kept .1 .1 .1 .1 .1 .0 ∙ ap length (c .before .before .before .before .before .before .before .before .before .loop2 .inv .0)
 
 returns : tie.Need-returns Inv-loop μ-loop Inv-loop2 μ-loop2
 returns c = c .before .before .treat .ensures
@@ -150,7 +150,7 @@ loop2-again c =
     let at-loop-test = at-loop-2 .before in
     let at-loop = at-loop-test .before in
     let at-head = at-loop .before .before in
-    let start = at-head .before .before .before .before .before .before in
+    let start = at-head .before .before .before .before .before .before .before in
     let head = at-head .head .ensures in
     let filled = at-loop .loop .inv in
     let full = at-loop-test .loop-test .left in
@@ -162,7 +162,7 @@ finish-requires : tie.Need-finish-requires Inv-loop μ-loop Inv-loop2 μ-loop2
 finish-requires c κs =
     let at-loop = c .before .before .before .before in
     let at-head = at-loop .before .before in
-    let start = at-head .before .before .before .before .before .before in
+    let start = at-head .before .before .before .before .before .before .before in
     let head = at-head .head .ensures in
     let filled = at-loop .loop .inv in
     let full = c .before .before .before .loop-test .left in
@@ -193,7 +193,7 @@ turn-spec =
     mul-element-at
     add-element-at-2
     element-at-requires
-    mul-t23
+    mul-t24
     element-set-from-line
     add-i
     loop-less

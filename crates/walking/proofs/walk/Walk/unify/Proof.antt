@@ -7,13 +7,13 @@ use Rattle.walking.proofs.walk.Walk.unify.Statement.{statement}
 use Rattle.walking.proofs.walk.Walk.unify.Tie as tie
 
 mul-place : tie.Need-mul-place
-mul-place c = omega (arith, treating-top (c .before .before .before .before .pre .0 .treating))
+mul-place c = omega (arith, treating-top (c .before .before .before .before .before .pre .0 .treating))
 
 slice-aggregate-unify-positions : tie.Need-slice-aggregate-unify-positions
 slice-aggregate-unify-positions c = search needs
 
 unify-positions-requires : tie.Need-unify-positions-requires
-unify-positions-requires c κs = let start = c .before .before .before .before .before .before in (line-readable (start .pre .0) (start .pre .1) _ refl, equal-within (start .pre .0) (start .pre .1) _ refl)
+unify-positions-requires c κs = let start = c .before .before .before .before .before .before .before in ((line-readable (start .pre .0) (start .pre .1) _ refl, start .pre .2), equal-within (start .pre .0) (start .pre .1) _ refl)
 
 enum-told : tie.Need-enum-told
 enum-told c = search needs
@@ -30,17 +30,17 @@ turned-requires c κs = search needs
 returns : tie.Need-returns
 returns c =
     let at-unify-positions = c .before .before .before .before in
-    let start = at-unify-positions .before .before .before .before .before .before .before in
+    let start = at-unify-positions .before .before .before .before .before .before .before .before in
     rw (c .turned .ensures) (unify-failed (start .pre .0) (start .pre .1) _ refl (at-unify-positions .unify-positions .result) (at-unify-positions .unify-positions .ensures) (c .before .before .enum-told2 .given .1))
 
 put-without-requires : tie.Need-put-without-requires
 put-without-requires c κs =
-    let start = c .before .before .before .before .before .before .before .before .before .before in
+    let start = c .before .before .before .before .before .before .before .before .before .before .before in
     removal-fits (start .pre .0)
 
 slice-aggregate-differ : tie.Need-slice-aggregate-differ
 slice-aggregate-differ c =
-    let start = c .before .before .before .before .before .before .before .before .before .before .before .before .before .before .before in
+    let start = c .before .before .before .before .before .before .before .before .before .before .before .before .before .before .before .before in
     sym (line-slots (start .pre .0))
 
 slice-aggregate-differ-2 : tie.Need-slice-aggregate-differ-2
@@ -49,7 +49,7 @@ slice-aggregate-differ-2 c = search needs
 differ-requires : tie.Need-differ-requires
 differ-requires c κs =
     let at-unify-positions = c .before .before .before .before .before .before .before .before .before in
-    let start = at-unify-positions .before .before .before .before .before .before .before in
+    let start = at-unify-positions .before .before .before .before .before .before .before .before in
     (line-slots (start .pre .0), at-unify-positions .unify-positions .ensures .whole)
 
 slice-aggregate-rebind : tie.Need-slice-aggregate-rebind
@@ -59,7 +59,7 @@ rebind-requires : tie.Need-rebind-requires
 rebind-requires c κs =
     let at-put-without = c .before .before .before .before .before .before .before .before .before in
     let at-unify-positions = at-put-without .before .before .before .before in
-    let start = at-unify-positions .before .before .before .before .before .before .before in
+    let start = at-unify-positions .before .before .before .before .before .before .before .before in
     (omega (arith, treating-place (start .pre .0 .treating), at-put-without .put-without .kept .1 .0), at-unify-positions .unify-positions .ensures .whole)
 
 turned-requires-2 : tie.Need-turned-requires-2
@@ -73,7 +73,7 @@ returns-2 c =
     let at-put-without = c .before .before .before .before .before .before .before .before .before .before .before .before .before in
     let at-enum-told = at-put-without .before .before in
     let at-unify-positions = at-enum-told .before .before in
-    let start = at-unify-positions .before .before .before .before .before .before .before in
+    let start = at-unify-positions .before .before .before .before .before .before .before .before in
     rw (c .turned2 .ensures) (unify-changed (start .pre .0) (start .pre .1) _ refl (at-unify-positions .unify-positions .result) (at-unify-positions .unify-positions .ensures) (at-enum-told .enum-told .given .1) _ _ (at-put-without .put-without .ensures) (c .before .before .before .rebind .ensures))
 
 turned-requires-3 : tie.Need-turned-requires-3
@@ -87,7 +87,7 @@ returns-3 c =
     let at-put-without = c .before .before .before .before .before .before .before .before in
     let at-enum-told = at-put-without .before .before in
     let at-unify-positions = at-enum-told .before .before in
-    let start = at-unify-positions .before .before .before .before .before .before .before in
+    let start = at-unify-positions .before .before .before .before .before .before .before .before in
     rw (c .turned3 .ensures) (unify-kept (start .pre .0) (start .pre .1) _ refl (at-unify-positions .unify-positions .result) (at-unify-positions .unify-positions .ensures) (at-enum-told .enum-told .given .1) _ (c .before .before .differ .ensures .same (c .before .if1 .left)) (at-put-without .put-without .ensures))
 
 pub unify-spec : {M : Type 1} → statement M
