@@ -69,3 +69,72 @@ fn solve() {
     }
     assert!(given.iter().all(|&times| 0 < times), "a refusal was never given: {given:?}");
 }
+
+const TERM: usize = 160;
+const LOG: usize = 765;
+
+/// The tasks of a sheet and some that no sheet has.
+fn tasks(sheet: &[u8]) -> impl Iterator<Item = u64> {
+    let present = reference::sheet::read(sheet).map_or(1, |sheet| sheet.tasks().len() as u64);
+    (0..present).chain([present, 32, 256, 1 << 32, u64::MAX])
+}
+
+#[test]
+fn judge() {
+    let lengths = [(0, 0), (TABLE - 1, SCRATCH), (TABLE, SCRATCH - 1), (TABLE, SCRATCH), (TABLE + 89, SCRATCH + 56)];
+    let buffers = lengths.map(|(table, scratch)| (former_bytes(table, 0), former_bytes(scratch, 7)));
+    // How often each refusal was given; the first count is of none.
+    let mut given = [0; 13];
+    for sheet in sheets() {
+        for task in tasks(&sheet) {
+            for (table, scratch) in &buffers {
+                let (mut table, mut scratch) = (table.clone(), scratch.clone());
+                let (mut other_table, mut other_scratch) = (table.clone(), scratch.clone());
+                let number = calls::judge(&sheet, task, &mut table, &mut scratch);
+                let place = || format!("task {task} of\n{}", String::from_utf8_lossy(&sheet));
+                assert_eq!(number, reference::judge(&sheet, task, &mut other_table, &mut other_scratch), "number, {}", place());
+                assert!(table == other_table, "table, {}", place());
+                assert!(scratch == other_scratch, "scratch, {}", place());
+                given[(number % 256) as usize] += 1;
+            }
+        }
+    }
+    assert!(given.iter().all(|&times| 0 < times), "a refusal was never given: {given:?}");
+}
+
+/// Run on both sides with the same former bytes; gives the number.
+fn ran(sheet: &[u8], task: u64, lengths: [usize; 4]) -> u64 {
+    let mut buffers: Vec<Vec<u8>> = lengths.iter().zip([0, 7, 3, 11]).map(|(&length, seed)| former_bytes(length, seed)).collect();
+    let mut others = buffers.clone();
+    let [table, scratch, term, log] = &mut buffers[..] else { unreachable!() };
+    let number = calls::run(sheet, task, table, scratch, term, log);
+    let [table, scratch, term, log] = &mut others[..] else { unreachable!() };
+    let other = reference::run(sheet, task, table, scratch, term, log);
+    let place = || format!("task {task} of\n{}", String::from_utf8_lossy(sheet));
+    assert_eq!(number, other, "number, {}", place());
+    for (name, (bytes, other)) in ["table", "scratch", "term", "log"].iter().zip(buffers.iter().zip(&others)) {
+        assert!(bytes == other, "{name}, {}", place());
+    }
+    number
+}
+
+#[test]
+fn run() {
+    let enough = [TABLE, SCRATCH, TERM, LOG];
+    let mut lengths = vec![[0; 4], enough, [TABLE + 89, SCRATCH + 56, TERM + 1, LOG + 3]];
+    lengths.extend((0..4).map(|short| {
+        let mut lengths = enough;
+        lengths[short] -= 1;
+        lengths
+    }));
+    // How often each refusal was given; the first count is of none.
+    let mut given = [0; 13];
+    for sheet in sheets() {
+        for task in tasks(&sheet) {
+            for &lengths in &lengths {
+                given[(ran(&sheet, task, lengths) % 256) as usize] += 1;
+            }
+        }
+    }
+    assert!(given.iter().all(|&times| 0 < times), "a refusal was never given: {given:?}");
+}

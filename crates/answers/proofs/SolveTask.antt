@@ -13,7 +13,7 @@ use Rattle.format.specs.declared.refusal.Refusal.{Refusal}
 use Rattle.format.specs.declared.refusal.Refusal.the-variants.{AbsentArgument as absent-argument}
 use Rattle.format.specs.Lists.{entry}
 use Rattle.format.specs.Theory.Lists.{entry-none, every-entry}
-use Rattle.terms.specs.Equation.{Equation, Direction, left-right, right-left, direction-of}
+use Rattle.terms.specs.Equation.{Equation, Direction, direction-of}
 use Rattle.terms.specs.Prefix.{equation-bytes}
 use Rattle.scanning.specs.declared.known.Known.{Known}
 use Rattle.sheet.specs.Sheet.{Sheet}
@@ -32,6 +32,7 @@ use Rattle.solver.specs.declared.positions.WalkResult.{WalkResult as Reported}
 use Rattle.outcomes.specs.Buffer.{field-limit, fields, refusal-number, filled, cleared, blanked}
 use Rattle.outcomes.specs.Asked.{found, find, asked, directed-in, solve-directed, equation-line}
 use Rattle.outcomes.specs.Outcome.{TableOutcome, table-unsolved, solve-walked, solve-answer}
+use Rattle.solver.specs.Theory.Equation.{some-direction}
 use Rattle.solver.specs.Contracts.Equation.{EquationIs, HasEquation}
 use Rattle.walking.specs.Contracts.Walking.{memory-bytes}
 use Rattle.solver.specs.Contracts.Reports.{ReportsEnd, Reports}
@@ -75,12 +76,6 @@ pub counts-low : (d : Direction) {bytes arities table after : List ℕ} {e : Equ
 counts-low d {table = table} {after} {e} {told} is t x =
     let (ls, y, l, a) = subst (λ f. ReportsEnd (solve e d) table after f (told .lines) (told .turns)) x (t .ends) in
     (omega (arith, l, solved-line-count e (is .limits) d ls (told .turns) y), omega (arith, solved-turn-count e (is .limits) d ls (told .turns) y))
-
-pub some-direction : (n : ℕ) → n < 2 → (d : Direction) × (direction-of n ≡ some d)
-unfolding direction-of
-some-direction zero h = (left-right, refl)
-some-direction (suc zero) h = (right-left, refl)
-some-direction (suc (suc n)) h = absurd (omega arith)
 
 no-direction : (n : ℕ) → 2 ≤ n → direction-of n ≡ none
 unfolding direction-of

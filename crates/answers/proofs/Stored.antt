@@ -1,24 +1,25 @@
 -- Laws for the call compare: the terms that its code stores are those of the task.
 use Prim.Native.Nat.{ℕ, _+_, _≤_}
 use mathlib.Core.Path.{_≡_, sym, ap, subst, _∙_}
-use mathlib.Core.List.{List, _++_, map, append-assoc, append-nil}
+use mathlib.Core.List.{List, _++_, append-assoc, append-nil}
 use lib.ListN.{length, getD, take, drop, replicate, length-append, length-replicate}
-use lib.Seq.{slice, length-take-le, take-append-add, take-at, drop-at}
+use lib.Seq.{slice, length-take-le, drop-at}
 use native.Mathlib.Omega.{arith}
 use Rattle.format.specs.Limits.{max-task-nodes, position-count, variable-count, scratch-bytes, node-count, cell-count}
 use Rattle.format.specs.Buffer.{written}
 use Rattle.terms.specs.Term.{Term, nil, cons, size, sizes}
-use Rattle.terms.specs.Position.{subterms-of}
-use Rattle.terms.specs.Prefix.{prefix, prefixes, terms-of}
+use Rattle.terms.specs.Prefix.{prefix, prefixes}
 use Rattle.terms.specs.Contracts.Fits.{AllFit}
-use Rattle.terms.specs.Theory.Prefix.{grounds-fit, length-prefix, terms-of-spelled}
-use Rattle.comparing.specs.Contracts.Nodes.{TermAt, RowDenotes, more, AllSymbols}
+use Rattle.terms.specs.Theory.Prefix.{grounds-fit, length-prefix, length-prefixes}
+use Rattle.comparing.specs.Contracts.Nodes.{TermAt, RowDenotes, more}
 use Rattle.comparing.specs.Contracts.Cells.{SettledCells}
-use Rattle.terms.specs.Contracts.Sizes.{Whole, Measurable, node-sizes}
+use Rattle.terms.specs.Contracts.Sizes.{Measurable, node-sizes}
 use Rattle.comparing.specs.Theory.Nodes.{ground-denotes}
-use Rattle.terms.specs.Theory.Sizes.{whole}
-use Rattle.comparing.specs.Theory.Stored.{PartAt, ground-row-denotes}
-use Rattle.comparing.specs.Theory.Cells.{none-ready, symbols-append, symbols-drop, symbols-take, zero-bytes, ground-symbols}
+use Rattle.terms.specs.Contracts.Stored.{AllSymbols}
+use Rattle.terms.specs.Theory.Placed.{Placed, placed-stored, placed-measurable, placed-sizes}
+use Rattle.terms.specs.Theory.Symbols.{symbols-append, symbols-drop, symbols-take, ground-symbols}
+use Rattle.comparing.specs.Theory.Stored.{ground-row-denotes}
+use Rattle.comparing.specs.Theory.Cells.{none-ready, zero-bytes}
 use Rattle.scanning.specs.declared.known.Known.{Known}
 use Rattle.scanning.specs.Contracts.Scan.{known-arities}
 use Rattle.scanning.specs.Contracts.Known.{Roomy}
@@ -26,13 +27,6 @@ use Rattle.outcomes.specs.Buffer.{filled, cleared}
 use Rattle.answers.proofs.Fill.{filled-behind, cleared-is}
 use Rattle.answers.specs.Contracts.Comparison.{PairIs, TwoAt}
 use Rattle.answers.proofs.Arities.{arities-taken}
-
--- These bytes stand in the nodes from the subject's first node on.
-pub record Placed (nodes bs : List ℕ) : Type 0 where
-  pub before : List ℕ
-  pub after : List ℕ
-  pub at : length before ≡ position-count
-  pub is : nodes ≡ before ++ (bs ++ after)
 
 pub placed : (nodes part former after bs : List ℕ) → position-count ≤ length nodes → part ≡ written bs former → Placed (take position-count nodes ++ (part ++ after)) bs
 unfolding written
@@ -51,17 +45,6 @@ placed-symbols nodes part former after bs a b c d e =
     symbols-append (take position-count nodes) (part ++ after) (symbols-take position-count nodes a)
     (symbols-append part after (rw e (symbols-append bs (drop (length bs) former) b (symbols-drop (length bs) former c))) d)
 
-placed-slice : (nodes bs : List ℕ) → Placed nodes bs → (n : ℕ) → n ≡ length bs → slice position-count (position-count + n) nodes ≡ bs
-placed-slice nodes bs p n e =
-    ap (slice position-count (position-count + n)) (p .is)
-    ∙ ap (λ k. drop position-count (take (k + n) (p .before ++ (bs ++ p .after)))) (sym (p .at))
-    ∙ ap (drop position-count) (take-append-add (p .before) (bs ++ p .after) n)
-    ∙ drop-at (p .before) (take n (bs ++ p .after)) position-count (p .at)
-    ∙ take-at bs (p .after) n (sym e)
-
-placed-stored : (nodes bs : List ℕ) → Placed nodes bs → PartAt nodes position-count bs
-placed-stored nodes bs p = record { rest = p .after; is = ap (drop position-count) (p .is) ∙ drop-at (p .before) (bs ++ p .after) position-count (p .at) }
-
 module _ {sheet arities : List ℕ} {from end : ℕ} {s t : Term} (p : PairIs sheet arities from end s t) where
   pair-bytes : prefix s ++ prefix t ≡ prefixes (cons s (cons t nil))
   unfolding prefix
@@ -76,23 +59,16 @@ module _ {sheet arities : List ℕ} {from end : ℕ} {s t : Term} (p : PairIs sh
   pair-fits : AllFit arities (cons s (cons t nil))
   pair-fits = grounds-fit arities (cons s (cons t nil)) (p .first-ground, (p .second-ground, tt))
 
+  pair-placed : {nodes : List ℕ} → Placed nodes (prefix s ++ prefix t) → Placed nodes (prefixes (cons s (cons t nil)))
+  pair-placed {nodes} = subst (Placed nodes) pair-bytes
+
+  pair-count : {n : ℕ} → n ≡ length (prefix s ++ prefix t) → n ≡ sizes (cons s (cons t nil))
+  pair-count e = e ∙ (ap length pair-bytes ∙ length-prefixes (cons s (cons t nil)))
+
   pub pair-measurable : (nodes lengths : List ℕ) (n : ℕ) → Placed nodes (prefix s ++ prefix t) → n ≡ length (prefix s ++ prefix t)
       → length nodes ≡ node-count → length lengths ≡ node-count → Measurable arities nodes lengths position-count (position-count + n)
   pair-measurable nodes lengths n a e x y =
-      record {
-        ordered = omega arith;
-        few = omega (arith, pair-few);
-        nodes-room = omega (arith, pair-few);
-        sizes-room = omega (arith, pair-few);
-        terms = subst (Whole arities) (sym (placed-slice nodes (prefix s ++ prefix t) a n e ∙ pair-bytes)) (whole arities (p .few-symbols) (cons s (cons t nil)) pair-fits);
-      }
-
-  measured : (nodes : List ℕ) (n : ℕ) → Placed nodes (prefix s ++ prefix t) → n ≡ length (prefix s ++ prefix t)
-      → node-sizes arities (slice position-count (position-count + n) nodes) ≡ map size (subterms-of (cons s (cons t nil)))
-  unfolding node-sizes
-  measured nodes n a e =
-      ap (λ bs. map size (subterms-of (terms-of arities bs))) (placed-slice nodes (prefix s ++ prefix t) a n e ∙ pair-bytes)
-      ∙ ap (λ ts. map size (subterms-of ts)) (terms-of-spelled arities (p .few-symbols) (cons s (cons t nil)) pair-fits)
+      placed-measurable arities (p .few-symbols) (cons s (cons t nil)) pair-fits nodes (pair-placed a) n (pair-count e) lengths x y (omega (arith, pair-few))
 
   two-at : (nodes lengths : List ℕ) (second end : ℕ) → second ≡ position-count + getD lengths position-count 0
       → RowDenotes nodes lengths (λ v u. ⊥) position-count end (cons s (cons t nil)) → TwoAt nodes lengths s t second
@@ -109,15 +85,9 @@ module _ {sheet arities : List ℕ} {from end : ℕ} {s t : Term} (p : PairIs sh
       → second ≡ position-count + getD lengths position-count 0 → TwoAt nodes lengths s t second
   unfolding size
   pair-stands nodes before lengths after n second a e h l r =
-      let bytes = subst (PartAt nodes position-count) pair-bytes (placed-stored nodes (prefix s ++ prefix t) a) in
-      let there = placed-stored lengths (map size (subterms-of (cons s (cons t nil)))) (record {
-        before = take position-count before;
-        after = after;
-        at = length-take-le position-count before h;
-        is = l ∙ ap (λ m. take position-count before ++ (m ++ after)) (measured nodes n a e);
-      }) in
+      let there = placed-sizes arities (p .few-symbols) (cons s (cons t nil)) pair-fits nodes (pair-placed a) n (pair-count e) before lengths after h l in
       two-at nodes lengths second (position-count + sizes (cons s (cons t nil))) r
-      (ground-row-denotes arities (p .few-symbols) (cons s (cons t nil)) (p .first-ground, (p .second-ground, tt)) bytes there (omega (arith, p .few-nodes)))
+      (ground-row-denotes arities (p .few-symbols) (cons s (cons t nil)) (p .first-ground, (p .second-ground, tt)) (placed-stored (pair-placed a)) there (omega (arith, p .few-nodes)))
 
 -- The cells stand first in scratch.
 module _ (scratch : List ℕ) (room : scratch-bytes ≤ length scratch) where

@@ -21,7 +21,7 @@ ghost use lib.ListN.{length};
 ghost use Rattle.format.specs.Limits.{scratch-bytes, node-count};
 ghost use Rattle.terms.specs.Term.{Term};
 ghost use Rattle.ordering.specs.Verdict.{verdict};
-ghost use Rattle.comparing.specs.Contracts.Nodes.{AllSymbols};
+ghost use Rattle.terms.specs.Contracts.Stored.{AllSymbols};
 ghost use Rattle.reading.specs.Contracts.Seek.{Accepts};
 ghost use Rattle.scanning.specs.Contracts.Scan.{known-arities};
 ghost use Rattle.scanning.specs.Contracts.Known.{Roomy};

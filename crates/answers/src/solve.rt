@@ -22,7 +22,7 @@ ghost use Rattle.outcomes.specs.Outcome.{solve-walked, solve-answer};
 ghost use Rattle.solver.specs.Contracts.Equation.{EquationIs, HasEquation};
 
 // Frame 01 is line 1, and the equations follow, one a line.
-const FIRST_EQUATION_LINE: usize = 2;
+pub const FIRST_EQUATION_LINE: usize = 2;
 
 // Solve on the bytes of equation `equation`.
 fn solve_bytes(

@@ -1,5 +1,5 @@
 -- Demands 2 and 3 over what the calls give, each a proposition beside its words. Theory proves them: Verdicts, Tables, Runs. The contracts of
--- check, compare and solve (src/) equate what the code gives with these outcomes, so that the demands speak of the code; run's is to come.
+-- the five calls (src/) equate what the code gives with these outcomes, so that the demands speak of the code.
 use Prim.Native.Nat.{ℕ, _≤_, _<_}
 use mathlib.Core.Path.{_≡_}
 use mathlib.Core.Logic.{_⊎_, _↔_}

@@ -1,5 +1,6 @@
-// The numbers of the format, the kinds of frames, the refusals, and the classes of node bytes.
+// The numbers of the format, the kinds of frames, the refusals, the classes of node bytes, and the copying of bytes.
 pub mod byte;
+pub mod copy;
 pub mod kind;
 pub mod limits;
 pub mod refusal;

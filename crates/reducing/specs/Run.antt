@@ -9,6 +9,8 @@ use Rattle.terms.specs.Term.{Term, size, Values, inst}
 use Rattle.terms.specs.Position.{subterms, replace}
 use Rattle.terms.specs.Equation.{Equation, Direction, left-right, right-left, source, target}
 use Rattle.ordering.specs.Order.{_≻_}
+pub use Rattle.reducing.specs.declared.ending.Ending.{Ending}
+pub use Rattle.reducing.specs.declared.ending.Ending.the-variants.{NoneFound as none-found, LimitReached as limit-reached, ResultTooLarge as result-too-large}
 use Rattle.reducing.specs.Match.{no-match, match, values-of, usable}
 
 -- "The steps (equation, direction, position)", each with the term that it gives.
@@ -18,12 +20,7 @@ pub record Step : Type 0 where
   pub position : ℕ
   pub result : Term
 
-pub data Ending : Type 0 where
-  -- "none found, ending 00; k steps done, ending 01; result above 160 nodes, ending 02"
-  none-found : Ending
-  limit-reached : Ending
-  result-too-large : Ending
-
+-- "none found, ending 00; k steps done, ending 01; result above 160 nodes, ending 02"
 unfoldable pub ending-number : Ending → ℕ
 ending-number none-found = 0
 ending-number limit-reached = 1

@@ -2,21 +2,23 @@
 use Prim.Native.Nat.{ℕ, _+_, _-_, _*_, _≤_, _<_}
 use mathlib.Core.Path.{_≡_, refl, sym, ap, subst, _∙_}
 use mathlib.Core.List.{List, [], _∷_, _++_}
-use lib.ListN.{length, getD, set, take, drop, replicate}
-use lib.Seq.{drop-length, getD-take}
+use lib.ListN.{length, take, drop, replicate}
+use lib.Seq.{drop-length, take-append-le}
 use native.Mathlib.Omega.{arith}
 use Rattle.format.specs.Buffer.{written}
 use Rattle.format.specs.Limits.{variable-count, no-position, max-lines, max-turns, record-bytes}
 use Rattle.format.specs.declared.refusal.Refusal.{Refusal}
 use Rattle.solving.specs.Line.{no-bindings, records}
-use Rattle.solving.specs.Walk.{enough, walk-from, walk}
+use Rattle.solving.specs.Walk.{Walked, enough, walk-from, walk}
 use Rattle.solving.specs.Theory.Whole.{no-bindings-proper}
 use Rattle.walking.specs.declared.walk.Walk.{Walk}
 use Rattle.walking.specs.declared.walk.Advanced.{Advanced}
 use Rattle.walking.specs.declared.walk.Progress.{Progress}
 use Rattle.walking.specs.declared.walk.Progress.the-variants.{Going, Refused}
+use Rattle.solver.specs.declared.positions.WalkEnd.{WalkEnd}
 use Rattle.solver.specs.declared.positions.WalkEnd.the-variants.{Solved, Refused as Unsolved}
-use Rattle.solver.specs.Contracts.Reports.{ReportsWalk}
+use Rattle.solver.specs.declared.positions.WalkResult.{WalkResult as Reported}
+use Rattle.solver.specs.Contracts.Reports.{ReportsEnd, Reports, LeavesEnd, Leaves, LeavesWalk}
 use Rattle.unifying.specs.Contracts.PrefixForm.{view-of, InPrefixForm}
 use Rattle.unifying.specs.Contracts.Bindings.{bindings-of, Readable}
 use Rattle.lines.specs.Contracts.Resting.{resting-bytes}
@@ -25,7 +27,6 @@ use Rattle.lines.specs.Contracts.Layout.{line-bytes, placed}
 use Rattle.lines.specs.Contracts.Room.{lines-bytes}
 use Rattle.walking.specs.Contracts.WellFormed.{WellFormed}
 use Rattle.walking.specs.Contracts.Walking.{memory-bytes, whole-walk, Walking, left-to-do, GoesOn, Advances, AdvancesAs, EndsAs, WalkEnds}
-use Rattle.unifying.specs.Theory.Front.{Fronting, fronting-next, fronting-done}
 use Rattle.unifying.specs.Theory.PrefixForm.{form-layout}
 use Rattle.lines.specs.Theory.Placed.{placed-length}
 use Rattle.lines.specs.Theory.Line.{opening-means}
@@ -117,15 +118,7 @@ module _ {nodes sizes : List ℕ} {w v : Walk} where
 pub underway-start : {nodes sizes memory : List ℕ} (w : Walk) → Walking nodes sizes memory w → Underway nodes sizes memory w w
 underway-start w k = record { walking = k; same-source = refl; same-target = refl; top-within = omega (arith, k .holds .top-is) }
 
--- 3. What the walk ended with is copied to the table.
-pub front-next : (n i : ℕ) (from before after : List ℕ) → Fronting n (take n from) before after i → i < n → Fronting n (take n from) before (set after i (getD from i 0)) (i + 1)
-front-next n i from before after f h = subst (λ x. Fronting n (take n from) before (set after i x) (i + 1)) (getD-take n from i 0 h) (fronting-next f h)
-
-pub front-done : (n i : ℕ) (from before after : List ℕ) → Fronting n (take n from) before after i → n ≤ i → after ≡ written (take n from) before
-unfolding written
-front-done n i from before after f h = fronting-done f h ∙ ap (λ k. take n from ++ drop k before) (sym (f .whole))
-
--- 4. The end of the walk, told.
+-- 3. The end of the walk, told.
 module _ {nodes sizes memory : List ℕ} {w : Walk} (source target : ℕ) (same-source : w .source ≡ source) (same-target : w .target ≡ target) (a : Advanced) (c : WalkEnds nodes sizes memory w a) where
   comes-walk : whole-walk nodes sizes w ≡ walk enough (view-of nodes sizes) source target
   comes-walk = rw (same-source, same-target)
@@ -133,17 +126,36 @@ module _ {nodes sizes memory : List ℕ} {w : Walk} (source target : ℕ) (same-
   ended-as : a .progress ≡ Going → EndsAs nodes sizes memory w (a .walk) Going
   ended-as e = subst (λ p. EndsAs nodes sizes memory w (a .walk) p) e (c .end)
 
-  pub places-within : a .progress ≡ Going → (a .walk .done ≤ a .walk .top) × (a .walk .top ≤ max-lines)
-  places-within e =
-      let m = ended-as e .0 .holds in
-      (m .ordered, omega (arith, m .top-is))
-
-  pub solved-tells : a .progress ≡ Going → (table table′ : List ℕ) → table′ ≡ written (take (a .walk .done * record-bytes) memory) table
-      → ReportsWalk nodes sizes source target table table′ (record { ending = Solved; lines = a .walk .done; turns = a .walk .turns })
-  solved-tells e table table′ t =
+  pub solved-leaves : a .progress ≡ Going → LeavesWalk nodes sizes source target memory (record { ending = Solved; lines = a .walk .done; turns = a .walk .turns })
+  solved-leaves e =
       let (k, h, s) = ended-as e in
       let (x, y, z) = ended nodes sizes memory (a .walk) k h in
-      record { ends = (k .finished, sym comes-walk ∙ (sym s ∙ x), sym y, t ∙ ap (λ part. written part table) z) }
+      record { ends = (k .finished, sym comes-walk ∙ (sym s ∙ x), sym y, omega (arith, k .holds .ordered, k .holds .top-is), z) }
 
-  pub refused-tells : (why : Refusal) → a .progress ≡ Refused why → (table : List ℕ) → ReportsWalk nodes sizes source target table table (record { ending = Unsolved why; lines = 0; turns = 0 })
-  refused-tells why e table = record { ends = (sym comes-walk ∙ subst (λ p. EndsAs nodes sizes memory w (a .walk) p) e (c .end), refl) }
+  pub refused-leaves : (why : Refusal) → a .progress ≡ Refused why → LeavesWalk nodes sizes source target memory (record { ending = Unsolved why; lines = 0; turns = 0 })
+  refused-leaves why e = record { ends = sym comes-walk ∙ subst (λ p. EndsAs nodes sizes memory w (a .walk) p) e (c .end) }
+
+-- 4. The records are copied to the table.
+module _ {w : Walked} {memory : List ℕ} (r : Reported) (leaves : Leaves w memory r) where
+  solved-ends : r .ending ≡ Solved → LeavesEnd w memory Solved (r .lines) (r .turns)
+  solved-ends e = subst (λ x. LeavesEnd w memory x (r .lines) (r .turns)) e (leaves .ends)
+
+  pub few-lines : r .ending ≡ Solved → r .lines ≤ max-lines
+  few-lines e = solved-ends e .3
+
+  pub solved-tells : r .ending ≡ Solved → length memory ≡ memory-bytes → (behind table table′ : List ℕ) → table′ ≡ written (take (r .lines * record-bytes) (memory ++ behind)) table
+      → Reports w table table′ r
+  solved-tells e l behind table table′ t =
+      let (ls, x, y, f, z) = solved-ends e in
+      let front = take-append-le (r .lines * record-bytes) memory behind (omega (arith, f, l)) in
+      record { ends = subst (λ x. ReportsEnd w table table′ x (r .lines) (r .turns)) (sym e) (ls, x, y, t ∙ ap (λ part. written part table) (front ∙ z)) }
+
+  pub refused-tells : (r .ending ≡ Solved → ⊥) → (table : List ℕ) → Reports w table table r
+  refused-tells n table = go (r .ending) refl (leaves .ends)
+    where
+      go : (x : WalkEnd) → r .ending ≡ x → LeavesEnd w memory x (r .lines) (r .turns) → Reports w table table r
+      go Solved e o = absurd (n e)
+      go (Unsolved why) e o = record { ends = subst (λ x. ReportsEnd w table table x (r .lines) (r .turns)) (sym e) (o, refl) }
+
+pub not-solved : {x : WalkEnd} {why : Refusal} → x ≡ Unsolved why → x ≡ Solved → ⊥
+not-solved h e = let z : _≡_ {A = ℕ} 0 1 = cc (h, e) in absurd (omega arith)

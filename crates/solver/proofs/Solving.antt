@@ -3,12 +3,13 @@ use Prim.Native.Nat.{ℕ, _≤_, _<_}
 use mathlib.Core.Path.{_≡_, refl, sym, ap, subst, _∙_}
 use mathlib.Core.Option.{some}
 use mathlib.Core.List.{List, _++_}
-use lib.ListN.{length, getD, take, drop, List·getD-append}
+use lib.ListN.{length, getD, take, drop}
 use lib.Seq.{slice, take-all, take-at, drop-at, length-take-le}
 use native.Mathlib.Omega.{arith}
 use Rattle.format.specs.Limits.{position-count}
 use Rattle.terms.specs.Term.{size}
 use Rattle.terms.specs.Equation.{Equation, Direction, left-right, right-left, direction-of, source-position, target-position}
+use Rattle.terms.specs.Prefix.{equation-bytes}
 use Rattle.terms.specs.Contracts.Limits.{positions}
 use Rattle.terms.specs.Theory.Limits.{positions-few}
 use Rattle.terms.specs.Theory.Position.{size-pos}
@@ -19,8 +20,8 @@ use Rattle.unifying.specs.Contracts.PrefixForm.{view-of, InPrefixForm}
 use Rattle.unifying.specs.Contracts.Equation.{equation-sizes}
 use Rattle.unifying.specs.Theory.Equation.{length-nodes, length-sizes, size-at, equation-walk, equation-form}
 use Rattle.solver.specs.declared.positions.WalkResult.{WalkResult as Reported}
-use Rattle.solver.specs.Contracts.Reports.{Reports}
-use Rattle.solver.specs.Contracts.Equation.{EquationIs}
+use Rattle.solver.specs.Contracts.Reports.{Leaves, LeavesWalk}
+use Rattle.solver.specs.Contracts.Equation.{EquationIs, SidesAre}
 use Rattle.walking.specs.Contracts.Walking.{memory-bytes}
 use Rattle.solver.specs.Theory.Equation.{equation-whole, equation-measured}
 
@@ -32,6 +33,45 @@ first-direction {n} {d} e h = let x : some left-right ≡ some d = sym (ap direc
 second-direction : {n : ℕ} {d : Direction} → n ≡ 1 → direction-of n ≡ some d → d ≡ right-left
 unfolding direction-of
 second-direction {n} {d} e h = let x : some right-left ≡ some d = sym (ap direction-of e) ∙ h in cc
+
+-- The walk over an equation's bytes and sizes is that of the equation.
+module _ {nodes lengths : List ℕ} {e : Equation} (are : SidesAre nodes lengths e) where
+  abbrev spelled : nodes ≡ equation-bytes e
+  spelled = are .is .spelled
+
+  nodes-count : length nodes ≡ positions e
+  nodes-count = ap length spelled ∙ length-nodes e
+
+  pub sizes-some : 0 < length lengths
+  sizes-some = omega (arith, ap length (are .measured) ∙ length-sizes e, size-pos (e .left))
+
+  right-start : getD lengths 0 0 ≡ size (e .left)
+  right-start = ap (λ l. getD l 0 0) (are .measured) ∙ size-at e 0 (omega (arith, length-sizes e, size-pos (e .left))) ∙ ap size (left-at e)
+
+  pub sides-laid : InPrefixForm nodes lengths
+  sides-laid = rw (are .measured, spelled) (equation-form e (are .arities) (are .is .few-symbols) (are .is .left-fits) (are .is .right-fits) (are .is .limits))
+
+  pub left-within : 0 < length nodes
+  left-within = omega (arith, nodes-count, size-pos (e .left))
+
+  pub right-within : getD lengths 0 0 < length nodes
+  right-within = omega (arith, nodes-count, right-start, size-pos (e .right))
+
+  walk-is : (d : Direction) (s t : ℕ) → s ≡ source-position e d → t ≡ target-position e d → walk enough (view-of nodes lengths) s t ≡ solve e d
+  walk-is d s t x y = rw (x, y, are .measured, spelled) (equation-walk e (are .arities) (are .is .few-symbols) (are .is .left-fits) (are .is .right-fits) d)
+
+  module _ (n : ℕ) (d : Direction) (is-direction : direction-of n ≡ some d) (right : ℕ) (is-right : right ≡ getD lengths 0 0) (memory : List ℕ) (told : Reported) where
+    pub leaves-left : n ≡ 0 → LeavesWalk nodes lengths 0 right memory told → Leaves (solve e d) memory told
+    unfolding source-position target-position
+    leaves-left h t =
+        let x = first-direction h is-direction in
+        subst (λ d. Leaves (solve e d) memory told) (sym x) (subst (λ w. Leaves w memory told) (walk-is left-right 0 right refl (is-right ∙ right-start)) t)
+
+    pub leaves-right : n ≡ 1 → LeavesWalk nodes lengths right 0 memory told → Leaves (solve e d) memory told
+    unfolding source-position target-position
+    leaves-right h t =
+        let x = second-direction h is-direction in
+        subst (λ d. Leaves (solve e d) memory told) (sym x) (subst (λ w. Leaves w memory told) (walk-is right-left right 0 (is-right ∙ right-start) refl) t)
 
 module _ {bytes arities : List ℕ} {e : Equation} (is : EquationIs bytes arities e) where
   bytes-count : length bytes ≡ positions e
@@ -55,48 +95,19 @@ module _ {bytes arities : List ℕ} {e : Equation} (is : EquationIs bytes aritie
   pub sizes-room : (sizes : List ℕ) → length sizes ≡ position-count → length bytes ≡ length (take (length bytes) sizes)
   sizes-room sizes l = sym (length-take-le (length bytes) sizes (omega (arith, bytes-few)))
 
-  -- What `measure` leaves: the equation's sizes stand first, and the first of them tells where the right side starts.
-  module _ (before after : List ℕ) (fills : after ≡ take 0 before ++ (node-sizes arities (slice 0 (length bytes) bytes) ++ drop (length bytes) before)) where
-    sizes-first : after ≡ equation-sizes e ++ drop (length bytes) before
-    sizes-first =
-        fills
-        ∙ ap (λ bs. node-sizes arities bs ++ drop (length bytes) before) (bytes-slice ∙ is .spelled)
-        ∙ ap (_++ drop (length bytes) before) (equation-measured arities (is .few-symbols) e (is .left-fits) (is .right-fits))
-
-    sizes-taken : take (length bytes) after ≡ equation-sizes e
-    sizes-taken = ap (take (length bytes)) sizes-first ∙ take-at (equation-sizes e) (drop (length bytes) before) (length bytes) (length-sizes e ∙ sym bytes-count)
-
-    module _ (right : ℕ) (r : right ≡ getD after 0 0) where
-      right-start : right ≡ size (e .left)
-      right-start =
-          let few : 0 < length (equation-sizes e) = omega (arith, length-sizes e, size-pos (e .left)) in
-          r ∙ ap (λ l. getD l 0 0) sizes-first ∙ List·getD-append (equation-sizes e) (drop (length bytes) before) 0 0 few ∙ size-at e 0 (omega (arith, length-sizes e)) ∙ ap size (left-at e)
-
-      pub sides-laid : InPrefixForm bytes (take (length bytes) after)
-      sides-laid = rw (sizes-taken, is .spelled) (equation-form e arities (is .few-symbols) (is .left-fits) (is .right-fits) (is .limits))
-
-      pub left-within : 0 < length bytes
-      left-within = omega (arith, bytes-count, size-pos (e .left))
-
-      pub right-within : right < length bytes
-      right-within = omega (arith, bytes-count, right-start, size-pos (e .right))
-
-      -- The walk over the bytes is that of the equation.
-      walk-is : (d : Direction) (s t : ℕ) → s ≡ source-position e d → t ≡ target-position e d → walk enough (view-of bytes (take (length bytes) after)) s t ≡ solve e d
-      walk-is d s t x y = rw (x, y, sizes-taken, is .spelled) (equation-walk e arities (is .few-symbols) (is .left-fits) (is .right-fits) d)
-
-      module _ (n : ℕ) (d : Direction) (is-direction : direction-of n ≡ some d) (b a : List ℕ) (told : Reported) where
-        pub tells-left : n ≡ 0 → Reports (walk enough (view-of bytes (take (length bytes) after)) 0 right) b a told → Reports (solve e d) b a told
-        unfolding source-position target-position
-        tells-left h t =
-            let x = first-direction h is-direction in
-            subst (λ d. Reports (solve e d) b a told) (sym x) (subst (λ w. Reports w b a told) (walk-is left-right 0 right refl right-start) t)
-
-        pub tells-right : n ≡ 1 → Reports (walk enough (view-of bytes (take (length bytes) after)) right 0) b a told → Reports (solve e d) b a told
-        unfolding source-position target-position
-        tells-right h t =
-            let x = second-direction h is-direction in
-            subst (λ d. Reports (solve e d) b a told) (sym x) (subst (λ w. Reports w b a told) (walk-is right-left right 0 right-start refl) t)
+  -- What `measure` leaves: the equation's sizes stand first.
+  pub sides-are : (before after : List ℕ) → after ≡ take 0 before ++ (node-sizes arities (slice 0 (length bytes) bytes) ++ drop (length bytes) before)
+      → SidesAre bytes (take (length bytes) after) e
+  sides-are before after fills =
+      let first : after ≡ equation-sizes e ++ drop (length bytes) before =
+      fills
+      ∙ ap (λ bs. node-sizes arities bs ++ drop (length bytes) before) (bytes-slice ∙ is .spelled)
+      ∙ ap (_++ drop (length bytes) before) (equation-measured arities (is .few-symbols) e (is .left-fits) (is .right-fits)) in
+      record {
+        arities = arities;
+        is = is;
+        measured = ap (take (length bytes)) first ∙ take-at (equation-sizes e) (drop (length bytes) before) (length bytes) (length-sizes e ∙ sym bytes-count);
+      }
 
 -- Behind the bytes that the walk works in scratch is as it was.
 pub behind-kept : (scratch front : List ℕ) → memory-bytes ≤ length scratch → length front ≡ length (take memory-bytes scratch) → drop memory-bytes (front ++ drop memory-bytes scratch) ≡ drop memory-bytes scratch

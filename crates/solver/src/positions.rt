@@ -10,14 +10,12 @@ use walking::walk::Progress;
 use walking::walk::Walk;
 use walking::walk::going;
 ghost use mathlib.Core.Path.{_≡_};
-ghost use Prim.Native.Nat.{_≤_, _<_};
-ghost use lib.ListN.{length, take};
-ghost use Rattle.format.specs.Buffer.{written};
-ghost use Rattle.format.specs.Limits.{table-bytes};
+ghost use Prim.Native.Nat.{_<_};
+ghost use lib.ListN.{length};
 ghost use Rattle.unifying.specs.Contracts.PrefixForm.{InPrefixForm};
 ghost use Rattle.unifying.specs.Contracts.Sets.{HasVariables};
 ghost use Rattle.walking.specs.Contracts.Walking.{memory-bytes, Walking, WalkEnds};
-ghost use Rattle.solver.specs.Contracts.Reports.{ReportsWalk};
+ghost use Rattle.solver.specs.Contracts.Reports.{LeavesWalk};
 
 // The place of the first line: the last of the memory.
 const FIRST: usize = Limits::LINES - 1;
@@ -75,30 +73,17 @@ fn go_on(walk: Walk, nodes: &[u8], sizes: &[u8], variables: &[u16], memory: &mut
     going(cursor)
 }
 
-// The first `n` bytes of `from` stand first in `to`.
-fn copy_front(from: &[u8], to: &mut [u8], n: usize)
-    requires { ⌜ (n ≤ length (now from)) × (n ≤ length (now to)) ⌝ }
-    ensures { λ _. ⌜ now (to .exit) ≡ written (take n (now (from .entry))) (now (to .entry)) ⌝ }
-{
-    let mut i = 0;
-    while i < n {
-        to[i] = from[i];
-        i = i + 1;
-    }
-}
-
-// Solves source > target over an equation's bytes and sizes. The records of the solved lines stand first in `table`; a refused walk leaves it as it was.
-pub fn solve_positions(
+// Walks source > target over an equation's bytes and sizes. The records of the solved lines stand first in `memory`.
+pub fn walk_positions(
     nodes: &[u8],
     sizes: &[u8],
     source: usize,
     target: usize,
-    table: &mut [u8],
     memory: &mut [u8],
 ) -> WalkResult
     requires { ⌜ InPrefixForm (now nodes) (now sizes) × (source < length (now nodes)) × (target < length (now nodes)) ⌝ }
-    requires { ⌜ (table-bytes ≤ length (now table)) × (length (now memory) ≡ memory-bytes) ⌝ }
-    ensures { λ r. ⌜ ReportsWalk (now (nodes .entry)) (now (sizes .entry)) source target (now (table .entry)) (now (table .exit)) r ⌝ }
+    requires { ⌜ length (now memory) ≡ memory-bytes ⌝ }
+    ensures { λ r. ⌜ LeavesWalk (now (nodes .entry)) (now (sizes .entry)) source target (now (memory .exit)) r ⌝ }
 {
     let n = nodes.len();
     let mut variables = [0u16; Limits::POSITIONS];
@@ -108,14 +93,11 @@ pub fn solve_positions(
     let walk = last.walk;
     let progress = last.progress;
     match progress {
-        Progress::Going => {
-            copy_front(memory, table, walk.done * Limits::RECORD);
-            WalkResult {
-                ending: WalkEnd::Solved,
-                lines: walk.done,
-                turns: walk.turns,
-            }
-        }
+        Progress::Going => WalkResult {
+            ending: WalkEnd::Solved,
+            lines: walk.done,
+            turns: walk.turns,
+        },
         Progress::Refused(why) => WalkResult {
             ending: WalkEnd::Refused(why),
             lines: 0,

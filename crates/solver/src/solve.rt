@@ -1,8 +1,10 @@
 // The walk of one direction of an equation, from the equation's bytes.
 use crate::positions::MEMORY;
+use crate::positions::WalkEnd;
 use crate::positions::WalkResult;
-use crate::positions::solve_positions;
+use crate::positions::walk_positions;
 use format::byte::wide;
+use format::copy::copy_front;
 use format::limits::Limits;
 use terms::measure::measure;
 ghost use mathlib.Core.Path.{_≡_};
@@ -12,11 +14,23 @@ ghost use lib.ListN.{length, drop};
 ghost use Rattle.format.specs.Limits.{table-bytes};
 ghost use Rattle.terms.specs.Equation.{Equation, Direction, direction-of};
 ghost use Rattle.solving.specs.Walk.{solve};
-ghost use Rattle.solver.specs.Contracts.Equation.{EquationIs, HasEquation};
+ghost use Rattle.solver.specs.Contracts.Equation.{EquationIs, HasEquation, SidesAre, HasSides};
 ghost use Rattle.walking.specs.Contracts.Walking.{memory-bytes};
-ghost use Rattle.solver.specs.Contracts.Reports.{Reports};
+ghost use Rattle.solver.specs.Contracts.Reports.{Reports, Leaves};
 
-// The walk of one direction of the equation with these bytes. Scratch holds anything in the bytes that the walk works in.
+// The walk of one direction of the equation with these bytes and sizes. The records of the solved lines stand first in `memory`.
+pub fn walk_direction(nodes: &[u8], sizes: &[u8], direction: usize, memory: &mut [u8]) -> WalkResult
+    requires { ⌜ HasSides (now nodes) (now sizes) × (direction < 2) × (length (now memory) ≡ memory-bytes) ⌝ }
+    ensures { λ r. ⌜ ((e : Equation) (d : Direction) → SidesAre (now (nodes .entry)) (now (sizes .entry)) e → direction-of direction ≡ some d → Leaves (solve e d) (now (memory .exit)) r) ⌝ }
+{
+    let right = wide(sizes[0]);
+    if direction == 0 {
+        return walk_positions(nodes, sizes, 0, right, memory);
+    }
+    walk_positions(nodes, sizes, right, 0, memory)
+}
+
+// Solves one direction of the equation with these bytes. The records of the solved lines stand first in `table`; a refused walk leaves it as it was. Scratch holds anything in the bytes that the walk works in.
 pub fn solve_equation(
     bytes: &[u8],
     arities: &[u8],
@@ -32,9 +46,11 @@ pub fn solve_equation(
     let mut sizes = [0u8; Limits::POSITIONS];
     let n = bytes.len();
     measure(bytes, arities, &mut sizes, 0, n);
-    let right = wide(sizes[0]);
-    if direction == 0 {
-        return solve_positions(bytes, &sizes[..n], 0, right, table, &mut scratch[..MEMORY]);
-    }
-    solve_positions(bytes, &sizes[..n], right, 0, table, &mut scratch[..MEMORY])
+    let walked = walk_direction(bytes, &sizes[..n], direction, &mut scratch[..MEMORY]);
+    let ending = walked.ending;
+    let WalkEnd::Solved = ending else {
+        return walked;
+    };
+    copy_front(scratch, table, walked.lines * Limits::RECORD);
+    walked
 }

@@ -3,3 +3,4 @@ pub mod Seen
 pub mod Bindings
 pub mod Unified
 pub mod Within
+pub mod Written

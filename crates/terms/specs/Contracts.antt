@@ -3,3 +3,4 @@ pub mod Arguments
 pub mod Sizes
 pub mod Fits
 pub mod Limits
+pub mod Stored

@@ -7,3 +7,9 @@ pub mod View
 pub mod Prefix
 pub mod Append
 pub mod Sizes
+pub mod Stored
+pub mod Variables
+pub mod Spelled
+pub mod Symbols
+pub mod Replace
+pub mod Placed

@@ -1,6 +1,5 @@
 -- Laws.
 pub mod Equation
-pub mod Front
 pub mod Unify
 pub mod Bindings
 pub mod PrefixForm

@@ -12,7 +12,7 @@ use Rattle.format.specs.Limits.{variable-count, max-elements, max-lines, max-tu
 use Rattle.format.specs.declared.refusal.Refusal.the-variants.{TooManyTurns as too-many-turns}
 use Rattle.solving.specs.Line.{Bindings, Element, equal, greater, line as line-with, record-of}
 use Rattle.solving.specs.Walk.{enough, becomes, refused, unified, unify, treat, treat-line}
-use Rattle.solving.specs.Theory.Written.{Inequalities}
+use Rattle.solving.specs.Contracts.Written.{Inequalities}
 use Rattle.solving.specs.Contracts.Within.{Within, AllWithin}
 use Rattle.unifying.specs.declared.unify.Answer.the-variants.{Unified, Failed}
 use Rattle.unifying.specs.declared.unifier.Unifier.{Unifier}

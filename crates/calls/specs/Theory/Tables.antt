@@ -22,7 +22,7 @@ use Rattle.sheet.specs.Theory.Accepted.{accepted-valid}
 use Rattle.solving.specs.Line.{Bindings, lookup, Element, equal, greater, Line, line, records}
 use Rattle.solving.specs.Walk.{Walked, solved, refused, solve}
 use Rattle.solving.specs.Contracts.Within.{AllWithin}
-use Rattle.solving.specs.Theory.Written.{Inequalities, WrittenLines}
+use Rattle.solving.specs.Contracts.Written.{Inequalities, WrittenLines}
 use Rattle.solving.specs.Theory.Solve.{solve-exact, solved-lines}
 use Rattle.outcomes.specs.Buffer.{fields, refusal-byte, cleared}
 use Rattle.outcomes.specs.Asked.{found, find, asked, Directed, directed-in, solve-directed}

@@ -42,7 +42,3 @@ TermsAt nodes sizes values = RowDenotes nodes sizes (ValueOf nodes sizes values)
 -- The node that stands for the same term as node `i` and is no variable.
 unfoldable pub resolved : (nodes values : List ℕ) → ℕ → ℕ
 resolved nodes values i = elim (ltb (getD nodes i 0) first-variable) [ true ↦ i | false ↦ getD values (getD nodes i 0 - first-variable) 0 ]
-
--- No byte is a variable's; nor is 0, which is read behind the end.
-unfoldable pub AllSymbols : List ℕ → Type 0
-AllSymbols bytes = (i : ℕ) → getD bytes i 0 < first-variable

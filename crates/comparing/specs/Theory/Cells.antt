@@ -2,18 +2,17 @@
 use Prim.Native.Nat.{ℕ, zero, suc, _+_, _*_, _≤_, _<_}
 use mathlib.Core.Path.{_≡_, refl, sym, ap, _∙_}
 use mathlib.Core.Logic.{_⊎_, inl, inr}
-use mathlib.Core.List.{List, [], _∷_, _++_}
+use mathlib.Core.List.{List, [], _∷_}
 use native.Mathlib.Omega.{arith}
 use native.Mathlib.Decide.{decLt}
-use lib.ListN.{length, getD, take, drop, replicate}
-use lib.Seq.{getD-drop}
-use Rattle.format.specs.Limits.{max-symbols, position-count, first-variable, variable-count, node-count, cell-count}
+use lib.ListN.{length, getD, replicate}
+use Rattle.format.specs.Limits.{position-count, first-variable, variable-count, node-count, cell-count}
 use Rattle.format.specs.Byte.{class-of}
 use Rattle.format.specs.Theory.Byte.{class-variable}
-use Rattle.terms.specs.Term.{Term, Terms, var, app, nil, cons, Ground, Grounds}
-use Rattle.terms.specs.Prefix.{prefix, prefixes}
+use Rattle.terms.specs.Term.{Term, Terms}
+use Rattle.terms.specs.Contracts.Stored.{AllSymbols}
 use Rattle.ordering.specs.Verdict.{verdict, verdict-number}
-use Rattle.comparing.specs.Contracts.Nodes.{TermAt, Denotes, symbol-node, variable-node, RowDenotes, none, more, AllSymbols}
+use Rattle.comparing.specs.Contracts.Nodes.{TermAt, Denotes, symbol-node, variable-node, RowDenotes, none, more}
 use Rattle.comparing.specs.Contracts.Cells.{SettledCells, Cleared, MadeReady}
 use Rattle.comparing.specs.Theory.Nodes.{within}
 
@@ -90,24 +89,7 @@ next-match {nodes} {lengths} {values} {ready} {cells} {nodes-after} {lengths-aft
           m .settled i j s t (omega (arith, r .above i c)) k (subject-denotes (m .symbols) n l c a) (subject-denotes (m .symbols) n l k b)
     ]
 
--- Bytes without variables: the prefix forms of ground terms, and what is put together from such bytes.
-pub symbols-append : (xs ys : List ℕ) → AllSymbols xs → AllSymbols ys → AllSymbols (xs ++ ys)
-unfolding AllSymbols
-symbols-append [] ys h k i = k i
-symbols-append (x ∷ xs) ys h k zero = h 0
-symbols-append (x ∷ xs) ys h k (suc i) = symbols-append xs ys (λ j. h (suc j)) k i
-
-pub symbols-drop : (n : ℕ) (xs : List ℕ) → AllSymbols xs → AllSymbols (drop n xs)
-unfolding AllSymbols
-symbols-drop n xs h i = rw (getD-drop n xs i 0) (h (n + i))
-
-pub symbols-take : (n : ℕ) (xs : List ℕ) → AllSymbols xs → AllSymbols (take n xs)
-unfolding AllSymbols
-symbols-take zero xs h i = omega arith
-symbols-take (suc n) [] h i = omega arith
-symbols-take (suc n) (x ∷ xs) h zero = h 0
-symbols-take (suc n) (x ∷ xs) h (suc i) = symbols-take n xs (λ j. h (suc j)) i
-
+-- A buffer that was cleared has no variables.
 pub zero-bytes : (n i : ℕ) → getD {A = ℕ} (replicate n 0) i 0 ≡ 0
 zero-bytes zero i = refl
 zero-bytes (suc n) zero = refl
@@ -116,15 +98,3 @@ zero-bytes (suc n) (suc i) = zero-bytes n i
 pub symbols-zero : (n : ℕ) → AllSymbols (replicate n 0)
 unfolding AllSymbols
 symbols-zero n i = omega (arith, zero-bytes n i)
-
-mutual
-  unfolding prefix AllSymbols
-
-  pub ground-symbols : (arities : List ℕ) → length arities ≤ max-symbols → (t : Term) → Ground arities t → AllSymbols (prefix t)
-  ground-symbols arities known (var v) g i = absurd g
-  ground-symbols arities known (app f ts) g zero = omega (arith, g .0)
-  ground-symbols arities known (app f ts) g (suc i) = grounds-symbols arities known ts (g .2) i
-
-  pub grounds-symbols : (arities : List ℕ) → length arities ≤ max-symbols → (ts : Terms) → Grounds arities ts → AllSymbols (prefixes ts)
-  grounds-symbols arities known nil g i = omega arith
-  grounds-symbols arities known (cons t ts) g i = symbols-append (prefix t) (prefixes ts) (λ j. ground-symbols arities known t (g .0) j) (λ j. grounds-symbols arities known ts (g .1) j) i

@@ -1,56 +1,37 @@
 -- Terms whose prefix forms and sizes are stored in the nodes stand there, and so does each of their subterms at its position.
 use Prim.Native.Nat.{ℕ, zero, suc, _+_, _-_, _≤_, _<_}
-use mathlib.Core.Path.{_≡_, refl, sym, ap, _∙_}
-use mathlib.Core.List.{List, _∷_, _++_, map, map-append, append-assoc}
+use mathlib.Core.Path.{_≡_, refl, ap, _∙_}
+use mathlib.Core.List.{List, map, map-append}
 use native.Mathlib.Omega.{arith}
 use native.Mathlib.Decide.{decLt}
-use lib.ListN.{length, getD, drop, length-map}
-use lib.Seq.{drop-drop, drop-at, getD-drop}
+use lib.ListN.{length, getD, length-map}
 use Rattle.format.specs.Limits.{max-symbols, node-count}
 use Rattle.format.specs.Byte.{class-of}
 use Rattle.format.specs.Theory.Byte.{symbol-class, variable-class}
 use Rattle.terms.specs.Term.{Term, Terms, var, app, nil, cons, size, sizes, Values, inst, insts, Ground, Grounds}
 use Rattle.terms.specs.Position.{subterms, subterms-of}
 use Rattle.terms.specs.Prefix.{prefix, prefixes}
-use Rattle.terms.specs.Contracts.Limits.{VariablesBelow, AllVariablesBelow}
+use Rattle.terms.specs.Theory.Variables.{VariablesIn, AllVariablesIn}
 use Rattle.terms.specs.Theory.Position.{length-subterms, subterm-first, subterm-rest}
 use Rattle.terms.specs.Theory.Prefix.{grounds-fit, length-prefix}
+use Rattle.terms.specs.Theory.Stored.{stored-head, stored-tail, stored-first, stored-rest}
 use Rattle.terms.specs.Contracts.Fits.{AllFit, Fits}
+use Rattle.terms.specs.Contracts.Stored.{PartAt}
 use Rattle.comparing.specs.Contracts.Nodes.{Denotes, symbol-node, variable-node, RowDenotes, none, more}
 
--- From `i` on, `all` has the elements of `part`.
-pub record PartAt (all : List ℕ) (i : ℕ) (part : List ℕ) : Type 0 where
-  pub rest : List ℕ
-  pub is : drop i all ≡ part ++ rest
-
-module _ {all : List ℕ} {i : ℕ} where
-  stored-head : {x : ℕ} {xs : List ℕ} → PartAt all i (x ∷ xs) → getD all i 0 ≡ x
-  stored-head s =
-      let e : i + 0 ≡ i = omega arith in
-      ap (λ n. getD all n 0) (sym e) ∙ (sym (getD-drop i all 0 0) ∙ ap (λ l. getD l 0 0) (s .is))
-
-  stored-tail : {x : ℕ} {xs : List ℕ} → PartAt all i (x ∷ xs) → PartAt all (i + 1) xs
-  stored-tail s = record { rest = s .rest; is = sym (drop-drop 1 i all) ∙ ap (drop 1) (s .is) }
-
-  stored-first : (a b : List ℕ) → PartAt all i (a ++ b) → PartAt all i a
-  stored-first a b s = record { rest = b ++ s .rest; is = s .is ∙ append-assoc a b (s .rest) }
-
-  stored-rest : (a b : List ℕ) (n : ℕ) → length a ≡ n → PartAt all i (a ++ b) → PartAt all (i + n) b
-  stored-rest a b n e s = record { rest = s .rest; is = sym (drop-drop n i all) ∙ (ap (drop n) (s .is ∙ append-assoc a b (s .rest)) ∙ drop-at a (b ++ s .rest) n e) }
-
--- Terms over symbols with these arities, and values for their variables, numbered below `n`.
+-- Terms over symbols with these arities, and values for their variables, which are among those that `P` holds of.
 module _ (arities : List ℕ) (known : length arities ≤ max-symbols) (nodes lengths : List ℕ) (Value : ℕ → Term → Type 0)
-    (ρ : Values) (n : ℕ) (given : (v : ℕ) → v < n → Value v (ρ v)) where
+    (ρ : Values) (P : ℕ → Type 0) (given : (v : ℕ) → P v → Value v (ρ v)) where
   pub record TermStored (i : ℕ) (t : Term) : Type 0 where
     pub fits : Fits arities t
-    pub few : VariablesBelow n t
+    pub few : VariablesIn P t
     pub bytes : PartAt nodes i (prefix t)
     pub sizes-there : PartAt lengths i (map size (subterms t))
     pub within : i + size t ≤ node-count
 
   pub record TermsStored (i : ℕ) (ts : Terms) : Type 0 where
     pub fit : AllFit arities ts
-    pub few : AllVariablesBelow n ts
+    pub few : AllVariablesIn P ts
     pub bytes : PartAt nodes i (prefixes ts)
     pub sizes-there : PartAt lengths i (map size (subterms-of ts))
     pub within : i + sizes ts ≤ node-count
@@ -144,11 +125,11 @@ mutual
   ground-insts arities ρ (cons t ts) g = cc (ground-inst arities ρ t (g .0), ground-insts arities ρ ts (g .1))
 
 mutual
-  ground-no-variable : (arities : List ℕ) (t : Term) → Ground arities t → VariablesBelow 0 t
+  ground-no-variable : (arities : List ℕ) (t : Term) → Ground arities t → VariablesIn (λ v. ⊥) t
   ground-no-variable arities (var v) g = absurd g
   ground-no-variable arities (app f ts) g = grounds-no-variable arities ts (g .2)
 
-  grounds-no-variable : (arities : List ℕ) (ts : Terms) → Grounds arities ts → AllVariablesBelow 0 ts
+  grounds-no-variable : (arities : List ℕ) (ts : Terms) → Grounds arities ts → AllVariablesIn (λ v. ⊥) ts
   grounds-no-variable arities nil g = tt
   grounds-no-variable arities (cons t ts) g = (ground-no-variable arities t (g .0), grounds-no-variable arities ts (g .1))
 
@@ -157,7 +138,7 @@ pub ground-row-denotes : (arities : List ℕ) → length arities ≤ max-symbols
     → PartAt nodes i (prefixes ts) → PartAt lengths i (map size (subterms-of ts)) → i + sizes ts ≤ node-count
     → RowDenotes nodes lengths (λ v t. ⊥) i (i + sizes ts) ts
 ground-row-denotes arities known {nodes} {lengths} {i} ts g a b h =
-    let r = stored-row-denotes arities known nodes lengths (λ v t. ⊥) var 0 (λ v l. absurd (omega arith)) ts i (record {
+    let r = stored-row-denotes arities known nodes lengths (λ v t. ⊥) var (λ v. ⊥) (λ v l. absurd l) ts i (record {
       fit = grounds-fit arities ts g;
       few = grounds-no-variable arities ts g;
       bytes = a;

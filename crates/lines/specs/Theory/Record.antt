@@ -7,7 +7,7 @@ use native.Mathlib.Decide.{decLt}
 use native.Mathlib.Omega.{arith}
 use Rattle.format.specs.Limits.{variable-count, max-elements, no-position, record-bytes}
 use Rattle.solving.specs.Line.{Element, equal, greater, binding-byte, element-bytes, record-of}
-use Rattle.solving.specs.Theory.Written.{Inequalities}
+use Rattle.solving.specs.Contracts.Written.{Inequalities}
 use Rattle.unifying.specs.Contracts.Bindings.{binding-of, bindings-of}
 use Rattle.unifying.specs.Theory.Bindings.{bound-byte, free-byte}
 use Rattle.lines.specs.Contracts.Resting.{marks, padding, RestingLine, line-of, resting-bytes}

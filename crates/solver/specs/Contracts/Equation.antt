@@ -8,6 +8,7 @@ use Rattle.terms.specs.Equation.{Equation}
 use Rattle.terms.specs.Prefix.{equation-bytes}
 use Rattle.terms.specs.Contracts.Limits.{WithinLimits}
 use Rattle.terms.specs.Contracts.Fits.{Fits}
+use Rattle.unifying.specs.Contracts.Equation.{equation-sizes}
 
 module _ (bytes arities : List ℕ) where
   -- These are the bytes of this equation, which is over symbols with these arities and within the limits.
@@ -21,3 +22,13 @@ module _ (bytes arities : List ℕ) where
   pub record HasEquation : Type 0 where
     pub equation : Equation
     pub is : EquationIs equation
+
+-- These are the bytes of this equation, and beside each the number of nodes of the term that starts there.
+pub record SidesAre (nodes lengths : List ℕ) (e : Equation) : Type 0 where
+  pub arities : List ℕ
+  pub is : EquationIs nodes arities e
+  pub measured : lengths ≡ equation-sizes e
+
+pub record HasSides (nodes lengths : List ℕ) : Type 0 where
+  pub equation : Equation
+  pub are : SidesAre nodes lengths equation

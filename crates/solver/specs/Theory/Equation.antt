@@ -1,13 +1,15 @@
 -- The bytes of an equation over the sheet's symbols are whole terms, and what `measure` fills in beside them is their sizes.
-use Prim.Native.Nat.{ℕ, _≤_}
-use mathlib.Core.Path.{_≡_, sym, ap, subst, _∙_}
+use Prim.Native.Nat.{ℕ, zero, suc, _≤_, _<_}
+use mathlib.Core.Path.{_≡_, refl, sym, ap, subst, _∙_}
 use mathlib.Core.List.{List, _++_, map, append-nil}
+use mathlib.Core.Option.{some}
+use native.Mathlib.Omega.{arith}
 use lib.ListN.{length}
 use Rattle.format.specs.Limits.{max-symbols}
 use Rattle.terms.specs.Term.{Terms, nil, cons, size}
 use Rattle.terms.specs.Position.{subterms, subterms-of}
 use Rattle.terms.specs.Prefix.{prefix, prefixes, equation-bytes, terms-of}
-use Rattle.terms.specs.Equation.{Equation}
+use Rattle.terms.specs.Equation.{Equation, Direction, left-right, right-left, direction-of}
 use Rattle.terms.specs.Theory.Prefix.{terms-of-spelled}
 use Rattle.terms.specs.Contracts.Fits.{AllFit, Fits}
 use Rattle.terms.specs.Contracts.Sizes.{Whole, node-sizes}
@@ -34,3 +36,9 @@ module _ (arities : List ℕ) (known : length arities ≤ max-symbols) (e : Equa
       ap (λ bs. map size (subterms-of (terms-of arities bs))) nodes-spelled
       ∙ ap (λ ts. map size (subterms-of ts)) (terms-of-spelled arities known sides sides-fit)
       ∙ ap (λ l. map size (subterms (e .left) ++ l)) (append-nil (subterms (e .right)))
+
+pub some-direction : (n : ℕ) → n < 2 → (d : Direction) × (direction-of n ≡ some d)
+unfolding direction-of
+some-direction zero h = (left-right, refl)
+some-direction (suc zero) h = (right-left, refl)
+some-direction (suc (suc n)) h = absurd (omega arith)

@@ -12,7 +12,7 @@ use Rattle.solving.specs.Holds.{LineHolds, SomeLineHolds}
 use Rattle.solving.specs.Judge.{line-holds?, first-holding}
 
 -- The count of a table from that of its lines after the first, where the first does not hold.
-abbrev one-later : ℕ → ℕ
+abbrev pub one-later : ℕ → ℕ
 one-later n = elim n [ zero ↦ 0 | suc i ↦ suc (suc i) ]
 
 one-later-pos : (n : ℕ) → (0 < one-later n) ↔ (0 < n)
@@ -29,6 +29,24 @@ module _ (ρ : Values) (value : ℕ → Term) where
 
   abbrev counted : (l : Line) → Dec (ThisHolds l) → ℕ → ℕ
   counted l d n = elim d [ yes h ↦ 1 | no m ↦ one-later n ]
+
+  -- By whether the first line holds.
+  module _ (l : Line) (ls : List Line) where
+    pub first-holding-here : ThisHolds l → first-holding ρ value (l ∷ ls) ≡ 1
+    unfolding first-holding
+    first-holding-here h = go (line-holds? ρ value l)
+      where
+        go : (d : Dec (ThisHolds l)) → counted l d (first-holding ρ value ls) ≡ 1
+        go (yes x) = refl
+        go (no n) = absurd (n h)
+
+    pub first-holding-later : ¬ ThisHolds l → first-holding ρ value (l ∷ ls) ≡ one-later (first-holding ρ value ls)
+    unfolding first-holding
+    first-holding-later m = go (line-holds? ρ value l)
+      where
+        go : (d : Dec (ThisHolds l)) → counted l d (first-holding ρ value ls) ≡ one-later (first-holding ρ value ls)
+        go (yes x) = absurd (m x)
+        go (no n) = refl
 
   -- It is not 0 exactly if some line holds.
   some-holds : (table : List Line) → 0 < first-holding ρ value table → SomeLineHolds ρ value table

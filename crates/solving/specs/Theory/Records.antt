@@ -8,7 +8,7 @@ use native.Mathlib.Omega.{arith}
 use Rattle.format.specs.Limits.{max-elements, max-lines, record-bytes, table-bytes, no-position}
 use Rattle.solving.specs.Line.{Bindings, lookup, Element, equal, greater, Line, line, binding-byte, element-bytes, record-of, records}
 use Rattle.solving.specs.Contracts.Within.{AllWithin}
-use Rattle.solving.specs.Theory.Written.{WrittenLine, WrittenLines}
+use Rattle.solving.specs.Contracts.Written.{WrittenLine, WrittenLines}
 
 -- "records of 89 bytes".
 pub length-element-bytes : (es : List Element) → length (element-bytes es) ≡ 2 * length es

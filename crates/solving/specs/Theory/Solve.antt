@@ -21,7 +21,8 @@ use Rattle.solving.specs.Theory.Table.{ProperTable}
 use Rattle.solving.specs.Theory.Fuel.{turn-fuel}
 use Rattle.solving.specs.Theory.Invariant.{Ended}
 use Rattle.solving.specs.Theory.Reduced.{Finished, turn-none}
-use Rattle.solving.specs.Theory.Written.{WrittenLines, written-lines}
+use Rattle.solving.specs.Contracts.Written.{WrittenLines}
+use Rattle.solving.specs.Theory.Written.{written-lines}
 use Rattle.solving.specs.Theory.Records.{length-records, records-fit, AllBelow, records-are-bytes}
 use Rattle.solving.specs.Theory.Whole.{Kept, walk-kept, walk-exact, walk-fuel}
 

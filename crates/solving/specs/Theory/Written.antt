@@ -1,5 +1,5 @@
 -- What a table that the walk ends with has, so that it can be written as records.
-use Prim.Native.Nat.{ℕ, _≤_, _<_}
+use Prim.Native.Nat.{ℕ, _≤_}
 use mathlib.Core.Path.{_≡_, refl}
 use mathlib.Core.Bool.{Bool, true, false, _||_}
 use mathlib.Core.Option.{Option, none, some}
@@ -12,32 +12,12 @@ use Rattle.format.specs.Limits.{variable-count, max-elements, max-lines}
 use Rattle.format.specs.declared.refusal.Refusal.{Refusal}
 use Rattle.format.specs.declared.refusal.Refusal.the-variants.{TooManyElements as too-many-elements, TooManyLines as too-many-lines}
 use Rattle.terms.specs.Position.{Node}
-use Rattle.solving.specs.Line.{Bindings, lookup, Element, equal, greater, Line, line}
+use Rattle.solving.specs.Line.{Bindings, Element, equal, greater, Line, line}
 use Rattle.solving.specs.Walk.{crowded, over-limit}
 use Rattle.solving.specs.Theory.Seen.{Reduced}
 use Rattle.solving.specs.Theory.Table.{ProperTable}
-use Rattle.solving.specs.Contracts.Within.{AllWithin}
 use Rattle.solving.specs.Theory.Reduced.{AllReduced, Finished}
-
-abbrev Inequality : Element → Type 0
-Inequality (equal p q) = ⊥
-Inequality (greater p q) = Unit {0}
-
-abbrev pub Inequalities : List Element → Type 0
-Inequalities [] = Unit {0}
-Inequalities (e ∷ es) = Inequality e × Inequalities es
-
--- A line to be written, where there are `n` positions.
-pub record WrittenLine (n : ℕ) (θ : Bindings) (es : List Element) : Type 0 where
-  pub slots : length θ ≡ variable-count
-  pub bound-within : (v p : ℕ) → lookup θ v ≡ some p → p < n
-  pub elements-within : AllWithin n es
-  pub inequalities : Inequalities es
-  pub few-elements : length es ≤ max-elements
-
-abbrev pub WrittenLines : ℕ → List Line → Type 0
-WrittenLines n [] = Unit {0}
-WrittenLines n (line θ es ∷ ls) = WrittenLine n θ es × WrittenLines n ls
+use Rattle.solving.specs.Contracts.Written.{Inequality, Inequalities, WrittenLines}
 
 -- "up to 40 elements", "at most 255 lines".
 abbrev pub ShortLines : List Line → Type 0

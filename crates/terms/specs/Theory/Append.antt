@@ -2,7 +2,7 @@
 use Prim.Native.Nat.{ℕ, _+_}
 use mathlib.Core.Path.{_≡_, refl, ap}
 use native.Mathlib.Omega.{arith}
-use Rattle.terms.specs.Term.{Term, Terms, app, nil, cons, sizes}
+use Rattle.terms.specs.Term.{Term, Terms, app, nil, cons, sizes, count}
 
 -- The terms of the first list, and behind them those of the second.
 unfoldable pub append : Terms → Terms → Terms
@@ -30,3 +30,8 @@ pub sizes-append : (ss ts : Terms) → sizes (append ss ts) ≡ sizes ss + sizes
 unfolding append sizes
 sizes-append nil ts = omega arith
 sizes-append (cons s ss) ts = omega (arith, sizes-append ss ts)
+
+pub count-append : (ss ts : Terms) → count (append ss ts) ≡ count ss + count ts
+unfolding append count
+count-append nil ts = omega arith
+count-append (cons s ss) ts = omega (arith, count-append ss ts)

@@ -10,6 +10,7 @@ use Rattle.terms.specs.Term.{Term, Terms, var, app, nil, cons, size, siz
 use Rattle.terms.specs.Prefix.{prefix, prefixes, take-terms, drop-terms, terms-of}
 use Rattle.terms.specs.Contracts.Limits.{VariablesBelow, AllVariablesBelow}
 use Rattle.terms.specs.Contracts.Fits.{Fits, AllFit}
+use Rattle.terms.specs.Theory.Append.{append}
 
 -- 1. Ground terms are terms over the sheet's symbols.
 mutual
@@ -31,25 +32,21 @@ mutual
   all-fit-variables arities (cons t ts) h = (fits-variables arities t (h .0), all-fit-variables arities ts (h .1))
 
 -- 2. Lists of terms one after the other.
-unfoldable pub append-terms : Terms → Terms → Terms
-append-terms nil us = us
-append-terms (cons t ts) us = cons t (append-terms ts us)
-
-pub take-drop-terms : (n : ℕ) (ts : Terms) → append-terms (take-terms n ts) (drop-terms n ts) ≡ ts
-unfolding append-terms take-terms drop-terms
+pub take-drop-terms : (n : ℕ) (ts : Terms) → append (take-terms n ts) (drop-terms n ts) ≡ ts
+unfolding append take-terms drop-terms
 take-drop-terms zero ts = refl
 take-drop-terms (suc n) nil = refl
 take-drop-terms (suc n) (cons t ts) = ap (cons t) (take-drop-terms n ts)
 
-pub take-append-terms : (n : ℕ) (ts us : Terms) → count ts ≡ n → take-terms n (append-terms ts us) ≡ ts
-unfolding append-terms take-terms count
+pub take-append-terms : (n : ℕ) (ts us : Terms) → count ts ≡ n → take-terms n (append ts us) ≡ ts
+unfolding append take-terms count
 take-append-terms zero nil us e = refl
 take-append-terms zero (cons t ts) us e = absurd (omega arith)
 take-append-terms (suc n) nil us e = absurd (omega arith)
 take-append-terms (suc n) (cons t ts) us e = ap (cons t) (take-append-terms n ts us (omega arith))
 
-pub drop-append-terms : (n : ℕ) (ts us : Terms) → count ts ≡ n → drop-terms n (append-terms ts us) ≡ us
-unfolding append-terms drop-terms count
+pub drop-append-terms : (n : ℕ) (ts us : Terms) → count ts ≡ n → drop-terms n (append ts us) ≡ us
+unfolding append drop-terms count
 drop-append-terms zero nil us e = refl
 drop-append-terms zero (cons t ts) us e = absurd (omega arith)
 drop-append-terms (suc n) nil us e = absurd (omega arith)
@@ -85,8 +82,8 @@ ground-take-drop arities zero ts h = (tt, h)
 ground-take-drop arities (suc n) nil h = (tt, tt)
 ground-take-drop arities (suc n) (cons t ts) h = let (a, b) = ground-take-drop arities n ts (h .1) in ((h .0, a), b)
 
-pub prefixes-append : (ts us : Terms) → prefixes (append-terms ts us) ≡ prefixes ts ++ prefixes us
-unfolding append-terms prefix
+pub prefixes-append : (ts us : Terms) → prefixes (append ts us) ≡ prefixes ts ++ prefixes us
+unfolding append prefix
 prefixes-append nil us = refl
 prefixes-append (cons t ts) us = ap (prefix t ++_) (prefixes-append ts us) ∙ sym (append-assoc (prefix t) (prefixes ts) (prefixes us))
 
@@ -105,7 +102,7 @@ mutual
 -- 4. Reading back: `terms-of` gives the terms whose prefix forms these are.
 module _ (arities : List ℕ) (known : length arities ≤ max-symbols) where
   mutual
-    unfolding prefix terms-of append-terms
+    unfolding prefix terms-of append
 
     pub terms-of-prefix : (t : Term) (bs : List ℕ) → Fits arities t → terms-of arities (prefix t ++ bs) ≡ cons t (terms-of arities bs)
     terms-of-prefix (var v) bs h = rw (variable-class v h)
@@ -113,12 +110,16 @@ module _ (arities : List ℕ) (known : length arities ≤ max-symbols) where
         let below : f < max-symbols = omega (arith, h .0) in
         rw (symbol-class f below, terms-of-prefixes ts bs (h .2), take-append-terms (arity arities f) ts (terms-of arities bs) (h .1), drop-append-terms (arity arities f) ts (terms-of arities bs) (h .1))
 
-    pub terms-of-prefixes : (ts : Terms) (bs : List ℕ) → AllFit arities ts → terms-of arities (prefixes ts ++ bs) ≡ append-terms ts (terms-of arities bs)
+    pub terms-of-prefixes : (ts : Terms) (bs : List ℕ) → AllFit arities ts → terms-of arities (prefixes ts ++ bs) ≡ append ts (terms-of arities bs)
     terms-of-prefixes nil bs h = refl
     terms-of-prefixes (cons t ts) bs h = rw (append-assoc (prefix t) (prefixes ts) bs, terms-of-prefix t (prefixes ts ++ bs) (h .0), terms-of-prefixes ts bs (h .1))
 
-append-nil-terms : (ts : Terms) → append-terms ts nil ≡ ts
-unfolding append-terms
+  -- Terms that spell the same are identical.
+  pub prefix-injective : (s t : Term) → Fits arities s → Fits arities t → prefix s ≡ prefix t → s ≡ t
+  prefix-injective s t h k e = cc (terms-of-prefix s [] h, terms-of-prefix t [] k)
+
+append-nil-terms : (ts : Terms) → append ts nil ≡ ts
+unfolding append
 append-nil-terms nil = refl
 append-nil-terms (cons t ts) = ap (cons t) (append-nil-terms ts)
 

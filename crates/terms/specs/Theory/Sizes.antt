@@ -13,13 +13,14 @@ use Rattle.format.specs.Theory.Byte.{class-symbol, class-variable}
 use Rattle.terms.specs.Term.{Term, Terms, var, app, nil, cons, size, sizes, count, arity}
 use Rattle.terms.specs.Position.{subterms, subterms-of}
 use Rattle.terms.specs.Prefix.{prefix, prefixes, take-terms, drop-terms, put-node, terms-of}
+use Rattle.terms.specs.Theory.Append.{append}
 use Rattle.terms.specs.Theory.Position.{length-subterms, length-subterms-of, size-pos}
 use Rattle.terms.specs.Contracts.Fits.{AllFit}
-use Rattle.terms.specs.Theory.Prefix.{append-terms, take-drop-terms, sizes-take-drop, prefixes-append, length-prefixes, terms-of-spelled}
+use Rattle.terms.specs.Theory.Prefix.{take-drop-terms, sizes-take-drop, prefixes-append, length-prefixes, terms-of-spelled}
 use Rattle.terms.specs.Contracts.Sizes.{Whole, node-sizes}
 
-subterms-append : (ts us : Terms) → subterms-of (append-terms ts us) ≡ subterms-of ts ++ subterms-of us
-unfolding subterms append-terms
+pub subterms-append : (ts us : Terms) → subterms-of (append ts us) ≡ subterms-of ts ++ subterms-of us
+unfolding subterms append
 subterms-append nil us = refl
 subterms-append (cons t ts) us = ap (subterms t ++_) (subterms-append ts us) ∙ sym (append-assoc (subterms t) (subterms-of ts) (subterms-of us))
 

@@ -5,7 +5,7 @@ use mathlib.Core.Path.{ap, _∙_}
 use native.Mathlib.Omega.{arith}
 use borrow.Author.Needs.{needs}
 use Rattle.format.specs.Limits.{position-count}
-use Rattle.comparing.specs.Theory.Cells.{symbols-drop, symbols-take}
+use Rattle.terms.specs.Theory.Symbols.{symbols-drop, symbols-take}
 use Rattle.answers.proofs.Stored.{placed}
 use Rattle.answers.proofs.Stored.{placed-symbols, pair-few, pair-symbols, pair-measurable, pair-stands}
 use Rattle.answers.proofs.compare.store.Statement.{statement}

@@ -1,7 +1,8 @@
 -- `solve_bytes` is solve on an equation's bytes.
 use native.Mathlib.Omega.{arith}
 use borrow.Author.Needs.{needs}
-use Rattle.answers.proofs.SolveTask.{walk-cleared, walk-solved, walk-refused, counts-low, some-direction}
+use Rattle.answers.proofs.SolveTask.{walk-cleared, walk-solved, walk-refused, counts-low}
+use Rattle.solver.specs.Theory.Equation.{some-direction}
 use Rattle.answers.proofs.solve.solve_bytes.Statement.{statement}
 use Rattle.answers.proofs.solve.solve_bytes.Tie as tie
 

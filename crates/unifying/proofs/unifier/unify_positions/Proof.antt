@@ -3,7 +3,7 @@ use Prim.Native.Nat.{_-_}
 use mathlib.Core.Path.{refl, sym}
 use native.Mathlib.Omega.{arith}
 use Rattle.format.specs.Limits.{variable-count}
-use Rattle.unifying.specs.Theory.Front.{Fronting, fronting-start, fronting-length, fronting-next, fronting-whole}
+use Rattle.format.specs.Theory.Front.{Fronting, fronting-start, fronting-length, fronting-next, fronting-whole}
 use Rattle.unifying.proofs.Copied.{copy-unified}
 use Rattle.unifying.specs.Theory.Bindings.{readable-slots}
 use borrow.Author.Needs.{needs}

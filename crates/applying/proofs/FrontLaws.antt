@@ -1,0 +1,246 @@
+-- A row is loaded before the subject's nodes: the equation stands at the front, and all that stands from the subject's first node on is as before.
+use Prim.Native.Nat.{ℕ, _+_, _-_, _*_, _≤_, _<_}
+use mathlib.Core.Path.{_≡_, refl, sym, ap, subst, _∙_}
+use mathlib.Core.Logic.{_⊎_, inl, inr}
+use mathlib.Core.Bool.{Bool, true, false}
+use mathlib.Core.Option.{Option, none, some}
+use mathlib.Core.List.{List, [], _∷_, _++_, append-assoc}
+use native.Mathlib.Omega.{arith}
+use native.Mathlib.Decide.{decLt}
+use lib.ListN.{length, getD, take, drop, length-append, length-drop, List·getD-eq-default}
+use lib.Seq.{length-take-le, take-all, take-append-add, drop-at, drop-drop, getD-drop}
+use lib.Dec.{ltb}
+use Rattle.format.specs.Limits.{variable-count, position-count, node-count}
+use Rattle.format.specs.Buffer.{written}
+use Rattle.terms.specs.Term.{Term, var}
+use Rattle.terms.specs.Equation.{Equation, Direction, left-right, right-left, source, target, value}
+use Rattle.terms.specs.Prefix.{equation-bytes}
+use Rattle.terms.specs.Contracts.Fits.{Fits}
+use Rattle.terms.specs.Contracts.Stored.{PartAt, GroundStored, SubjectIs}
+use Rattle.terms.specs.Theory.Limits.{positions-few}
+use Rattle.terms.specs.Theory.Prefix.{fits-variables}
+use Rattle.terms.specs.Theory.Variables.{VariablesIn}
+use Rattle.solving.specs.Judge.{first-holding}
+use Rattle.unifying.specs.Contracts.Equation.{equation-sizes}
+use Rattle.unifying.specs.Theory.Equation.{length-nodes, length-sizes}
+use Rattle.reducing.specs.Match.{Match, values-of, has-variable, usable}
+use Rattle.reducing.specs.Test.{line-test}
+use Rattle.reducing.specs.Theory.Variables.{match-meets, variables-are, covered-has}
+use Rattle.comparing.specs.Contracts.Cells.{SettledCells, Cleared}
+use Rattle.comparing.specs.Theory.Cells.{SameFrom, next-match}
+use Rattle.matching.specs.Contracts.Matching.{SlotIs}
+use Rattle.judging.specs.declared.trimmed.KeptLines.{KeptLines}
+use Rattle.judging.specs.Contracts.Holding.{LinesTestable, LinesAre}
+use Rattle.rules.specs.Contracts.Rows.{row-bytes, RowIs, RuleIs}
+use Rattle.applying.specs.Contracts.Trying.{Settled, MatchedTry, LinesTell}
+use Rattle.applying.specs.Theory.Testable.{AtFront, lines-testable}
+use Rattle.rules.proofs.RowLaws.{row-start, rule-row}
+
+-- 1. The first bytes of a row stand first, and behind them nothing changes.
+pub record Fronted (before after : List ℕ) : Type 0 where
+  pub same-length : length after ≡ length before
+  pub behind : drop position-count after ≡ drop position-count before
+
+module _ (from before after : List ℕ) (room : position-count ≤ length from) (whole : position-count ≤ length before) (copied : after ≡ written (take position-count from) before) where
+  fronted : Fronted before after
+  unfolding written
+  fronted =
+      let l = length-take-le position-count from room in
+      let b : drop position-count after ≡ drop position-count before =
+      ap (drop position-count) (copied ∙ ap (λ n. take position-count from ++ drop n before) l) ∙ drop-at (take position-count from) (drop position-count before) position-count l in
+      record {
+        same-length = ap length copied ∙ omega (arith, length-append (take position-count from) (drop (length (take position-count from)) before), length-drop (length (take position-count from)) before, l);
+        behind = b;
+      }
+
+  front-part : {part : List ℕ} → PartAt from 0 part → length part ≤ position-count → PartAt after 0 part
+  unfolding written
+  front-part {part} p h =
+      let l = length-take-le position-count from room in
+      let m = position-count - length part in
+      record {
+        rest = take m (p .rest) ++ drop (length (take position-count from)) before;
+        is = copied ∙ ap (_++ drop (length (take position-count from)) before) (ap (take position-count) (p .is) ∙ split (p .rest) h)
+            ∙ append-assoc part (take m (p .rest)) (drop (length (take position-count from)) before);
+      }
+    where
+      split : (rest : List ℕ) → length part ≤ position-count → take position-count (part ++ rest) ≡ part ++ take (position-count - length part) rest
+      split rest h =
+          let k : position-count ≡ length part + (position-count - length part) = omega arith in
+          ap (λ n. take n (part ++ rest)) k ∙ take-append-add part rest (position-count - length part)
+
+-- 2. What stands from the subject's first node on is kept.
+module _ {before after : List ℕ} (f : Fronted before after) where
+  part-kept : {i : ℕ} {part : List ℕ} → position-count ≤ i → PartAt before i part → PartAt after i part
+  part-kept {i} {part} h p =
+      let k = i - position-count in
+      let e : position-count + k ≡ i = omega arith in
+      let moved : (l : List ℕ) → drop i l ≡ drop k (drop position-count l) = λ l. ap (λ n. drop n l) (sym e) ∙ sym (drop-drop k position-count l) in
+      record { rest = p .rest; is = moved after ∙ (ap (drop k) (f .behind) ∙ (sym (moved before) ∙ p .is)) }
+
+  pub same-from : SameFrom position-count before after
+  same-from = record {
+    same-length = f .same-length;
+    same = λ k h.
+        let m = k - position-count in
+        let e : position-count + m ≡ k = omega arith in
+        let moved : (l : List ℕ) → getD l k 0 ≡ getD (drop position-count l) m 0 = λ l. ap (λ n. getD l n 0) (sym e) ∙ sym (getD-drop position-count l m 0) in
+        moved after ∙ (ap (λ l. getD l m 0) (f .behind) ∙ sym (moved before));
+  }
+
+module _ {nodes lengths nodes′ lengths′ : List ℕ} (n : Fronted nodes nodes′) (l : Fronted lengths lengths′) where
+  pub ground-kept : {arities : List ℕ} {i : ℕ} {t : Term} → GroundStored nodes lengths arities i t → GroundStored nodes′ lengths′ arities i t
+  ground-kept g = record {
+    few-symbols = g .few-symbols;
+    ground = g .ground;
+    stored = record { bytes = part-kept n (g .low) (g .stored .bytes); lengths-there = part-kept l (g .low) (g .stored .lengths-there) };
+    low = g .low;
+    within = g .within;
+  }
+
+  pub subject-kept : {arities : List ℕ} {t : Term} → SubjectIs nodes lengths arities t → SubjectIs nodes′ lengths′ arities t
+  subject-kept s = record {
+    nodes-length = n .same-length ∙ s .nodes-length;
+    lengths-length = l .same-length ∙ s .lengths-length;
+    symbols = λ i h. omega (arith, same-from n .same i h, s .symbols i h);
+    stored = ground-kept (s .stored);
+  }
+
+  pub settled-next : {ready ready′ cells : List ℕ} (values : List ℕ) → Settled nodes lengths ready cells → length values ≡ variable-count → Cleared ready 0 position-count ready′
+      → SettledCells nodes′ lengths′ values ready′ cells
+  settled-next values s v c = next-match (s .are) (same-from n) (same-from l) v c
+
+-- 3. The match gives each variable of a usable rule a term of the subject.
+module _ {equations lengths : List ℕ} {rule : ℕ} {table : List ℕ} {lines : KeptLines} {nodes sizes values arities : List ℕ} {i : ℕ} {e : Equation} {d : Direction} {subject : Term} {m : Match}
+    (is : MatchedTry equations lengths rule table lines nodes sizes values arities i e d subject m) where
+  row : RowIs equations lengths arities i e
+  row = is .rule-is .row
+
+  abbrev Met : ℕ → Type 0
+  Met v = (u : Term) × (getD m v none ≡ some u)
+
+  met-low : (v : ℕ) → Met v → v < variable-count
+  met-low v (u, x) = elim (decLt v variable-count) [
+    | yes l ↦ l
+    | no n ↦
+        let y = List·getD-eq-default m none {n = v} (omega (arith, is .met .slots)) in
+        let z : _≡_ {A = ℕ} 0 1 = cc (x, y) in
+        absurd (omega arith)
+  ]
+
+  source-met : (v : ℕ) → has-variable v (source e d) ≡ true → Met v
+  unfolding source
+  source-met v h = match-meets (source e d) (is .part) m v (fits-variables arities (source e d) (side-fits d)) (is .matches) h
+    where
+      side-fits : (d : Direction) → Fits arities (source e d)
+      side-fits left-right = row .left-fits
+      side-fits right-left = row .right-fits
+
+  both-met : usable e d ≡ true → VariablesIn Met (e .left) × VariablesIn Met (e .right)
+  unfolding usable source target
+  both-met u = go d source-met u
+    where
+      go : (d : Direction) → ((v : ℕ) → has-variable v (source e d) ≡ true → Met v) → usable e d ≡ true → VariablesIn Met (e .left) × VariablesIn Met (e .right)
+      go left-right s u = (variables-are Met (e .left) s, variables-are Met (e .right) (λ v h. s v (covered-has (e .left) v (e .right) u h)))
+      go right-left s u = (variables-are Met (e .left) (λ v h. s v (covered-has (e .right) v (e .left) u h)), variables-are Met (e .right) s)
+
+  met-value : (v : ℕ) (x : Met v) → values-of m v ≡ x .0
+  unfolding values-of
+  met-value v (u, x) = rw x
+
+  unmet-value : (v : ℕ) → getD m v none ≡ none → values-of m v ≡ var v
+  unfolding values-of
+  unmet-value v x = rw x
+
+  slot-given : (v : ℕ) → Met v → GroundStored nodes sizes arities (getD values v 0) (values-of m v)
+  slot-given v x =
+      subst (GroundStored nodes sizes arities (getD values v 0)) (sym (met-value v x))
+      (subst (λ o. SlotIs nodes sizes arities o (getD values v 0)) (x .1) (is .met .each v (met-low v x)))
+
+  slot-either : (v : ℕ) → v < variable-count → Met v ⊎ ((getD values v 0 ≡ 0) × (values-of m v ≡ var v))
+  slot-either v h = go (getD m v none) refl
+    where
+      go : (o : Option Term) → getD m v none ≡ o → ((u : Term) × (getD m v none ≡ some u)) ⊎ ((getD values v 0 ≡ 0) × (values-of m v ≡ var v))
+      go (some u) x = inl (u, x)
+      go none x = inr (subst (λ o. SlotIs nodes sizes arities o (getD values v 0)) x (is .met .each v h), unmet-value v x)
+
+  -- 4. The lines can be tested once the row is loaded.
+  module _ {nodes′ sizes′ : List ℕ} (n : Fronted nodes nodes′) (l : Fronted sizes sizes′) (bytes : PartAt nodes′ 0 (equation-bytes e)) (measured : PartAt sizes′ 0 (equation-sizes e)) where
+    front : usable e d ≡ true → AtFront nodes′ sizes′ values arities e (values-of m) Met
+    front u = record {
+      few-symbols = row .few-symbols;
+      limits = row .limits;
+      left-fits = row .left-fits;
+      right-fits = row .right-fits;
+      bytes = bytes;
+      measured = measured;
+      given = λ v x. ground-kept n l (slot-given v x);
+      left-variables = both-met u .0;
+      right-variables = both-met u .1;
+      slot = slot-either;
+    }
+
+    kept-testable : LinesTestable nodes′ sizes′ values (values-of m) (value e (values-of m)) (is .kept)
+    kept-testable = go (usable e d) refl
+      where
+        go : (b : Bool) → usable e d ≡ b → LinesTestable nodes′ sizes′ values (values-of m) (value e (values-of m)) (is .kept)
+        go true u = lines-testable (front u) (is .kept) (is .kept-are .proper)
+        go false u = subst (LinesTestable nodes′ sizes′ values (values-of m) (value e (values-of m))) (sym (is .kept-are .unusable u)) tt
+
+    pub lines-are : LinesAre nodes′ sizes′ values (values-of m) (value e (values-of m)) table lines (is .kept)
+    lines-are =
+        let there = is .kept-there in
+        record { ends = there .ends; room = omega (arith, there .room, there .table-room); there = there .there; testable = kept-testable }
+
+  pub lines-tell : (r : ℕ) → r ≡ first-holding (values-of m) (value e (values-of m)) (is .kept) → LinesTell e d m (ltb 0 r)
+  unfolding first-holding
+  lines-tell r x = go (usable e d) refl
+    where
+      go : (b : Bool) → usable e d ≡ b → LinesTell e d m (ltb 0 r)
+      go true u =
+          let y : line-test e d (values-of m) ≡ ltb 0 r = is .kept-are .tests u (values-of m) ∙ ap (ltb 0) (sym x) in
+          record { hold = λ h. (u, y ∙ h); fail = λ h k. y ∙ h }
+      go false u =
+          let z : r ≡ 0 = x ∙ ap (first-holding (values-of m) (value e (values-of m))) (is .kept-are .unusable u) in
+          record {
+            hold = λ h. let w : false ≡ true = sym (ap (ltb 0) z) ∙ h in let q : _≡_ {A = ℕ} 0 1 = cc in absurd (omega arith);
+            fail = λ h k. let q : _≡_ {A = ℕ} 0 1 = cc in absurd (omega arith);
+          }
+
+-- 5. The row of the rule, as it is copied.
+module _ {equations lengths arities : List ℕ} {rule i : ℕ} {e : Equation} {d : Direction} (is : RuleIs equations lengths arities rule i e d) where
+  slice-part : {all part : List ℕ} (k n : ℕ) → k ≡ n → length all ≡ row-bytes → PartAt all n part → PartAt (take (length all - k) (drop k all)) 0 part
+  slice-part {all} {part} k n x l p =
+      let whole = take-all (length all - k) (drop k all) (omega (arith, length-drop k all)) in
+      record { rest = p .rest; is = whole ∙ (ap (λ m. drop m all) x ∙ p .is) }
+
+  row-bytes-there : PartAt (take (length equations - row-start rule) (drop (row-start rule) equations)) 0 (equation-bytes e)
+  row-bytes-there = slice-part (row-start rule) (i * position-count) (rule-row is) (is .row .equations-length) (is .row .bytes)
+
+  row-sizes-there : PartAt (take (length lengths - row-start rule) (drop (row-start rule) lengths)) 0 (equation-sizes e)
+  row-sizes-there = slice-part (row-start rule) (i * position-count) (rule-row is) (is .row .lengths-length) (is .row .measured)
+
+  slice-room : (all : List ℕ) → length all ≡ row-bytes → position-count ≤ length (take (length all - row-start rule) (drop (row-start rule) all))
+  slice-room all l =
+      let whole = ap length (take-all (length all - row-start rule) (drop (row-start rule) all) (omega (arith, length-drop (row-start rule) all))) in
+      omega (arith, whole, length-drop (row-start rule) all, rule-row is, is .row .inside)
+
+  pub equations-room : position-count ≤ length (take (length equations - row-start rule) (drop (row-start rule) equations))
+  equations-room = slice-room equations (is .row .equations-length)
+
+  pub lengths-room : position-count ≤ length (take (length lengths - row-start rule) (drop (row-start rule) lengths))
+  lengths-room = slice-room lengths (is .row .lengths-length)
+
+  pub nodes-fronted : (nodes after : List ℕ) → length nodes ≡ node-count → after ≡ written (take position-count (take (length equations - row-start rule) (drop (row-start rule) equations))) nodes
+      → Fronted nodes after × PartAt after 0 (equation-bytes e)
+  nodes-fronted nodes after l x =
+      let from = take (length equations - row-start rule) (drop (row-start rule) equations) in
+      let fit : length (equation-bytes e) ≤ position-count = omega (arith, length-nodes e, positions-few (is .row .limits)) in
+      (fronted from nodes after equations-room (omega arith) x, front-part from nodes after equations-room (omega arith) x row-bytes-there fit)
+
+  pub sizes-fronted : (sizes after : List ℕ) → length sizes ≡ node-count → after ≡ written (take position-count (take (length lengths - row-start rule) (drop (row-start rule) lengths))) sizes
+      → Fronted sizes after × PartAt after 0 (equation-sizes e)
+  sizes-fronted sizes after l x =
+      let from = take (length lengths - row-start rule) (drop (row-start rule) lengths) in
+      let fit : length (equation-sizes e) ≤ position-count = omega (arith, length-sizes e, positions-few (is .row .limits)) in
+      (fronted from sizes after lengths-room (omega arith) x, front-part from sizes after lengths-room (omega arith) x row-sizes-there fit)

@@ -1,0 +1,88 @@
+-- `line_holds` tests the kept lines at the match, once the row is loaded.
+use native.Mathlib.Omega.{arith}
+use borrow.Author.Needs.{needs}
+use Rattle.terms.specs.Equation.{value}
+use Rattle.reducing.specs.Match.{values-of}
+use Rattle.rules.proofs.RowLaws.{rule-row}
+use Rattle.applying.proofs.FrontLaws.{subject-kept, settled-next, lines-are, lines-tell, equations-room, lengths-room, nodes-fronted, sizes-fronted}
+use Rattle.applying.proofs.applies.line_holds.Statement.{statement}
+use Rattle.applying.proofs.applies.line_holds.Tie as tie
+
+mul-row : tie.Need-mul-row
+mul-row c = let is = c .before .before .before .before .before .before .before .before .pre .0 .is .rule-is in omega (arith, rule-row is, is .row .inside, is .row .equations-length)
+
+sub-copy-front : tie.Need-sub-copy-front
+sub-copy-front c = let is = c .before .before .before .before .before .before .before .before .pre .0 .is .rule-is in omega (arith, rule-row is, is .row .inside, is .row .equations-length)
+
+part-copy-front-start : tie.Need-part-copy-front-start
+part-copy-front-start c = let is = c .before .before .before .before .before .before .before .before .pre .0 .is .rule-is in omega (arith, rule-row is, is .row .inside, is .row .equations-length)
+
+part-copy-front-end : tie.Need-part-copy-front-end
+part-copy-front-end c = search needs
+
+copy-front-requires : tie.Need-copy-front-requires
+copy-front-requires c κs = let is = c .before .before .before .before .before .before .before .before .before .before .pre .0 .is in (equations-room (is .rule-is), omega (arith, is .subject-is .nodes-length))
+
+sub-copy-front-2 : tie.Need-sub-copy-front-2
+sub-copy-front-2 c = let is = c .before .before .before .before .before .before .before .before .before .before .before .before .before .pre .0 .is .rule-is in omega (arith, rule-row is, is .row .inside, is .row .lengths-length)
+
+part-copy-front-start-2 : tie.Need-part-copy-front-start-2
+part-copy-front-start-2 c = let is = c .before .before .before .before .before .before .before .before .before .before .before .before .before .pre .0 .is .rule-is in omega (arith, rule-row is, is .row .inside, is .row .lengths-length)
+
+part-copy-front-end-2 : tie.Need-part-copy-front-end-2
+part-copy-front-end-2 c = search needs
+
+copy-front-requires-2 : tie.Need-copy-front-requires-2
+copy-front-requires-2 c κs = let is = c .before .before .before .before .before .before .before .before .before .before .before .before .before .before .before .pre .0 .is in (lengths-room (is .rule-is), omega (arith, is .subject-is .lengths-length))
+
+forget-rows-requires : tie.Need-forget-rows-requires
+forget-rows-requires c κs = omega (arith, c .before .before .before .before .before .before .before .before .before .before .before .before .before .before .before .before .before .before .before .pre .1 .are .ready-length)
+
+first-holding-requires : tie.Need-first-holding-requires
+first-holding-requires c κs =
+    let start = c .before .before .before .before .before .before .before .before .before .before .before .before .before .before .before .before .before .before .before .before .before .before .before .before .before .before in
+    let has = start .pre .0 in
+    let is = has .is in
+    let (n, bytes) = nodes-fronted (is .rule-is) (start .args .nodes .now) (c .before .before .before .before .before .before .before .before .before .before .before .before .before .before .before .copy-front .last .1 .0) (is .subject-is .nodes-length) (c .before .before .before .before .before .before .before .before .before .before .before .before .before .before .before .copy-front .ensures) in
+    let (l, measured) = sizes-fronted (is .rule-is) (start .args .sizes .now) (c .before .before .before .before .before .before .before .before .before .before .copy-front2 .last .1 .0) (is .subject-is .lengths-length) (c .before .before .before .before .before .before .before .before .before .before .copy-front2 .ensures) in (
+      settled-next n l (start .args .values .now) (start .pre .1) (is .met .values-length) (c .before .before .before .before .before .before .forget-rows .ensures),
+      record { assigned = values-of (has .found); value = value (has .equation) (values-of (has .found)); these = is .kept; are = lines-are is n l bytes measured },
+    )
+
+returns : tie.Need-returns
+returns c =
+    let start = c .before .before .before .before .before .before .before .before .before .before .before .before .before .before .before .before .before .before .before .before .before .before .before .before .before .before .before .before .before .before .before in
+    let nodes = start .args .nodes .now in
+    let sizes = start .args .sizes .now in
+    let copied = c .before .before .before .before .before .before .before .before .before .before .before .before .before .before .before .before .before .before .before .before .copy-front in
+    let measured = c .before .before .before .before .before .before .before .before .before .before .before .before .before .before .before .copy-front2 in
+    let held = c .before .before .before .before .first-holding in
+    let fronts = nodes-fronted (start .pre .0 .is .rule-is) nodes (copied .last .1 .0) (start .pre .0 .is .subject-is .nodes-length) (copied .ensures) in
+    let sized = sizes-fronted (start .pre .0 .is .rule-is) sizes (measured .last .1 .0) (start .pre .0 .is .subject-is .lengths-length) (measured .ensures) in (
+      λ arities i e d subject m is.
+          let (n, x) = nodes-fronted (is .rule-is) nodes (copied .last .1 .0) (is .subject-is .nodes-length) (copied .ensures) in
+          let (l, y) = sizes-fronted (is .rule-is) sizes (measured .last .1 .0) (is .subject-is .lengths-length) (measured .ensures) in
+          lines-tell is (held .result) (held .ensures .0 (values-of m) (value e (values-of m)) (is .kept) (lines-are is n l x y)),
+      (λ arities subject s. subject-kept (fronts .0) (sized .0) s, record { values = start .args .values .now; are = held .ensures .1 }),
+    )
+
+pub line-holds-spec : {M : Type 1} → statement M
+line-holds-spec =
+    tie.close
+    (tie.spec
+    mul-row
+    sub-copy-front
+    part-copy-front-start
+    part-copy-front-end
+    copy-front-requires
+    sub-copy-front-2
+    part-copy-front-start-2
+    part-copy-front-end-2
+    copy-front-requires-2
+    forget-rows-requires
+    first-holding-requires
+    (λ c. search needs)
+    (λ c. search needs)
+    (λ c. search needs)
+    (λ c. search needs)
+    returns)

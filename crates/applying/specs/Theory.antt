@@ -1,0 +1,3 @@
+-- Laws.
+pub mod Testable
+pub mod Parts

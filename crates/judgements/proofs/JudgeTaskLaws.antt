@@ -1,0 +1,310 @@
+-- Laws for the call judge: what it earns, by the task that is found and by the walks.
+use Prim.Native.Nat.{ℕ, zero, suc, _+_, _-_, _*_, _≤_, _<_}
+use mathlib.Core.Path.{_≡_, refl, sym, ap, subst, _∙_}
+use mathlib.Core.Bool.{true}
+use mathlib.Core.Option.{Option, none, some}
+use mathlib.Core.List.{List, [], _∷_, _++_}
+use lib.ListN.{length, take, drop}
+use lib.Seq.{drop-at, drop-drop}
+use native.Mathlib.Omega.{arith}
+use Rattle.format.specs.Limits.{no-position, max-text, max-equations, table-bytes, scratch-bytes, cell-count}
+use Rattle.format.specs.Lists.{entry}
+use Rattle.format.specs.declared.refusal.Refusal.{Refusal}
+use Rattle.format.specs.declared.refusal.Refusal.the-variants.{AbsentArgument as absent-argument}
+use Rattle.format.specs.Theory.Lists.{entry-none, every-entry}
+use Rattle.terms.specs.Term.{Term, Terms, count, Values, Grounds}
+use Rattle.terms.specs.Equation.{Equation, Direction, left-right, right-left, value}
+use Rattle.scanning.specs.declared.known.Known.{Known}
+use Rattle.scanning.specs.Contracts.Scan.{known-arities}
+use Rattle.scanning.specs.Contracts.Known.{Roomy}
+use Rattle.sheet.specs.Sheet.{Task, run, judgement, comparison, Sheet, equation-width}
+use Rattle.sheet.specs.Reading.{accepted, read}
+use Rattle.sheet.specs.Contracts.Valid.{ValidTask}
+use Rattle.sheet.specs.Theory.Accepted.{accepted-valid}
+use Rattle.reading.specs.declared.seek.TaskFound.{TaskFound}
+use Rattle.reading.specs.declared.seek.TaskHead.the-variants.{Run, Judgement as Judgement-head, Comparison}
+use Rattle.reading.specs.Contracts.Seek.{Accepts, TaskIn, TaskAt, task-terms}
+use Rattle.reading.specs.Theory.Found.{task-asked, is-run, is-judgement, is-comparison}
+use Rattle.loading.specs.Contracts.Loading.{TermsIn, Loaded}
+use Rattle.solving.specs.Line.{Line}
+use Rattle.solving.specs.Holds.{LineHolds}
+use Rattle.solving.specs.Judge.{line-holds?, first-holding}
+use Rattle.solving.specs.Walk.{Walked, solved, refused, solve}
+use Rattle.solving.specs.Theory.Solve.{solved-line-count}
+use Rattle.reducing.specs.Test.{holding-in, holding-line, given-values}
+use Rattle.walking.specs.Contracts.Walking.{memory-bytes}
+use Rattle.outcomes.specs.Buffer.{field-limit, fields, refusal-number, filled, cleared, blanked}
+use Rattle.outcomes.specs.Asked.{found, find, asked, values-in, judgement-in, judgement-task, equation-line, WalkRefusal, first-refusal}
+use Rattle.outcomes.specs.Outcome.{TableOutcome, table-unsolved, judge-fields, judge-walked, judge-answer}
+use Rattle.rules.specs.Contracts.Rows.{RowsAre, HasRows}
+use Rattle.searching.proofs.NextLaws.{rule-below}
+use Rattle.answers.proofs.Fill.{filled-behind}
+use Rattle.answers.proofs.SolveTask.{outcome}
+use Rattle.answers.proofs.Stored.{cells-there}
+use Rattle.answers.proofs.Arities.{symbols-room, symbols-taken, arities-taken}
+use Rattle.judgements.specs.declared.judge.Judged.{Judged}
+use Rattle.judgements.specs.declared.judge.Judged.the-variants.{Refused, End}
+use Rattle.judgements.specs.Contracts.Judgement.{JudgeIs, JudgedAs}
+use Rattle.judgements.specs.Contracts.JudgeTask.{JudgementIn, HasJudgement, ValuesIn, HasValues}
+
+-- 1. Numbers that fit their fields.
+first-holding-low : (ρ : Values) (value : ℕ → Term) (ls : List Line) → first-holding ρ value ls ≤ length ls
+unfolding first-holding
+first-holding-low ρ value [] = omega arith
+first-holding-low ρ value (l ∷ ls) = go (line-holds? ρ value l) (first-holding ρ value ls) (first-holding-low ρ value ls)
+  where
+    go : (d : Dec (LineHolds ρ value l)) (n : ℕ) → n ≤ length ls → _≤_ (elim d [ yes h ↦ 1 | no x ↦ elim n [ zero ↦ 0 | suc i ↦ suc (suc i) ] ]) (suc (length ls))
+    go (yes h) n b = omega arith
+    go (no x) zero b = omega arith
+    go (no x) (suc i) b = omega arith
+
+line-here : (k n : ℕ) → equation-line k < equation-line (k + suc n)
+unfolding equation-line
+line-here k n = omega arith
+
+line-next : (k n : ℕ) → equation-line (suc k + n) ≡ equation-line (k + suc n)
+line-next k n = let e : suc k + n ≡ k + suc n = omega arith in ap equation-line e
+
+-- A walk that is refused is one of these equations'.
+refusal-low : (k : ℕ) (es : List Equation) (r : WalkRefusal) → first-refusal k es ≡ some r → r .line < equation-line (k + length es)
+unfolding first-refusal
+refusal-low k [] r h = let z : _≡_ {A = ℕ} 0 1 = cc in absurd (omega arith)
+refusal-low k (q ∷ qs) r h = left (refusal-low (suc k) qs r) (solve q left-right) h
+  where
+    here : {x : Refusal} → some (record { refusal = x; line = equation-line k }) ≡ some r → r .line < equation-line (k + suc (length qs))
+    here {x} h = let e : record { refusal = x; line = equation-line k } ≡ r = cc in omega (arith, ap (λ r. r .line) e, line-here k (length qs))
+
+    right : (first-refusal (suc k) qs ≡ some r → r .line < equation-line (suc k + length qs)) → (w : Walked)
+        → _≡_ {A = Option WalkRefusal} (elim w [ refused x ↦ some (record { refusal = x; line = equation-line k }) | solved ls n ↦ first-refusal (suc k) qs ]) (some r)
+        → r .line < equation-line (k + suc (length qs))
+    right f (refused x) h = here h
+    right f (solved ls n) h = omega (arith, f h, line-next k (length qs))
+
+    left : (first-refusal (suc k) qs ≡ some r → r .line < equation-line (suc k + length qs)) → (w : Walked)
+        → _≡_ {A = Option WalkRefusal} (elim w [
+          | refused x ↦ some (record { refusal = x; line = equation-line k })
+          | solved ls n ↦ elim (solve q right-left) [ refused x ↦ some (record { refusal = x; line = equation-line k }) | solved ls′ n′ ↦ first-refusal (suc k) qs ]
+        ]) (some r)
+        → r .line < equation-line (k + suc (length qs))
+    left f (refused x) h = here h
+    left f (solved ls n) h = right f (solve q right-left) h
+
+-- 2. What stands behind the part that is used is unchanged.
+behind-more : (n k : ℕ) (xs ys : List ℕ) → k ≤ n → drop k xs ≡ drop k ys → drop n xs ≡ drop n ys
+behind-more n k xs ys h e = behind xs ∙ (ap (drop (n - k)) e ∙ sym (behind ys))
+  where
+    behind : (zs : List ℕ) → drop n zs ≡ drop (n - k) (drop k zs)
+    behind zs = let parts : n ≡ k + (n - k) = omega arith in ap (λ m. drop m zs) parts ∙ sym (drop-drop (n - k) k zs)
+
+-- The cells stand first in scratch.
+pub cells-behind : (scratch front : List ℕ) → scratch-bytes ≤ length scratch → length front ≡ length (take cell-count scratch)
+    → drop scratch-bytes (front ++ drop cell-count scratch) ≡ drop scratch-bytes scratch
+cells-behind scratch front h l =
+    behind-more scratch-bytes cell-count (front ++ drop cell-count scratch) scratch (omega arith) (drop-at front (drop cell-count scratch) cell-count (l ∙ cells-there scratch h))
+
+pub walk-behind : (scratch worked : List ℕ) → drop memory-bytes worked ≡ drop memory-bytes scratch → drop scratch-bytes worked ≡ drop scratch-bytes scratch
+walk-behind scratch worked h = behind-more scratch-bytes memory-bytes worked scratch (omega arith) h
+
+pub left-over : (n : ℕ) (table table′ blank scratch scratch′ last : List ℕ) → drop table-bytes table′ ≡ drop table-bytes table → blank ≡ filled table-bytes no-position table′
+    → drop scratch-bytes scratch′ ≡ drop scratch-bytes scratch → last ≡ filled scratch-bytes 0 scratch′ → outcome n (blanked table) (cleared scratch) ≡ outcome n blank last
+unfolding blanked cleared
+left-over n table table′ blank scratch scratch′ last t b s l =
+    ap (λ t. outcome n t (cleared scratch)) (sym (b ∙ filled-behind table-bytes table-bytes no-position table′ table (omega arith) t))
+    ∙ ap (outcome n blank) (sym (l ∙ filled-behind scratch-bytes scratch-bytes 0 scratch′ scratch (omega arith) s))
+
+-- 3. The values of a judgement, and the lines of its rule.
+module _ {sheet : List ℕ} {known : Known} {from end : ℕ} {equations lengths : List ℕ} {rule : ℕ} {table : List ℕ} {filled i : ℕ} {e : Equation} {d : Direction} {ts : Terms}
+    (v : ValuesIn sheet known from end equations lengths rule table filled i e d ts) where
+  pub values-room : known .symbols ≤ length (known .arities)
+  values-room = symbols-room (v .roomy) (v .terms-in .few-symbols)
+
+  pub values-symbols : known .symbols ≡ length (take (known .symbols) (known .arities))
+  values-symbols = symbols-taken (v .roomy) (v .terms-in .few-symbols)
+
+  pub values-taken : TermsIn sheet (take (known .symbols) (known .arities)) from end ts
+  values-taken = subst (λ a. TermsIn sheet a from end ts) (arities-taken (v .roomy) (v .terms-in .few-symbols)) (v .terms-in)
+
+  pub values-judged : (nodes sizes : List ℕ) (n : ℕ) → Loaded (take (known .symbols) (known .arities)) nodes sizes ts n
+      → JudgeIs equations lengths rule table (record { from = 0; end = filled }) nodes sizes n (known-arities known) i e d (v .kept) ts
+  values-judged nodes sizes n l =
+      record {
+        rule-is = v .rule-is;
+        proper = v .proper;
+        there = v .there;
+        loaded = subst (λ a. Loaded a nodes sizes ts n) (sym (arities-taken (v .roomy) (v .terms-in .few-symbols))) l;
+        one-each = v .one-each;
+      }
+
+  pub values-hold : {r : ℕ} → r ≡ first-holding (given-values ts) (value e (given-values ts)) (v .kept) → r ≡ holding-line e d (given-values ts)
+  unfolding holding-line holding-in
+  values-hold h = h ∙ sym (ap (holding-in e (given-values ts)) (v .solves))
+
+  pub holding-low : {r : ℕ} → r ≡ holding-line e d (given-values ts) → r < field-limit
+  holding-low h =
+      let same = values-hold {r = first-holding (given-values ts) (value e (given-values ts)) (v .kept)} refl in
+      omega (arith, h, same, first-holding-low (given-values ts) (value e (given-values ts)) (v .kept), solved-line-count e (v .rule-is .row .limits) d (v .kept) (v .turns) (v .solves))
+
+-- 4. What judge earns, by the task.
+module _ (sheet table scratch : List ℕ) (task : ℕ) where
+  abbrev pub answered : TableOutcome
+  answered = judge-answer table scratch (asked true sheet (judgement-task task))
+
+  answer-of : (s : Sheet) → read sheet ≡ accepted s → (o : Option Task) → entry (s .tasks) task ≡ o → answered ≡ judge-answer table scratch (found (judgement-in (s .equations) o))
+  unfolding asked find judgement-task
+  answer-of s r o h = ap (λ x. judge-answer table scratch (find (judgement-task task) x)) r ∙ ap (λ o. judge-answer table scratch (found (judgement-in (s .equations) o))) h
+
+  module _ (known : Known) (a : Accepts sheet known) where
+    pub task-absent : known .tasks ≤ task → {n : ℕ} → n ≡ refusal-number absent-argument 0 → answered ≡ outcome n table scratch
+    unfolding judge-answer found judgement-in
+    task-absent h e = let (s, r, g) = a in answer-of s r none (entry-none (s .tasks) task (omega (arith, g .tasks-are))) ∙ ap (λ n. outcome n table scratch) (sym e)
+
+    module _ (there : task < known .tasks) (place : TaskFound) (each : (t : Task) → TaskIn sheet task t → TaskAt sheet t place) where
+      pub run-there : {k n : ℕ} → place .head ≡ Run k → n ≡ refusal-number absent-argument 0 → answered ≡ outcome n table scratch
+      unfolding judge-answer found judgement-in
+      run-there {k} h e =
+          let (t, i) = task-asked sheet known task a there in
+          let (u, x) = is-run t (sym (each t i .0) ∙ h) in
+          let (s, r, y) = i in
+          answer-of s r (some (run k u)) (y ∙ ap some x) ∙ ap (λ n. outcome n table scratch) (sym e)
+
+      pub comparison-there : {n : ℕ} → place .head ≡ Comparison → n ≡ refusal-number absent-argument 0 → answered ≡ outcome n table scratch
+      unfolding judge-answer found judgement-in
+      comparison-there h e =
+          let (t, i) = task-asked sheet known task a there in
+          let (u, v, x) = is-comparison t (sym (each t i .0) ∙ h) in
+          let (s, r, y) = i in
+          answer-of s r (some (comparison u v)) (y ∙ ap some x) ∙ ap (λ n. outcome n table scratch) (sym e)
+
+-- The task is a judgement.
+module _ (sheet : List ℕ) (known : Known) (task : ℕ) (a : Accepts sheet known) (there : task < known .tasks) (place : TaskFound) (each : (t : Task) → TaskIn sheet task t → TaskAt sheet t place)
+    {k d : ℕ} (h : place .head ≡ Judgement-head k d) where
+  pub judgement-found : JudgementIn sheet known (k + k + d) (place .from) (place .end) task
+  judgement-found =
+      let (t, i) = task-asked sheet known task a there in
+      let (o, ts, x, y) = is-judgement t (sym (each t i .0) ∙ h) in
+      let j : TaskIn sheet task (judgement k o ts) = subst (TaskIn sheet task) x i in
+      record { accepts = a; number = k; direction = o; terms = ts; is-task = j; is-rule = omega (arith, y); spans = each (judgement k o ts) j .1 }
+
+  pub judgement-has : HasJudgement sheet known (k + k + d) (place .from) (place .end)
+  judgement-has = record { task = task; is = judgement-found }
+
+-- 5. A judgement that is found.
+pub none-holds : {line n : ℕ} → line ≡ 0 → n ≡ 0 → n ≡ judge-fields line
+unfolding judge-fields fields
+none-holds h e = e ∙ sym (ap judge-fields h)
+
+pub some-holds : (line : ℕ) {n : ℕ} → (line ≡ 0 → ⊥) → n ≡ fields 1 line 0 → n ≡ judge-fields line
+unfolding judge-fields
+some-holds zero h e = absurd (h refl)
+some-holds (suc i) h e = e
+
+module _ {sheet : List ℕ} {known : Known} {rule from end task : ℕ} (j : JudgementIn sheet known rule from end task) where
+  -- Its sheet, its equation and its values.
+  record TaskParts : Type 0 where
+    content : Sheet
+    reads : read sheet ≡ accepted content
+    counted : known .equations ≡ length (content .equations)
+    few-equations : length (content .equations) ≤ max-equations
+    is-task : entry (content .tasks) task ≡ some (judgement (j .number) (j .direction) (j .terms))
+    equation : Equation
+    is-equation : entry (content .equations) (j .number) ≡ some equation
+    one-each : count (j .terms) ≡ equation-width equation
+    terms-in : TermsIn sheet (known-arities known) from end (j .terms)
+    roomy : Roomy known
+
+  parts : TaskParts
+  unfolding task-terms
+  parts =
+      let (s, r, y) = j .is-task in
+      let (s′, r′, g) = j .accepts in
+      let e : accepted s′ ≡ accepted s = sym r′ ∙ r in
+      let d : s′ ≡ s = cc in
+      let arities = g .arities-are ∙ ap (λ s. s .arities) d in
+      let all = accepted-valid sheet s r .0 in
+      let valid : ValidTask (s .arities) (s .equations) (judgement (j .number) (j .direction) (j .terms)) = every-entry (ValidTask (s .arities) (s .equations)) (s .tasks) task (all .tasks) y in
+      record {
+        content = s;
+        reads = r;
+        counted = g .equations-are ∙ ap (λ s. length (s .equations)) d;
+        few-equations = all .few-equations;
+        is-task = y;
+        equation = valid .0;
+        is-equation = valid .1;
+        one-each = valid .2;
+        terms-in = record {
+          spans = j .spans;
+          ground = subst (λ arities. Grounds arities (j .terms)) (sym arities) (valid .3);
+          few-nodes = valid .4;
+          few-symbols = omega (arith, ap length (g .arities-are), g .valid .symbols .few-symbols);
+        };
+        roomy = g .roomy;
+      }
+
+  pub rule-low : rule < 2 * max-equations
+  rule-low = omega (arith, j .is-rule, parts .few-equations, rule-below (parts .content .equations) (j .number) (j .direction) (parts .is-equation))
+
+  module _ (table scratch : List ℕ) where
+    answer-is : (o : Option WalkRefusal) → first-refusal 0 (parts .content .equations) ≡ o
+        → answered sheet table scratch task ≡ judge-walked table scratch (record { equations = parts .content .equations; equation = parts .equation; direction = j .direction; values = given-values (j .terms) }) o
+    unfolding judge-answer found judgement-in values-in
+    answer-is o h =
+        let es = parts .content .equations in
+        answer-of sheet table scratch task (parts .content) (parts .reads) (some (judgement (j .number) (j .direction) (j .terms))) (parts .is-task)
+        ∙ ap (λ q. judge-answer table scratch (found (values-in es q (j .direction) (given-values (j .terms))))) (parts .is-equation)
+        ∙ ap (judge-walked table scratch (record { equations = es; equation = parts .equation; direction = j .direction; values = given-values (j .terms) })) h
+
+  module _ (equations lengths : List ℕ) (rows : (s : Sheet) → read sheet ≡ accepted s → RowsAre equations lengths (known-arities known) (s .equations)) where
+    rows-are : RowsAre equations lengths (known-arities known) (parts .content .equations)
+    rows-are = rows (parts .content) (parts .reads)
+
+    pub rows-has : HasRows equations lengths (known .equations)
+    rows-has = record { arities = known-arities known; those = parts .content .equations; are = rows-are; counted = parts .counted }
+
+    module _ (worked : List ℕ) (r : Judged) (walked : (arities : List ℕ) (es : List Equation) → RowsAre equations lengths arities es → known .equations ≡ length es → JudgedAs es rule worked r) where
+      judged : JudgedAs (parts .content .equations) rule worked r
+      judged = walked (known-arities known) (parts .content .equations) rows-are (parts .counted)
+
+      judged-to : {w : Judged} → r ≡ w → JudgedAs (parts .content .equations) rule worked w
+      judged-to {w} h = subst (JudgedAs (parts .content .equations) rule worked) h judged
+
+      pub refused-fits : {why : Refusal} {k : ℕ} → r ≡ Refused why k → k + 2 ≤ max-text
+      unfolding equation-line
+      refused-fits {why} {k} h = omega (arith, refusal-low 0 (parts .content .equations) (record { refusal = why; line = equation-line k }) (judged-to h), parts .few-equations)
+
+      pub refused-told : (table scratch : List ℕ) {why : Refusal} {k n : ℕ} → r ≡ Refused why k → n ≡ refusal-number why (k + 2)
+          → answered sheet table scratch task ≡ outcome n (blanked table) (cleared scratch)
+      unfolding judge-walked table-unsolved equation-line
+      refused-told table scratch {why} {k} h e =
+          answer-is table scratch (some (record { refusal = why; line = equation-line k })) (judged-to h) ∙ ap (λ n. outcome n (blanked table) (cleared scratch)) (sym e)
+
+      module _ {filled : ℕ} (h : r ≡ End filled) where
+        values-there : ValuesIn sheet known from end equations lengths rule worked filled (j .number) (parts .equation) (j .direction) (j .terms)
+        values-there =
+            let (kept, turns, solves, proper, there) = judged-to h .1 (j .number) (parts .equation) (j .direction) (parts .is-equation) (j .is-rule) in
+            record {
+              rule-is = record { row = rows-are .row (j .number) (parts .equation) (parts .is-equation); number = j .is-rule };
+              kept = kept;
+              turns = turns;
+              solves = solves;
+              proper = proper;
+              there = there;
+              terms-in = parts .terms-in;
+              one-each = parts .one-each;
+              roomy = parts .roomy;
+            }
+
+        pub values-has : HasValues sheet known from end equations lengths rule worked filled
+        values-has = record { number = j .number; equation = parts .equation; direction = j .direction; terms = j .terms; are = values-there }
+
+        module _ {line : ℕ} (holds : (i : ℕ) (e : Equation) (d : Direction) (ts : Terms) → ValuesIn sheet known from end equations lengths rule worked filled i e d ts → line ≡ holding-line e d (given-values ts)) where
+          line-is : line ≡ holding-line (parts .equation) (j .direction) (given-values (j .terms))
+          line-is = holds (j .number) (parts .equation) (j .direction) (j .terms) values-there
+
+          pub line-low : line < field-limit
+          line-low = holding-low values-there line-is
+
+          pub judged-told : (table scratch : List ℕ) {n : ℕ} → n ≡ judge-fields line → answered sheet table scratch task ≡ outcome n (blanked table) (cleared scratch)
+          unfolding judge-walked
+          judged-told table scratch e =
+              answer-is table scratch none (judged-to h .0) ∙ ap (λ l. outcome (judge-fields l) (blanked table) (cleared scratch)) (sym line-is)
+              ∙ ap (λ n. outcome n (blanked table) (cleared scratch)) (sym e)

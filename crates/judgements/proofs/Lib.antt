@@ -1,0 +1,4 @@
+-- Laws that the proofs of the functions share.
+pub mod ValueLaws
+pub mod JudgeLaws
+pub mod JudgeTaskLaws

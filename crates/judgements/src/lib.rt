@@ -1,0 +1,3 @@
+// Judge on an accepted sheet: the first line of a direction that holds at the values of a task.
+pub mod judge;
+pub mod judge_task;

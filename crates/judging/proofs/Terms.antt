@@ -1,0 +1,93 @@
+-- What the test of a binding and of an inequality finds: from the nodes' symbols, and from the verdict of two nodes.
+use Prim.Native.Nat.{ℕ, _+_, _≤_, _<_}
+use mathlib.Core.Path.{_≡_, sym, subst, _∙_}
+use mathlib.Core.Logic.{inl, inr}
+use mathlib.Core.List.{List}
+use native.Mathlib.Omega.{arith}
+use lib.ListN.{length, getD}
+use Rattle.format.specs.Limits.{position-count, first-variable}
+use Rattle.terms.specs.Term.{Term, Values}
+use Rattle.ordering.specs.Order.{_≻_}
+use Rattle.ordering.specs.declared.verdict.Verdict.{Verdict}
+use Rattle.ordering.specs.declared.verdict.Verdict.the-variants.{Smaller as smaller, Equal as equal, Greater as greater}
+use Rattle.ordering.specs.Verdict.{verdict}
+use Rattle.ordering.specs.Theory.Verdict.{means-verdict, told-equal, told-greater, told-not-greater}
+use Rattle.ordering.specs.Theory.Total.{verdict-smaller}
+use Rattle.solving.specs.Line.{greater as exceeding}
+use Rattle.comparing.specs.Contracts.Nodes.{TermAt, resolved}
+use Rattle.comparing.specs.Contracts.Cells.{SettledCells}
+use Rattle.comparing.specs.Contracts.Comparing.{HasTerm, Compares}
+use Rattle.comparing.specs.Theory.Nodes.{within, symbol-at}
+use Rattle.comparing.proofs.Resolved.{byte-low, SymbolNode, resolved-node}
+use Rattle.judging.specs.Contracts.Holding.{BindingTestable, ElementTestable, InstanceAt}
+
+module _ {nodes lengths values ready cells : List ℕ} (m : SettledCells nodes lengths values ready cells) where
+  pub resolvable : {i : ℕ} {t : Term} → TermAt nodes lengths values i t → (i < length nodes) × (getD nodes i 0 < first-variable + length values)
+  resolvable a = (omega (arith, within a, m .nodes-length), omega (arith, byte-low a, m .values-length))
+
+  pub readable : {i : ℕ} {t : Term} → TermAt nodes lengths values i t → i < length nodes
+  readable a = omega (arith, within a, m .nodes-length)
+
+-- The node that the instance's gives way to.
+pub instance-node : {nodes lengths values : List ℕ} {ρ : Values} {value : ℕ → Term} {p s : ℕ} → InstanceAt nodes lengths values ρ value p → s ≡ resolved nodes values p
+    → SymbolNode nodes lengths values s (value p)
+instance-node {nodes} {lengths} {values} {value = value} {p = p} i e = subst (λ n. SymbolNode nodes lengths values n (value p)) (sym e) (resolved-node (i .stands))
+
+pub has-instance : {nodes lengths values : List ℕ} {ρ : Values} {value : ℕ → Term} {p s : ℕ} → InstanceAt nodes lengths values ρ value p → s ≡ resolved nodes values p
+    → HasTerm nodes lengths values s
+has-instance {value = value} {p = p} i e = record { term = value p; denotes = instance-node i e .denotes }
+
+-- A binding of the variable `v`, whose value is at `node`, to `p`, which gives way to `s`.
+module _ {nodes lengths values : List ℕ} {ρ : Values} {value : ℕ → Term} {v p node : ℕ} (b : BindingTestable nodes lengths values ρ value v p) (e : node ≡ getD values v 0) where
+  pub no-value : node < position-count → ¬ (ρ v ≡ value p)
+  no-value h = elim (b .valued) [ inl x ↦ absurd (omega (arith, x .low)) | inr x ↦ x .differs ]
+
+  module _ (low : position-count ≤ node) where
+    pub value-node : TermAt nodes lengths values node (ρ v)
+    value-node = elim (b .valued) [ inl x ↦ subst (λ n. TermAt nodes lengths values n (ρ v)) (sym e) (x .stands) | inr x ↦ absurd (omega (arith, x .absent)) ]
+
+    module _ {s : ℕ} (f : s ≡ resolved nodes values p) where
+      pub other-symbols : getD nodes node 0 < first-variable → ¬ (getD nodes s 0 ≡ getD nodes node 0) → ¬ (ρ v ≡ value p)
+      other-symbols l n d =
+          let i = instance-node (b .instance-there) f in
+          let x = symbol-at (i .denotes) (i .symbol) in
+          let y = symbol-at value-node l in
+          let z : getD nodes s 0 ≡ getD nodes node 0 = cc (x .is, y .is, d) in
+          n z
+
+      module _ {r : Verdict} (c : Compares nodes lengths values s node r) where
+        binding-verdict : r ≡ verdict (value p) (ρ v)
+        binding-verdict = c .is (value p) (ρ v) (instance-node (b .instance-there) f .denotes) value-node
+
+        pub binding-equal : r ≡ equal → ρ v ≡ value p
+        binding-equal h = sym (told-equal (value p) (ρ v) binding-verdict h)
+
+        pub binding-other : ¬ (r ≡ equal) → ¬ (ρ v ≡ value p)
+        binding-other n h = n (binding-verdict ∙ means-verdict (value p) (ρ v) equal (sym h))
+
+-- An inequality between `p` and `q`, which give way to `s` and `t`.
+module _ {nodes lengths values : List ℕ} {ρ : Values} {value : ℕ → Term} {p q s t : ℕ} (x : ElementTestable nodes lengths values ρ value (exceeding p q)) (e : s ≡ resolved nodes values p)
+    (f : t ≡ resolved nodes values q) where
+  pub one-low : t < position-count → position-count ≤ s
+  one-low h = elim (x .2) [ inl a ↦ omega arith | inr a ↦ absurd (omega arith) ]
+
+  module _ {r : Verdict} (c : Compares nodes lengths values s t r) where
+    inequality-verdict : r ≡ verdict (value p) (value q)
+    inequality-verdict = c .is (value p) (value q) (instance-node (x .0) e .denotes) (instance-node (x .1) f .denotes)
+
+    pub inequality-greater : r ≡ greater → value p ≻ value q
+    inequality-greater h = told-greater (value p) (value q) inequality-verdict h
+
+    pub inequality-not-greater : ¬ (r ≡ greater) → ¬ (value p ≻ value q)
+    inequality-not-greater n = told-not-greater (value p) (value q) inequality-verdict n
+
+  -- Asked the other way round.
+  module _ {r : Verdict} (c : Compares nodes lengths values t s r) where
+    other-verdict : r ≡ verdict (value q) (value p)
+    other-verdict = c .is (value q) (value p) (instance-node (x .1) f .denotes) (instance-node (x .0) e .denotes)
+
+    pub inequality-smaller : r ≡ smaller → value p ≻ value q
+    inequality-smaller h = let g = x .3 in verdict-smaller (g .arities) (value q) (value p) (g .second) (g .first) .0 (sym other-verdict ∙ h)
+
+    pub inequality-not-smaller : ¬ (r ≡ smaller) → ¬ (value p ≻ value q)
+    inequality-not-smaller n h = let g = x .3 in n (other-verdict ∙ verdict-smaller (g .arities) (value q) (value p) (g .second) (g .first) .1 h)

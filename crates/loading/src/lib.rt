@@ -1,0 +1,2 @@
+// The terms of a task, stored as the subject's nodes.
+pub mod load;

@@ -1,0 +1,43 @@
+-- Ground terms of the subject: where their bytes and sizes stand, and that terms with the same bytes are identical.
+use Prim.Native.Nat.{ℕ, _+_, _<_}
+use mathlib.Core.Path.{_≡_, sym, ap, _∙_}
+use mathlib.Core.Bool.{true, false}
+use mathlib.Core.Logic.{_↔_}
+use mathlib.Core.List.{List}
+use native.Mathlib.Omega.{arith}
+use lib.ListN.{length, getD}
+use lib.Seq.{ext-getD}
+use Rattle.terms.specs.Term.{Term, size}
+use Rattle.terms.specs.Prefix.{prefix}
+use Rattle.terms.specs.Contracts.Stored.{GroundStored}
+use Rattle.terms.specs.Theory.Prefix.{ground-fits, length-prefix, prefix-injective}
+use Rattle.terms.specs.Theory.Stored.{stored-element, Standing, ground-size, ground-standing}
+use Rattle.matching.specs.Contracts.Matching.{HasGround}
+
+module _ {nodes lengths arities : List ℕ} {i : ℕ} {t : Term} (g : GroundStored nodes lengths arities i t) where
+  ground-byte : (k : ℕ) → k < size t → getD nodes (i + k) 0 ≡ getD (prefix t) k 0
+  ground-byte k h = stored-element (g .stored .bytes) k (omega (arith, length-prefix t))
+
+pub standing : {nodes lengths : List ℕ} {i : ℕ} → HasGround nodes lengths i → Standing nodes lengths i
+standing g = ground-standing (g .stored)
+
+module _ {nodes lengths arities : List ℕ} {a b : ℕ} {s t : Term} (g : GroundStored nodes lengths arities a s) (h : GroundStored nodes lengths arities b t) where
+  pub same-bytes : getD lengths a 0 ≡ getD lengths b 0 → ((k : ℕ) → k < getD lengths a 0 → getD nodes (a + k) 0 ≡ getD nodes (b + k) 0) → s ≡ t
+  same-bytes e same =
+      let x = ground-size g in
+      let y = ground-size h in
+      let d = length-prefix s in
+      let z : length (prefix s) ≡ length (prefix t) = omega (arith, length-prefix t) in
+      prefix-injective arities (g .few-symbols) s t (ground-fits arities s (g .ground)) (ground-fits arities t (h .ground))
+      (ext-getD 0 (prefix s) (prefix t) z (λ k l. sym (ground-byte g k (omega arith)) ∙ (same k (omega arith) ∙ ground-byte h k (omega arith))))
+
+  differ : (s ≡ t → ⊥) → (false ≡ true) ↔ (s ≡ t)
+  differ n = (λ e. let z : _≡_ {A = ℕ} 0 1 = cc in absurd (omega arith), λ e. absurd (n e))
+
+  pub other-sizes : (getD lengths a 0 ≡ getD lengths b 0 → ⊥) → (false ≡ true) ↔ (s ≡ t)
+  other-sizes n = differ (λ e. n (ground-size g ∙ (ap size e ∙ sym (ground-size h))))
+
+  pub other-bytes : (k : ℕ) → k < getD lengths a 0 → (getD nodes (a + k) 0 ≡ getD nodes (b + k) 0 → ⊥) → (false ≡ true) ↔ (s ≡ t)
+  other-bytes k l n =
+      let x = ground-size g in
+      differ (λ e. n (ground-byte g k (omega arith) ∙ (ap (λ u. getD (prefix u) k 0) e ∙ sym (ground-byte h k (omega (arith, ap size e))))))

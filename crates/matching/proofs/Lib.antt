@@ -1,0 +1,6 @@
+pub mod Ground
+pub mod Meeting
+pub mod Row
+pub mod Steps
+pub mod Progress
+pub mod Cover

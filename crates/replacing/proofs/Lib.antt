@@ -1,0 +1,7 @@
+pub mod Left
+pub mod Counted
+pub mod Written
+pub mod Putting
+pub mod Ground
+pub mod Result
+pub mod Placing

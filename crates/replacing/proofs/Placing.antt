@@ -1,0 +1,101 @@
+-- The result takes the subject's place.
+use Prim.Native.Nat.{ℕ, _+_, _-_, _≤_, _<_}
+use mathlib.Core.Path.{_≡_, sym, ap, subst, _∙_}
+use mathlib.Core.List.{List, _++_, append-assoc, append-nil}
+use native.Mathlib.Omega.{arith}
+use lib.ListN.{length, getD, take, drop, length-append, take-append-drop}
+use lib.Seq.{slice, take-at, drop-at, getD-drop, length-take-le}
+use Rattle.format.specs.Limits.{first-variable, position-count, max-task-nodes}
+use Rattle.format.specs.Buffer.{written}
+use Rattle.terms.specs.Term.{Term, nil, cons, size, sizes, Values, inst, Ground}
+use Rattle.terms.specs.Position.{subterms, replace}
+use Rattle.terms.specs.Prefix.{prefix, prefixes}
+use Rattle.terms.specs.declared.arguments.Arguments.{Arguments}
+use Rattle.terms.specs.Contracts.Sizes.{Measurable, node-sizes}
+use Rattle.terms.specs.Contracts.Stored.{SubjectIs, AllSymbols}
+use Rattle.terms.specs.Theory.Prefix.{ground-fits, length-prefix}
+use Rattle.terms.specs.Theory.Placed.{Placed, placed-stored, placed-measurable, placed-sizes}
+use Rattle.terms.specs.Theory.Replace.{ground-replace}
+use Rattle.terms.specs.Theory.Symbols.{symbols-append, ground-symbols}
+use Rattle.replacing.specs.Contracts.Replacing.{ReplacementIs}
+use Rattle.replacing.proofs.Written.{Front, written-behind}
+use Rattle.replacing.proofs.Ground.{ground-instance}
+
+pub ground-result : {bytes : List ℕ} {side : Arguments} {arities nodes lengths values : List ℕ} {node n : ℕ} {subject t : Term} {ρ : Values} {p : ℕ}
+    → ReplacementIs bytes side arities nodes lengths values node n subject t ρ p → Ground arities (replace subject p (inst ρ t))
+ground-result {arities = arities} {subject = subject} {t} {ρ} {p} r =
+    ground-replace arities (inst ρ t) (ground-instance arities ρ t (r .instance-is .fits) (λ v e. r .instance-is .given v e .ground)) subject p (r .stands .stored .ground)
+
+-- The bytes of `u` stand first in `result`, and are copied to where the subject stood.
+module _ {nodes lengths arities : List ℕ} {subject : Term} (s : SubjectIs nodes lengths arities subject) (u : Term) (g : Ground arities u)
+    (zeros result new : List ℕ) (n : ℕ) (counted : n ≡ size u) (few : n ≤ max-task-nodes) (put : result ≡ written (prefix u) zeros)
+    (copied : new ≡ written (take n result) (take (length nodes - position-count) (drop position-count nodes))) where
+  abbrev after : List ℕ
+  after = take position-count nodes ++ (new ++ drop (length nodes - position-count) (drop position-count nodes))
+
+  front-length : length (take position-count nodes) ≡ position-count
+  front-length = length-take-le position-count nodes (omega (arith, s .nodes-length))
+
+  result-bytes : take n result ≡ prefix u
+  unfolding written
+  result-bytes = ap (take n) put ∙ take-at (prefix u) (drop (length (prefix u)) zeros) n (length-prefix u ∙ sym counted)
+
+  kept : Front (take position-count nodes) nodes nodes position-count
+  unfolding written
+  kept = record { stands = sym (ap (λ k. take position-count nodes ++ drop k nodes) front-length ∙ take-append-drop position-count nodes); counted = sym front-length }
+
+  abbrev behind : List ℕ
+  behind = drop (length (take position-count nodes ++ prefix u)) nodes
+
+  after-is : after ≡ take position-count nodes ++ (prefix u ++ behind)
+  unfolding written
+  after-is =
+      written-behind kept (prefix u) new n (counted ∙ sym (length-prefix u)) (copied ∙ ap (λ bs. written bs (take (length nodes - position-count) (drop position-count nodes))) result-bytes) .stands
+      ∙ append-assoc (take position-count nodes) (prefix u) behind
+
+  placed : Placed after (prefix u)
+  placed = record { before = take position-count nodes; after = behind; at = front-length; is = after-is }
+
+  one-bytes : prefix u ≡ prefixes (cons u nil)
+  unfolding prefix
+  one-bytes = sym (append-nil (prefix u))
+
+  one-size : n ≡ sizes (cons u nil)
+  unfolding size
+  one-size = omega arith
+
+  placed-one : Placed after (prefixes (cons u nil))
+  placed-one = subst (Placed after) one-bytes placed
+
+  pub result-measurable : length after ≡ length nodes → Measurable arities after lengths position-count (position-count + n)
+  result-measurable l =
+      placed-measurable arities (s .stored .few-symbols) (cons u nil) (ground-fits arities u g, tt) after placed-one n one-size lengths (l ∙ s .nodes-length) (s .lengths-length) few
+
+  no-variable : (i : ℕ) → position-count ≤ i → getD after i 0 < first-variable
+  unfolding AllSymbols
+  no-variable i h =
+      let k = i - position-count in
+      let x : getD after i 0 ≡ getD (prefix u ++ behind) k 0 =
+      ap (λ j. getD after j 0) (omega arith) ∙ (sym (getD-drop position-count after k 0) ∙ ap (λ l. getD l k 0) (ap (drop position-count) after-is ∙ drop-at (take position-count nodes) (prefix u ++ behind) position-count front-length)) in
+      let b : AllSymbols behind = λ j. omega (arith, getD-drop (length (take position-count nodes ++ prefix u)) nodes j 0, s .symbols (length (take position-count nodes ++ prefix u) + j) (omega (arith, length-append (take position-count nodes) (prefix u), front-length))) in
+      omega (arith, symbols-append (prefix u) behind (ground-symbols arities (s .stored .few-symbols) u g) b k)
+
+  pub result-subject : length after ≡ length nodes → (measured rest : List ℕ) → length measured ≡ length lengths
+      → measured ≡ take position-count lengths ++ (node-sizes arities (slice position-count (position-count + n) after) ++ rest)
+      → SubjectIs after measured arities u
+  unfolding subterms
+  result-subject l measured rest m e = record {
+    nodes-length = l ∙ s .nodes-length;
+    lengths-length = m ∙ s .lengths-length;
+    symbols = no-variable;
+    stored = record {
+      few-symbols = s .stored .few-symbols;
+      ground = g;
+      stored = record {
+        bytes = placed-stored placed;
+        lengths-there = rw (append-nil (subterms u)) at (placed-sizes arities (s .stored .few-symbols) (cons u nil) (ground-fits arities u g, tt) after placed-one n one-size lengths measured rest (omega (arith, s .lengths-length)) e);
+      };
+      low = omega arith;
+      within = omega arith;
+    };
+  }

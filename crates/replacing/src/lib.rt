@@ -1,0 +1,3 @@
+// "The matched part becomes the target's instance."
+pub mod instance;
+pub mod part;

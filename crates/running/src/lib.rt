@@ -1,0 +1,2 @@
+// A run: step after step, until one of the three endings.
+pub mod course;

@@ -1,0 +1,357 @@
+-- Laws for the call run: what its code hands on, and what it earns by the task that is found.
+use Prim.Native.Nat.{ℕ, suc, _+_, _≤_, _<_}
+use mathlib.Core.Path.{_≡_, refl, sym, ap, subst, _∙_}
+use mathlib.Core.Bool.{Bool, true, false}
+use mathlib.Core.Option.{Option, none, some}
+use mathlib.Core.List.{List, [], _∷_, map, append-nil}
+use lib.ListN.{length, take, drop, length-drop}
+use lib.Seq.{take-at, take-take, length-take-le}
+use native.Mathlib.Omega.{arith}
+use Rattle.format.specs.Limits.{no-position, max-equations, max-steps, max-task-nodes, position-count, table-bytes, scratch-bytes}
+use Rattle.format.specs.Buffer.{written}
+use Rattle.format.specs.Lists.{entry}
+use Rattle.format.specs.Theory.Lists.{entry-none, every-entry}
+use Rattle.format.specs.declared.refusal.Refusal.{Refusal}
+use Rattle.format.specs.declared.refusal.Refusal.the-variants.{AbsentArgument as absent-argument}
+use Rattle.terms.specs.Term.{Term, nil, cons, size, Ground}
+use Rattle.terms.specs.Equation.{Equation, left-right, right-left}
+use Rattle.terms.specs.Position.{subterms}
+use Rattle.terms.specs.Prefix.{prefix}
+use Rattle.terms.specs.Contracts.Stored.{PartAt, SubjectIs, AllSymbols}
+use Rattle.terms.specs.Theory.Prefix.{length-prefix}
+use Rattle.sheet.specs.Sheet.{Task, run, judgement, comparison, Sheet}
+use Rattle.sheet.specs.Reading.{accepted, read}
+use Rattle.sheet.specs.Contracts.Valid.{ValidTask}
+use Rattle.sheet.specs.Theory.Accepted.{accepted-valid}
+use Rattle.scanning.specs.declared.known.Known.{Known}
+use Rattle.scanning.specs.Contracts.Scan.{known-arities}
+use Rattle.reading.specs.declared.seek.TaskFound.{TaskFound}
+use Rattle.reading.specs.declared.seek.TaskHead.the-variants.{Run, Judgement, Comparison}
+use Rattle.reading.specs.Contracts.Seek.{Accepts, TaskIn, TaskAt, Spans, task-terms}
+use Rattle.reading.specs.Theory.Found.{task-asked, is-run, is-judgement, is-comparison}
+use Rattle.loading.specs.Contracts.Loading.{TermsIn, HasTermsIn, Loaded}
+use Rattle.solving.specs.Walk.{Walked, solved, refused, solve}
+use Rattle.reducing.specs.declared.ending.Ending.{Ending}
+use Rattle.reducing.specs.declared.ending.Ending.the-variants.{NoneFound, LimitReached, ResultTooLarge}
+use Rattle.reducing.specs.Run.{ending-number}
+use Rattle.reducing.specs.Test.{line-test, line-run}
+use Rattle.reducing.specs.Theory.Runs.{run-few}
+use Rattle.outcomes.specs.Buffer.{fields, refusal-number, filled, cleared, blanked}
+use Rattle.outcomes.specs.Asked.{found, find, asked, reduction-in, reduction-task, equation-line, WalkRefusal, first-refusal}
+use Rattle.outcomes.specs.Outcome.{RunOutcome, run-done, run-walked, run-answer}
+use Rattle.walking.specs.Contracts.Walking.{memory-bytes}
+use Rattle.rules.specs.declared.walks.Walks.{Walks}
+use Rattle.rules.specs.declared.walks.Walks.the-variants.{Refused, Full, Kept}
+use Rattle.rules.specs.Contracts.Rows.{RowsAre, bound-count}
+use Rattle.rules.specs.Contracts.Walks.{RulesAt, WalksAs}
+use Rattle.searching.specs.Contracts.Next.{NextIs, RulesKept, HasRulesKept}
+use Rattle.running.specs.declared.course.Course.{Course}
+use Rattle.running.specs.Contracts.Course.{RulesReady, RunIs, CourseIs, the-run, last-of}
+use Rattle.answers.proofs.Fill.{filled-behind}
+use Rattle.answers.proofs.Arities.{symbols-room, symbols-taken, arities-taken}
+use Rattle.answers.proofs.SolveTask.{walk-cleared}
+use Rattle.runs.specs.Contracts.RunTask.{LinesReady, RunTermIs, Ran, RanAs, ReductionIn}
+
+-- 1. What the run starts from.
+abbrev taken-arities : Known → List ℕ
+taken-arities known = take (known .symbols) (known .arities)
+
+subject-loaded : {arities nodes lengths : List ℕ} {s : Term} {n : ℕ} → Loaded arities nodes lengths (cons s nil) n → SubjectIs nodes lengths arities s
+unfolding prefix subterms size AllSymbols
+subject-loaded {arities} {nodes} {lengths} {s} l =
+    record {
+      nodes-length = l .nodes-length;
+      lengths-length = l .lengths-length;
+      symbols = λ i h. l .symbols i;
+      stored = record {
+        few-symbols = l .few-symbols;
+        ground = l .ground .0;
+        stored = record {
+          bytes = subst (PartAt nodes position-count) (append-nil (prefix s)) (l .bytes);
+          lengths-there = subst (λ p. PartAt lengths position-count (map size p)) (append-nil (subterms s)) (l .lengths-there);
+        };
+        low = omega arith;
+        within = omega (arith, l .few-nodes);
+      };
+    }
+
+loaded-size : {arities nodes lengths : List ℕ} {s : Term} {n : ℕ} → Loaded arities nodes lengths (cons s nil) n → n ≡ size s
+unfolding size
+loaded-size l = omega (arith, l .counted)
+
+module _ {sheet : List ℕ} {known : Known} {from end : ℕ} {equations lengths bounds : List ℕ} {es : List Equation} {subject : Term}
+    (t : RunTermIs sheet known from end equations lengths bounds es subject) where
+  pub term-symbols-room : known .symbols ≤ length (known .arities)
+  term-symbols-room = symbols-room (t .roomy) (t .term-in .few-symbols)
+
+  pub term-symbols-taken : known .symbols ≡ length (taken-arities known)
+  term-symbols-taken = symbols-taken (t .roomy) (t .term-in .few-symbols)
+
+  arities-are : known-arities known ≡ taken-arities known
+  arities-are = arities-taken (t .roomy) (t .term-in .few-symbols)
+
+  abbrev rule-count : ℕ
+  rule-count = known .equations + known .equations
+
+  -- What the code that prepares the table of next rules tells.
+  abbrev NextReady : Bool → (table next : List ℕ) → Type 0
+  NextReady fits table next = fits ≡ true → (arities : List ℕ) (es : List Equation) → RulesKept equations lengths rule-count bounds table arities es → NextIs next rule-count es
+
+  rules-kept : (table : List ℕ) → RulesAt bounds table es → RulesKept equations lengths rule-count bounds table (taken-arities known) es
+  rules-kept table k =
+      record { rows = subst (λ a. RowsAre equations lengths a es) arities-are (t .rows); counted = omega (arith, t .counted); bounds-length = t .bounds-length; kept = k }
+
+  pub rules-have : (fits : Bool) (table : List ℕ) → LinesReady fits bounds table es → fits ≡ true
+      → HasRulesKept equations lengths rule-count bounds table
+  rules-have true table r e = record { arities = taken-arities known; those = es; are = rules-kept table r }
+  rules-have false table r e = let z : _≡_ {A = ℕ} 0 1 = cc in absurd (omega arith)
+
+  rules-ready : (fits : Bool) (table next : List ℕ) → LinesReady fits bounds table es
+      → NextReady fits table next
+      → RulesReady equations lengths rule-count bounds next fits table (taken-arities known) es
+  rules-ready true table next r h = let k = rules-kept table r in (k, h refl (taken-arities known) es k)
+  rules-ready false table next r h = r
+
+  terms-taken : TermsIn sheet (taken-arities known) from end (cons subject nil)
+  terms-taken = subst (λ a. TermsIn sheet a from end (cons subject nil)) arities-are (t .term-in)
+
+  pub terms-have : HasTermsIn sheet (taken-arities known) from end
+  terms-have = record { terms = cons subject nil; are = terms-taken }
+
+  pub run-is : (fits : Bool) (table next nodes sizes : List ℕ) (n : ℕ) → LinesReady fits bounds table es
+      → NextReady fits table next
+      → ((ts : _) → TermsIn sheet (taken-arities known) from end ts → Loaded (taken-arities known) nodes sizes ts n)
+      → RunIs equations lengths rule-count bounds next fits table nodes sizes n (taken-arities known) es subject
+  run-is fits table next nodes sizes n r h load =
+      let l = load (cons subject nil) terms-taken in
+      record {
+        rows = subst (λ a. RowsAre equations lengths a es) arities-are (t .rows);
+        counted = omega (arith, t .counted);
+        ready = rules-ready fits table next r h;
+        subject-is = subject-loaded l;
+        size-is = loaded-size l;
+      }
+
+-- 2. What the run gives.
+pub ending-low : (e : Ending) → ending-number e ≤ 2
+unfolding ending-number
+ending-low NoneFound = omega arith
+ending-low LimitReached = omega arith
+ending-low ResultTooLarge = omega arith
+
+module _ {es : List Equation} {k : ℕ} {subject : Term} {arities nodes sizes log log-after : List ℕ} {c : Course}
+    (i : CourseIs es k subject arities nodes sizes log log-after c) where
+  pub course-small : c .size ≤ max-task-nodes
+  course-small = omega (arith, i .size-is, i .last-is .stored .within)
+
+  pub course-few : k ≤ max-steps → c .steps ≤ max-steps
+  unfolding line-run
+  course-few h = omega (arith, i .steps-are, run-few line-test es k subject)
+
+  pub course-front : c .size ≤ length (take max-task-nodes (drop position-count nodes))
+  course-front =
+      let behind : max-task-nodes ≤ length (drop position-count nodes) = omega (arith, length-drop position-count nodes, i .last-is .nodes-length) in
+      omega (arith, course-small, length-take-le max-task-nodes (drop position-count nodes) behind)
+
+  last-bytes : take (c .size) (take max-task-nodes (drop position-count nodes)) ≡ prefix (last-of es k subject)
+  last-bytes =
+      let there = i .last-is .stored .stored .bytes in
+      take-take (c .size) max-task-nodes (drop position-count nodes) course-small
+      ∙ ap (take (c .size)) (there .is)
+      ∙ take-at (prefix (last-of es k subject)) (there .rest) (c .size) (length-prefix (last-of es k subject) ∙ sym (i .size-is))
+
+  pub course-ran : (term term-after : List ℕ) (n r : ℕ) → term-after ≡ written (take (c .size) (take max-task-nodes (drop position-count nodes))) term
+      → n ≡ ending-number (c .ending) → r ≡ fields (c .steps) n (c .size) → Ran es k subject term term-after log log-after r
+  course-ran term term-after n r x y z =
+      record {
+        returned =
+            z
+            ∙ ap (λ s. fields s n (c .size)) (i .steps-are)
+            ∙ ap (λ m. fields (length (the-run es k subject .steps)) m (c .size)) (y ∙ ap ending-number (i .ending-is))
+            ∙ ap (λ m. fields (length (the-run es k subject .steps)) (ending-number (the-run es k subject .ending)) m) (i .size-is);
+        term-is = x ∙ ap (λ bs. written bs term) last-bytes;
+        log-is = i .logged;
+      }
+
+-- 3. The walks.
+module _ (n : ℕ) (e : Equation) (es : List Equation) where
+  abbrev after-second : Walked → Option WalkRefusal
+  after-second w = elim w [ refused r ↦ some (record { refusal = r; line = equation-line n }) | solved ls t ↦ first-refusal (suc n) es ]
+
+  abbrev after-first : Walked → Option WalkRefusal
+  after-first w = elim w [ refused r ↦ some (record { refusal = r; line = equation-line n }) | solved ls t ↦ after-second (solve e right-left) ]
+
+-- The line of a refusal is an equation's.
+refused-low : (n : ℕ) (es : List Equation) (why : Refusal) (line : ℕ) → first-refusal n es ≡ some (record { refusal = why; line = line }) → line < n + length es + 2
+unfolding first-refusal equation-line
+refused-low n [] why line h = let z : _≡_ {A = ℕ} 0 1 = cc in absurd (omega arith)
+refused-low n (e ∷ es) why line h = left (refused-low (suc n) es why line) (solve e left-right) h
+  where
+    here : (r : Refusal) → _≡_ {A = Option WalkRefusal} (some (record { refusal = r; line = n + 2 })) (some (record { refusal = why; line = line })) → line < n + suc (length es) + 2
+    here r h =
+        let same : _≡_ {A = WalkRefusal} (record { refusal = r; line = n + 2 }) (record { refusal = why; line = line }) = cc in
+        let x : n + 2 ≡ line = ap (λ w. w .line) same in
+        omega arith
+
+    right : (first-refusal (suc n) es ≡ some (record { refusal = why; line = line }) → line < suc n + length es + 2) → (w : Walked)
+        → after-second n e es w ≡ some (record { refusal = why; line = line }) → line < n + suc (length es) + 2
+    right ih (refused r) h = here r h
+    right ih (solved ls t) h = let x = ih h in omega arith
+
+    left : (first-refusal (suc n) es ≡ some (record { refusal = why; line = line }) → line < suc n + length es + 2) → (w : Walked)
+        → after-first n e es w ≡ some (record { refusal = why; line = line }) → line < n + suc (length es) + 2
+    left ih (refused r) h = here r h
+    left ih (solved ls t) h = right ih (solve e right-left) h
+
+module _ (es : List Equation) (bounds table : List ℕ) where
+  pub number-low : {walks : Walks} {why : Refusal} {number : ℕ} → length es ≤ max-equations → WalksAs es bounds table walks → walks ≡ Refused why number → number < max-equations
+  unfolding equation-line
+  number-low {walks} {why} {number} l w e = let x = refused-low 0 es why (number + 2) (subst (WalksAs es bounds table) e w) in omega arith
+
+  pub full-ready : {walks : Walks} → WalksAs es bounds table walks → walks ≡ Full → LinesReady false bounds table es
+  full-ready w e = let x : WalksAs es bounds table Full = subst (WalksAs es bounds table) e w in x .1
+
+  pub kept-ready : {walks : Walks} → WalksAs es bounds table walks → walks ≡ Kept → LinesReady true bounds table es
+  kept-ready w e = let x : WalksAs es bounds table Kept = subst (WalksAs es bounds table) e w in x .2
+
+module _ {walks : Walks} {es : List Equation} {k : ℕ} {subject : Term} {term term-after log log-after : List ℕ} {r : ℕ} where
+  pub full-as : walks ≡ Full → Ran es k subject term term-after log log-after r → RanAs walks es k subject term term-after log log-after r
+  full-as e d = subst (λ w. RanAs w es k subject term term-after log log-after r) (sym e) d
+
+  pub kept-as : walks ≡ Kept → Ran es k subject term term-after log log-after r → RanAs walks es k subject term term-after log log-after r
+  kept-as e d = subst (λ w. RanAs w es k subject term term-after log log-after r) (sym e) d
+
+pub refused-as : {walks : Walks} (es : List Equation) (k : ℕ) (subject : Term) (term log : List ℕ) {r : ℕ} {why : Refusal} {number : ℕ} → walks ≡ Refused why number → r ≡ refusal-number why (number + 2)
+    → RanAs walks es k subject term term log log r
+unfolding equation-line
+refused-as es k subject term log {r} e x = subst (λ w. RanAs w es k subject term term log log r) (sym e) (x, refl, refl)
+
+-- 4. What run earns.
+abbrev pub outcome : ℕ → (table scratch term log : List ℕ) → RunOutcome
+outcome n table scratch term log = record { returned = n; table = table; scratch = scratch; term = term; log = log }
+
+pub table-blanked : (table kept worked last : List ℕ) → drop table-bytes kept ≡ drop table-bytes table → drop table-bytes worked ≡ drop table-bytes kept
+    → last ≡ filled table-bytes no-position worked → last ≡ blanked table
+unfolding blanked
+table-blanked table kept worked last g h e = e ∙ filled-behind table-bytes table-bytes no-position worked table (omega arith) (h ∙ g)
+
+pub scratch-cleared : (scratch kept worked last : List ℕ) → drop memory-bytes kept ≡ drop memory-bytes scratch → drop scratch-bytes worked ≡ drop scratch-bytes kept
+    → last ≡ filled scratch-bytes 0 worked → last ≡ cleared scratch
+scratch-cleared scratch kept worked last g h e = walk-cleared scratch kept last g (e ∙ filled-behind scratch-bytes scratch-bytes 0 worked kept (omega arith) h)
+
+module _ (table scratch term log : List ℕ) (k : ℕ) (subject : Term) {r : ℕ} {blank clear term-after log-after : List ℕ} (b : blank ≡ blanked table) (c : clear ≡ cleared scratch) where
+  left-as : (n : ℕ) (t l : List ℕ) → r ≡ n → term-after ≡ t → log-after ≡ l → outcome n (blanked table) (cleared scratch) t l ≡ outcome r blank clear term-after log-after
+  left-as n t l x y z =
+      ap (λ n. outcome n (blanked table) (cleared scratch) t l) (sym x)
+      ∙ ap (λ b. outcome r b (cleared scratch) t l) (sym b)
+      ∙ ap (λ c. outcome r blank c t l) (sym c)
+      ∙ ap (λ t. outcome r blank clear t l) (sym y)
+      ∙ ap (outcome r blank clear term-after) (sym z)
+
+  ran-outcome : (es : List Equation) → first-refusal 0 es ≡ none → Ran es k subject term term-after log log-after r
+      → run-walked table scratch term log (record { equations = es; limit = k; subject = subject }) (first-refusal 0 es) ≡ outcome r blank clear term-after log-after
+  unfolding run-walked run-done
+  ran-outcome es e d = ap (run-walked table scratch term log (record { equations = es; limit = k; subject = subject })) e ∙ left-as _ _ _ (d .returned) (d .term-is) (d .log-is)
+
+  walked-outcome : (walks : Walks) (es : List Equation) (bounds kept : List ℕ) → WalksAs es bounds kept walks → RanAs walks es k subject term term-after log log-after r
+      → run-walked table scratch term log (record { equations = es; limit = k; subject = subject }) (first-refusal 0 es) ≡ outcome r blank clear term-after log-after
+  unfolding run-walked
+  walked-outcome (Refused why number) es bounds kept w d =
+      ap (run-walked table scratch term log (record { equations = es; limit = k; subject = subject })) w ∙ left-as _ _ _ (d .0) (d .1) (d .2)
+  walked-outcome Full es bounds kept w d = ran-outcome es (w .0) d
+  walked-outcome Kept es bounds kept w d = ran-outcome es (w .0) d
+
+module _ (sheet table scratch term log : List ℕ) (task : ℕ) where
+  abbrev pub answered : RunOutcome
+  answered = run-answer table scratch term log (asked true sheet (reduction-task task))
+
+  answer-of : (s : Sheet) → read sheet ≡ accepted s → (o : Option Task) → entry (s .tasks) task ≡ o → answered ≡ run-answer table scratch term log (found (reduction-in (s .equations) o))
+  unfolding asked find reduction-task
+  answer-of s r o h =
+      ap (λ x. run-answer table scratch term log (find (reduction-task task) x)) r ∙ ap (λ o. run-answer table scratch term log (found (reduction-in (s .equations) o))) h
+
+  module _ (known : Known) (a : Accepts sheet known) where
+    pub task-absent : known .tasks ≤ task → {n : ℕ} → n ≡ refusal-number absent-argument 0 → answered ≡ outcome n table scratch term log
+    unfolding run-answer found reduction-in
+    task-absent h e =
+        let (s, r, g) = a in
+        answer-of s r none (entry-none (s .tasks) task (omega (arith, g .tasks-are))) ∙ ap (λ n. outcome n table scratch term log) (sym e)
+
+    module _ (there : task < known .tasks) (place : TaskFound) (each : (t : Task) → TaskIn sheet task t → TaskAt sheet t place) where
+      pub comparison-there : {n : ℕ} → place .head ≡ Comparison → n ≡ refusal-number absent-argument 0 → answered ≡ outcome n table scratch term log
+      unfolding run-answer found reduction-in
+      comparison-there h e =
+          let (t, i) = task-asked sheet known task a there in
+          let (u, v, x) = is-comparison t (sym (each t i .0) ∙ h) in
+          let (s, r, y) = i in
+          answer-of s r (some (comparison u v)) (y ∙ ap some x) ∙ ap (λ n. outcome n table scratch term log) (sym e)
+
+      pub judgement-there : {k d n : ℕ} → place .head ≡ Judgement k d → n ≡ refusal-number absent-argument 0 → answered ≡ outcome n table scratch term log
+      unfolding run-answer found reduction-in
+      judgement-there {k} h e =
+          let (t, i) = task-asked sheet known task a there in
+          let (o, ts, x, z) = is-judgement t (sym (each t i .0) ∙ h) in
+          let (s, r, y) = i in
+          answer-of s r (some (judgement k o ts)) (y ∙ ap some x) ∙ ap (λ n. outcome n table scratch term log) (sym e)
+
+-- 5. The task that is a run.
+pub reduction-found : (sheet : List ℕ) (task : ℕ) (known : Known) (a : Accepts sheet known) (there : task < known .tasks) (place : TaskFound)
+    → ((t : Task) → TaskIn sheet task t → TaskAt sheet t place) → {k : ℕ} → place .head ≡ Run k → ReductionIn sheet known k (place .from) (place .end) task
+reduction-found sheet task known a there place each {k} h =
+    let (t, i) = task-asked sheet known task a there in
+    let (u, x) = is-run t (sym (each t i .0) ∙ h) in
+    let j : TaskIn sheet task (run k u) = subst (TaskIn sheet task) x i in
+    record { accepts = a; subject = u; is-task = j; spans = each (run k u) j .1 }
+
+module _ {sheet : List ℕ} {known : Known} {limit from end task : ℕ} (i : ReductionIn sheet known limit from end task) where
+  abbrev pub its-equations : List Equation
+  its-equations = i .is-task .0 .equations
+
+  same-sheet : i .accepts .0 ≡ i .is-task .0
+  same-sheet =
+      let (s, r, y) = i .is-task in
+      let (s′, r′, g) = i .accepts in
+      let e : accepted s′ ≡ accepted s = sym r′ ∙ r in
+      cc
+
+  valid-task : ValidTask (i .is-task .0 .arities) its-equations (run limit (i .subject))
+  valid-task =
+      let (s, r, y) = i .is-task in
+      every-entry (ValidTask (s .arities) (s .equations)) (s .tasks) task (accepted-valid sheet s r .0 .tasks) y
+
+  pub limit-low : limit ≤ max-steps
+  limit-low = valid-task .0
+
+  pub its-equations-counted : known .equations ≡ length its-equations
+  its-equations-counted = i .accepts .2 .equations-are ∙ ap (λ s. length (s .equations)) same-sheet
+
+  its-term : TermsIn sheet (known-arities known) from end (cons (i .subject) nil)
+  unfolding task-terms prefix size
+  its-term =
+      let g = i .accepts .2 in
+      let arities = g .arities-are ∙ ap (λ s. s .arities) same-sheet in
+      record {
+        spans = subst (Spans sheet from end) (sym (append-nil (prefix (i .subject)))) (i .spans);
+        ground = (subst (λ arities. Ground arities (i .subject)) (sym arities) (valid-task .1), tt);
+        few-nodes = omega (arith, valid-task .2);
+        few-symbols = omega (arith, ap length (g .arities-are), g .valid .symbols .few-symbols);
+      }
+
+  pub its-run : (equations lengths bounds : List ℕ) → ((s : Sheet) → read sheet ≡ accepted s → RowsAre equations lengths (known-arities known) (s .equations))
+      → length bounds ≡ bound-count → RunTermIs sheet known from end equations lengths bounds its-equations (i .subject)
+  its-run equations lengths bounds rows l =
+      record {
+        rows = rows (i .is-task .0) (i .is-task .1);
+        counted = its-equations-counted;
+        bounds-length = l;
+        term-in = its-term;
+        roomy = i .accepts .2 .roomy;
+      }
+
+  pub reduction-answered : (table scratch term log : List ℕ) {r : ℕ} {blank clear term-after log-after : List ℕ} (walks : Walks) (bounds kept : List ℕ) → blank ≡ blanked table → clear ≡ cleared scratch
+      → WalksAs its-equations bounds kept walks → RanAs walks its-equations limit (i .subject) term term-after log log-after r
+      → answered sheet table scratch term log task ≡ outcome r blank clear term-after log-after
+  unfolding run-answer found reduction-in
+  reduction-answered table scratch term log walks bounds kept b c w d =
+      answer-of sheet table scratch term log task (i .is-task .0) (i .is-task .1) (some (run limit (i .subject))) (i .is-task .2)
+      ∙ walked-outcome table scratch term log limit (i .subject) b c walks its-equations bounds kept w d
