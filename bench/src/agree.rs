@@ -11,6 +11,26 @@ fn sheets() -> impl Iterator<Item = Vec<u8>> {
     (0..4_000).map(sheet).chain(special().into_iter().map(|(_, sheet)| sheet))
 }
 
+/// How many bytes the lines of all usable directions of a sheet take without their filler, if every direction solves.
+fn kept_bytes(sheet: &[u8]) -> Option<usize> {
+    let read = reference::sheet::read(sheet).ok()?;
+    let (mut table, mut scratch) = (vec![0; TABLE], vec![0; SCRATCH]);
+    let mut bytes = 0;
+    for number in 0..read.equations().len() {
+        for direction in 0..2 {
+            let solved = reference::solve(sheet, number as u64, u64::from(direction), &mut table, &mut scratch);
+            if solved % 256 != 0 {
+                return None;
+            }
+            if reference::rewrite::equation(&read, number).usable(direction) {
+                let lines = (solved / 256 % 65_536) as usize;
+                bytes += table.chunks(89).take(lines).map(|record| 9 + 2 * usize::from(record[8])).sum::<usize>();
+            }
+        }
+    }
+    Some(bytes)
+}
+
 #[test]
 fn check() {
     for sheet in sheets() {
@@ -60,7 +80,8 @@ fn solve() {
     for sheet in sheets() {
         let equations = reference::sheet::read(&sheet).map_or(1, |sheet| sheet.equations().len() as u64);
         let present = (0..equations).flat_map(|equation| [(equation, 0), (equation, 1)]);
-        let absent = [(equations, 0), (256, 0), (1 << 32, 1), (u64::MAX, 1), (0, 2), (0, 256), (0, 1 << 32), (0, u64::MAX)];
+        let absent =
+            [(equations, 0), (256, 0), (1 << 32, 1), (u64::MAX, 1), (0, 2), (0, 256), (0, 1 << 32), (0, u64::MAX)];
         for (equation, direction) in present.chain(absent) {
             for (table, scratch) in &buffers {
                 given[(solved(&sheet, equation, direction, table, scratch) % 256) as usize] += 1;
@@ -92,7 +113,12 @@ fn judge() {
                 let (mut other_table, mut other_scratch) = (table.clone(), scratch.clone());
                 let number = calls::judge(&sheet, task, &mut table, &mut scratch);
                 let place = || format!("task {task} of\n{}", String::from_utf8_lossy(&sheet));
-                assert_eq!(number, reference::judge(&sheet, task, &mut other_table, &mut other_scratch), "number, {}", place());
+                assert_eq!(
+                    number,
+                    reference::judge(&sheet, task, &mut other_table, &mut other_scratch),
+                    "number, {}",
+                    place()
+                );
                 assert!(table == other_table, "table, {}", place());
                 assert!(scratch == other_scratch, "scratch, {}", place());
                 given[(number % 256) as usize] += 1;
@@ -104,7 +130,8 @@ fn judge() {
 
 /// Run on both sides with the same former bytes; gives the number.
 fn ran(sheet: &[u8], task: u64, lengths: [usize; 4]) -> u64 {
-    let mut buffers: Vec<Vec<u8>> = lengths.iter().zip([0, 7, 3, 11]).map(|(&length, seed)| former_bytes(length, seed)).collect();
+    let mut buffers: Vec<Vec<u8>> =
+        lengths.iter().zip([0, 7, 3, 11]).map(|(&length, seed)| former_bytes(length, seed)).collect();
     let mut others = buffers.clone();
     let [table, scratch, term, log] = &mut buffers[..] else { unreachable!() };
     let number = calls::run(sheet, task, table, scratch, term, log);
@@ -137,4 +164,17 @@ fn run() {
         }
     }
     assert!(given.iter().all(|&times| 0 < times), "a refusal was never given: {given:?}");
+}
+
+/// Sheets with sixteen equations, in some of which the lines do not fit the table together.
+#[test]
+fn crowded() {
+    let sheets = crate::runs::crowded();
+    let beyond = sheets.iter().filter(|(_, sheet)| kept_bytes(sheet).is_some_and(|bytes| TABLE < bytes)).count();
+    assert!(0 < beyond, "the lines of every sheet fit the table");
+    for (_, sheet) in crate::runs::ordinary().iter().chain(&sheets) {
+        for task in tasks(sheet) {
+            ran(sheet, task, [TABLE, SCRATCH, TERM, LOG]);
+        }
+    }
 }

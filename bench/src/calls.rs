@@ -2,7 +2,13 @@
 
 extern "C" {
     fn neblinaro_check(sheet: *const u8, sheet_length: usize) -> u64;
-    fn neblinaro_compare(sheet: *const u8, sheet_length: usize, task: u64, scratch: *mut u8, scratch_length: usize) -> u64;
+    fn neblinaro_compare(
+        sheet: *const u8,
+        sheet_length: usize,
+        task: u64,
+        scratch: *mut u8,
+        scratch_length: usize,
+    ) -> u64;
     fn neblinaro_solve(
         sheet: *const u8,
         sheet_length: usize,

@@ -5,11 +5,12 @@
 mod agree;
 mod calls;
 mod memoised;
+mod runs;
 
 use reference::generate::text;
 use reference::rewrite;
 use reference::sheet;
-use reference::special::{WALKS, compared_arities, hard_pairs, special};
+use reference::special::{compared_arities, hard_pairs, special, WALKS};
 use reference::timing::{time, times};
 use reference::walk::Walker;
 
@@ -18,6 +19,8 @@ fn main() {
     check();
     compare();
     solve();
+    judge_and_run();
+    crowded();
 }
 
 /// A chain of dependent multiplications, to tell a slow moment of the machine from slow code.
@@ -138,4 +141,53 @@ fn walked() -> Vec<(&'static str, Vec<u8>)> {
         sheet.extend(text(&[vec![2, 0x80, 0x81]]));
     }
     sheets
+}
+
+/// Judge and run on ordinary sheets, whole calls: proved, plain, and their ratio; and a step of the run.
+fn judge_and_run() {
+    println!(
+        "\n{:34} {:>6} {:>10} {:>10} {:>6} {:>13}",
+        "run, then judge", "steps", "proved ns", "plain ns", "ratio", "proved ns/step"
+    );
+    let mut buffers = [22_695, 57_344, 160, 765].map(|length| vec![0xa5; length]);
+    let [table, scratch, term, log] = &mut buffers;
+    for (name, sheet) in runs::ordinary() {
+        let number = calls::run(&sheet, 0, table, scratch, term, log);
+        assert_eq!(number, reference::run(&sheet, 0, table, scratch, term, log), "{name}");
+        assert_eq!(number % 256, 0, "{name}");
+        let steps = number / 256 % 65_536;
+        let [proved, plain] = times(|case| match case {
+            0 => calls::run(&sheet, 0, table, scratch, term, log),
+            _ => reference::run(&sheet, 0, table, scratch, term, log),
+        });
+        println!(
+            "{name:34} {steps:6} {proved:10.0} {plain:10.0} {:6.2} {:13.0}",
+            proved / plain,
+            proved / steps.max(1) as f64
+        );
+        assert_eq!(calls::judge(&sheet, 1, table, scratch), reference::judge(&sheet, 1, table, scratch), "{name}");
+        let [proved, plain] = times(|case| match case {
+            0 => calls::judge(&sheet, 1, table, scratch),
+            _ => reference::judge(&sheet, 1, table, scratch),
+        });
+        println!("{:34} {:6} {proved:10.0} {plain:10.0} {:6.2}", "", "judge", proved / plain);
+    }
+}
+
+/// Runs over sixteen equations with many lines each, once: what a call takes.
+fn crowded() {
+    println!("\n{:44} {:>6} {:>8} {:>10} {:>10}", "sixteen equations", "task", "number", "proved ms", "plain ms");
+    let mut buffers = [22_695, 57_344, 160, 765].map(|length| vec![0xa5; length]);
+    let [table, scratch, term, log] = &mut buffers;
+    for (name, sheet) in runs::crowded() {
+        for task in 0..2 {
+            let start = std::time::Instant::now();
+            let number = calls::run(&sheet, task, table, scratch, term, log);
+            let proved = start.elapsed().as_secs_f64();
+            let start = std::time::Instant::now();
+            assert_eq!(number, reference::run(&sheet, task, table, scratch, term, log), "{name}");
+            let plain = start.elapsed().as_secs_f64();
+            println!("{name:44} {task:6} {number:8x} {:10.2} {:10.2}", 1e3 * proved, 1e3 * plain);
+        }
+    }
 }
