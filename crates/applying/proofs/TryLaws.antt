@@ -4,23 +4,17 @@ use mathlib.Core.Path.{_≡_, refl, ap, ap₂, _∙_}
 use mathlib.Core.Bool.{Bool, true, false}
 use mathlib.Core.Option.{Option, none, some}
 use native.Mathlib.Omega.{arith}
-use Rattle.terms.specs.Term.{Term, inst}
-use Rattle.terms.specs.Position.{replace}
-use Rattle.terms.specs.Equation.{Equation, Direction, source, target}
+use Rattle.terms.specs.Term.{Term}
+use Rattle.terms.specs.Equation.{Equation, Direction, source}
 use Rattle.reducing.specs.Match.{Match, no-match, match, values-of, usable}
 use Rattle.reducing.specs.Run.{Step, try}
 use Rattle.reducing.specs.Test.{line-test}
+use Rattle.reducing.specs.Theory.Step.{stepped, tested}
 use Rattle.applying.specs.Contracts.Trying.{part-at, Applies, LinesTell}
 
 module _ (subject : Term) (p i : ℕ) (e : Equation) (d : Direction) where
-  abbrev pub stepped : Match → Step
-  stepped m = record { equation = i; direction = d; position = p; result = replace subject p (inst (values-of m) (target e d)) }
-
-  abbrev pub tested : Match → Bool → Option Step
-  tested m b = elim b [ false ↦ none | true ↦ some (stepped m) ]
-
   abbrev pub outcome : Bool → Option Match → Option Step
-  outcome b o = elim b [ false ↦ none | true ↦ elim o [ none ↦ none | some m ↦ tested m (line-test e d (values-of m)) ] ]
+  outcome b o = elim b [ false ↦ none | true ↦ elim o [ none ↦ none | some m ↦ tested subject p i e d m (line-test e d (values-of m)) ] ]
 
   pub try-is : try line-test subject p (part-at subject p) i e d ≡ outcome (usable e d) (match (source e d) (part-at subject p) no-match)
   unfolding try
@@ -38,12 +32,12 @@ module _ (subject : Term) (p i : ℕ) (e : Equation) (d : Direction) where
 
   pub applies-told : {m : Match} {r : Bool} → match (source e d) (part-at subject p) no-match ≡ some m → LinesTell e d m r → Applies subject p i e d r
   applies-told {m} {r} x t = record {
-    can = λ h. let (u, y) = t .hold h in (stepped m, try-is ∙ (ap₂ outcome u x ∙ ap (tested m) y));
+    can = λ h. let (u, y) = t .hold h in (stepped subject p i e d m, try-is ∙ (ap₂ outcome u x ∙ ap (tested subject p i e d m) y));
     cannot = λ h. go h (usable e d) refl;
   }
     where
       go : r ≡ false → (b : Bool) → usable e d ≡ b → try line-test subject p (part-at subject p) i e d ≡ none
-      go h true u = try-is ∙ (ap₂ outcome u x ∙ ap (tested m) (t .fail h u))
+      go h true u = try-is ∙ (ap₂ outcome u x ∙ ap (tested subject p i e d m) (t .fail h u))
       go h false u = not-usable u
 
   pub applies-not : match (source e d) (part-at subject p) no-match ≡ none → Applies subject p i e d false

@@ -15,10 +15,8 @@ use Rattle.reading.specs.declared.read.SheetStatus.the-variants.{Refused as She
 use Rattle.reading.specs.Contracts.Reader.{SheetRead}
 use Rattle.outcomes.specs.Buffer.{refusal-number}
 use Rattle.outcomes.specs.Asked.{find, asked, judgement-task}
-use Rattle.outcomes.specs.Outcome.{TableOutcome, table-fits, judge-answer, judge-call}
-
-abbrev outcome : ℕ → (table scratch : List ℕ) → TableOutcome
-outcome n table scratch = record { returned = n; table = table; scratch = scratch }
+use Rattle.answers.proofs.SolveTask.{outcome}
+use Rattle.outcomes.specs.Outcome.{table-fits, judge-answer, judge-call}
 
 module _ (sheet table scratch : List ℕ) (task : ℕ) where
   by-fit : (b : Bool) → table-fits table scratch ≡ b → judge-call sheet task table scratch ≡ judge-answer table scratch (asked b sheet (judgement-task task))

@@ -15,10 +15,8 @@ use Rattle.reading.specs.declared.read.SheetStatus.the-variants.{Refused as She
 use Rattle.reading.specs.Contracts.Reader.{SheetRead}
 use Rattle.outcomes.specs.Buffer.{refusal-number}
 use Rattle.outcomes.specs.Asked.{find, asked, reduction-task}
+use Rattle.runs.proofs.RunTaskLaws.{outcome}
 use Rattle.outcomes.specs.Outcome.{RunOutcome, table-fits, run-fits, run-answer, run-call}
-
-abbrev outcome : ℕ → (table scratch term log : List ℕ) → RunOutcome
-outcome n table scratch term log = record { returned = n; table = table; scratch = scratch; term = term; log = log }
 
 module _ (sheet table scratch term log : List ℕ) (task : ℕ) where
   abbrev whole : RunOutcome

@@ -31,7 +31,8 @@ use Rattle.judgements.specs.Contracts.Judgement.{JudgedAs}
 use Rattle.rules.specs.Theory.Proper.{walked-proper}
 use Rattle.rules.proofs.RowLaws.{rule-row}
 use Rattle.rules.proofs.KeepLaws.{leaves-refused, records-there, full-kept}
-use Rattle.searching.proofs.NextLaws.{rule-of, rule-below}
+use Rattle.rules.proofs.WalkLaws.{rule-of}
+use Rattle.searching.proofs.NextLaws.{rule-below}
 
 -- 1. The first refusal.
 abbrev SolvesBelow : List Equation → (rule : ℕ) → Type 0

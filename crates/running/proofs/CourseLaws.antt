@@ -2,12 +2,11 @@
 use Prim.Native.Nat.{ℕ, zero, suc, _+_, _-_, _*_, _/_, _%_, _≤_, _<_}
 use mathlib.Core.Path.{_≡_, refl, sym, ap, subst, _∙_}
 use mathlib.Core.Bool.{Bool, true, false}
-use mathlib.Core.Option.{Option, none, some}
+use mathlib.Core.Option.{none, some}
 use mathlib.Core.List.{List, [], _∷_, _++_, append-assoc, append-nil}
 use native.Mathlib.Omega.{arith}
 use lib.ListN.{length, getD, set, take, drop, length-append, length-drop}
 use lib.Seq.{length-take-le, drop-cons, drop-append-add, drop-drop, set-at}
-use lib.Dec.{ltb}
 use borrow.Author.Tests.{lt-ltb, le-ltb}
 use Rattle.format.specs.Limits.{max-byte, max-task-nodes, position-count, table-bytes, scratch-bytes}
 use Rattle.format.specs.Buffer.{written}
@@ -19,7 +18,7 @@ use Rattle.reducing.specs.declared.ending.Ending.the-variants.{NoneFound as non
 use Rattle.reducing.specs.Run.{Step, Run, after-step, step, run, last-term}
 use Rattle.reducing.specs.Test.{line-test, line-run}
 use Rattle.reducing.specs.Contracts.Rules.{rule-number}
-use Rattle.reducing.specs.Theory.Runs.{stopped}
+use Rattle.reducing.specs.Theory.Runs.{stopped, at-limit, unless-large, below-limit}
 use Rattle.outcomes.specs.Outcome.{log-of}
 use Rattle.lines.specs.Theory.Placed.{set-pair}
 use Rattle.replacing.specs.Contracts.Replacing.{ReplacedAs}
@@ -95,15 +94,6 @@ module _ {equations lengths : List ℕ} {rules : ℕ} {bounds next : List ℕ} {
   run-kept h s x = record { rows = is .rows; counted = is .counted; ready = ready-kept fits h (is .ready); subject-is = s; size-is = x }
 
 -- 3. The definition's run, by what is found before its first step.
-abbrev at-limit : Option Step → Run
-at-limit o = elim o [ none ↦ stopped none-found | some s ↦ stopped limit-reached ]
-
-abbrev unless-large : Step → Run → Bool → Run
-unless-large s r b = elim b [ true ↦ stopped result-too-large | false ↦ after-step s r ]
-
-abbrev below-limit : (Step → Run) → Option Step → Run
-below-limit after o = elim o [ none ↦ stopped none-found | some s ↦ unless-large s (after s) (ltb max-task-nodes (size (s .result))) ]
-
 module _ (es : List Equation) where
   run-without : (k : ℕ) (t : Term) → step line-test es t ≡ none → line-run es k t ≡ stopped none-found
   unfolding line-run run

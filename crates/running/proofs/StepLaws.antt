@@ -27,7 +27,8 @@ use Rattle.replacing.specs.declared.part.Replaced.{Replaced}
 use Rattle.rules.specs.Contracts.Rows.{SideIs}
 use Rattle.applying.specs.Contracts.Trying.{part-at}
 use Rattle.running.specs.Contracts.Course.{StepIs}
-use Rattle.applying.proofs.TryLaws.{stepped, tested, outcome, try-is}
+use Rattle.reducing.specs.Theory.Step.{stepped, tested}
+use Rattle.applying.proofs.TryLaws.{outcome, try-is}
 
 -- 1. Each part of a stored ground term is ground and stored at its position.
 mutual

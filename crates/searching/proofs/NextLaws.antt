@@ -1,5 +1,5 @@
 -- The table of next rules: how one entry of each row is put, and what holds of the entries from a rule on.
-use Prim.Native.Nat.{ℕ, zero, suc, _+_, _-_, _*_, _≤_, _<_}
+use Prim.Native.Nat.{ℕ, suc, _+_, _-_, _*_, _≤_, _<_}
 use mathlib.Core.Path.{_≡_, refl, sym, ap, subst, _∙_}
 use mathlib.Core.Logic.{_⊎_, inl, inr}
 use mathlib.Core.Bool.{Bool, true, false}
@@ -14,10 +14,9 @@ use borrow.Author.Tests.{ltb-false}
 use Rattle.format.specs.Limits.{max-symbols, max-equations, first-variable}
 use Rattle.format.specs.Lists.{entry}
 use Rattle.format.specs.Theory.Lists.{entry-length}
-use Rattle.terms.specs.Term.{Term, Terms, var, app, inst}
-use Rattle.terms.specs.Position.{replace}
+use Rattle.terms.specs.Term.{Term, Terms, var, app}
 use Rattle.terms.specs.Prefix.{prefix}
-use Rattle.terms.specs.Equation.{Equation, Direction, left-right, right-left, direction-number, source, target, value}
+use Rattle.terms.specs.Equation.{Equation, Direction, left-right, right-left, direction-number, source, value}
 use Rattle.terms.specs.Contracts.Stored.{PartAt}
 use Rattle.terms.specs.declared.arguments.Arguments.{Arguments}
 use Rattle.terms.specs.Theory.Position.{size-pos}
@@ -25,6 +24,7 @@ use Rattle.terms.specs.Theory.Prefix.{length-prefix}
 use Rattle.terms.specs.Theory.Stored.{stored-head, stored-room}
 use Rattle.solving.specs.Line.{Line, line, binding-byte, element-bytes}
 use Rattle.solving.specs.Judge.{first-holding}
+use Rattle.reducing.specs.Theory.Step.{tested}
 use Rattle.reducing.specs.Match.{Match, no-match, match, match-each, values-of, usable}
 use Rattle.reducing.specs.Run.{Step, try}
 use Rattle.reducing.specs.Test.{line-test}
@@ -32,6 +32,7 @@ use Rattle.reducing.specs.Contracts.Rules.{rule-number}
 use Rattle.judging.specs.Contracts.Trimmed.{trimmed, trimmed-lines}
 use Rattle.rules.specs.Contracts.Rows.{RuleIs, HasRule, SideIs, bound-count}
 use Rattle.rules.specs.Contracts.Walks.{RuleAt}
+use Rattle.rules.proofs.WalkLaws.{rule-of}
 use Rattle.searching.specs.Contracts.Next.{next-bytes, next-at, Idle, NextIs, NextPut, RulesKept, HasRulesKept}
 
 -- The entry of a rule names the rule itself, or is the next one.
@@ -121,22 +122,6 @@ put-done all p = record {
 }
 
 -- The rules of a list of equations are two for each.
-pub record RuleOf (es : List Equation) (rule : ℕ) : Type 0 where
-  pub number : ℕ
-  pub equation : Equation
-  pub direction : Direction
-  pub numbered : entry es number ≡ some equation
-  pub is : rule ≡ rule-number number direction
-
-pub rule-of : (es : List Equation) (rule : ℕ) → rule < 2 * length es → RuleOf es rule
-unfolding entry direction-number
-rule-of [] rule h = absurd (omega arith)
-rule-of (e ∷ es) zero h = record { number = 0; equation = e; direction = left-right; numbered = refl; is = refl }
-rule-of (e ∷ es) (suc zero) h = record { number = 0; equation = e; direction = right-left; numbered = refl; is = refl }
-rule-of (e ∷ es) (suc (suc rule)) h =
-    let r = rule-of es rule (omega arith) in
-    record { number = suc (r .number); equation = r .equation; direction = r .direction; numbered = r .numbered; is = omega (arith, r .is) }
-
 pub rule-below : (es : List Equation) (i : ℕ) {e : Equation} (d : Direction) → entry es i ≡ some e → rule-number i d < 2 * length es
 unfolding direction-number
 rule-below es i left-right x = omega (arith, entry-length es i x)
@@ -144,11 +129,8 @@ rule-below es i right-left x = omega (arith, entry-length es i x)
 
 -- A rule that fails its test wherever it is usable and matches cannot step.
 module _ (subject : Term) (p : ℕ) (part : Term) (i : ℕ) (e : Equation) (d : Direction) where
-  abbrev when-tested : Match → Bool → Option Step
-  when-tested m b = elim b [ false ↦ none | true ↦ some (record { equation = i; direction = d; position = p; result = replace subject p (inst (values-of m) (target e d)) }) ]
-
   abbrev when-matched : Option Match → Option Step
-  when-matched o = elim o [ none ↦ none | some m ↦ when-tested m (line-test e d (values-of m)) ]
+  when-matched o = elim o [ none ↦ none | some m ↦ tested subject p i e d m (line-test e d (values-of m)) ]
 
   abbrev when-used : Bool → Option Step
   when-used b = elim b [ false ↦ none | true ↦ when-matched (match (source e d) part no-match) ]
@@ -157,7 +139,7 @@ module _ (subject : Term) (p : ℕ) (part : Term) (i : ℕ) (e : Equation) (d : 
   unfolding try
   no-step h = by-use (usable e d) refl
     where
-      by-test : (m : Match) (b : Bool) → b ≡ false → when-tested m b ≡ none
+      by-test : (m : Match) (b : Bool) → b ≡ false → tested subject p i e d m b ≡ none
       by-test m false x = refl
       by-test m true x = let z : _≡_ {A = ℕ} 0 1 = cc in absurd (omega arith)
 

@@ -27,7 +27,8 @@ use Rattle.searching.specs.Contracts.Next.{next-at, SearchIs, HasSearch,
 use Rattle.applying.specs.Contracts.Trying.{Settled, part-at, Applies, TryIs, HasTry}
 use Rattle.searching.specs.Contracts.Searching.{FirstRule, StepAt}
 use Rattle.applying.specs.Theory.Parts.{part-stored}
-use Rattle.searching.proofs.NextLaws.{rule-of, rule-below}
+use Rattle.rules.proofs.WalkLaws.{rule-of}
+use Rattle.searching.proofs.NextLaws.{rule-below}
 
 -- The term starts with this symbol, which is one of the sheet's.
 record SymbolIs (arities : List ℕ) (f : ℕ) (t : Term) : Type 0 where

@@ -10,7 +10,7 @@ use lib.ListN.{length, getD}
 use Rattle.format.specs.Limits.{max-symbols, first-variable, variable-count, position-count}
 use Rattle.terms.specs.Term.{Term, Terms, var, app, nil, cons, size, sizes, count, Values, inst, insts, Ground, Grounds}
 use Rattle.terms.specs.Position.{subterms, subterms-of}
-use Rattle.terms.specs.Prefix.{prefix, prefixes, equation-bytes}
+use Rattle.terms.specs.Prefix.{prefix, equation-bytes}
 use Rattle.terms.specs.Equation.{Equation, term-at, view, value}
 use Rattle.terms.specs.Contracts.Limits.{WithinLimits, positions}
 use Rattle.terms.specs.Contracts.Fits.{Fits, AllFit}
@@ -26,6 +26,7 @@ use Rattle.unifying.specs.Contracts.Equation.{equation-sizes}
 use Rattle.comparing.specs.Contracts.Nodes.{ValueOf, GroundAt, RowDenotes, more, resolved}
 use Rattle.comparing.specs.Theory.Nodes.{ground-denotes}
 use Rattle.comparing.specs.Theory.Stored.{TermStored, TermsStored, stored-denotes, stored-row-subterm, ground-row-denotes}
+use Rattle.solver.specs.Theory.Equation.{sides, sides-spelled}
 use Rattle.comparing.proofs.Resolved.{resolved-variable}
 use Rattle.judging.specs.Contracts.Holding.{InstanceAt, BindingTestable, BindingsTestable, ElementsTestable, LinesTestable}
 use Rattle.rules.specs.Contracts.Lines.{VariableAt, HaveVariable, AllHaveVariable, ProperLines}
@@ -73,24 +74,17 @@ pub record AtFront (nodes lengths values arities : List ℕ) (e : Equation) (ρ 
   pub slot : (v : ℕ) → v < variable-count → P v ⊎ ((getD values v 0 ≡ 0) × (ρ v ≡ var v))
 
 module _ {nodes lengths values arities : List ℕ} {e : Equation} {ρ : Values} {P : ℕ → Type 0} (front : AtFront nodes lengths values arities e ρ P) where
-  abbrev sides : Terms
-  sides = cons (e .left) (cons (e .right) nil)
-
   given-value : (v : ℕ) → P v → ValueOf nodes lengths values v (ρ v)
   given-value v h = record { ground = stored-ground (front .given v h) }
 
   abbrev Stored : ℕ → Term → Type 0
   Stored = TermStored arities (front .few-symbols) nodes lengths (ValueOf nodes lengths values) ρ P given-value
 
-  sides-spelled : equation-bytes e ≡ prefixes sides
-  unfolding equation-bytes prefix
-  sides-spelled = ap (prefix (e .left) ++_) (sym (append-nil (prefix (e .right))))
-
-  sides-parts : subterms (e .left) ++ subterms (e .right) ≡ subterms-of sides
+  sides-parts : subterms (e .left) ++ subterms (e .right) ≡ subterms-of (sides e)
   unfolding subterms
   sides-parts = ap (subterms (e .left) ++_) (sym (append-nil (subterms (e .right))))
 
-  sides-size : sizes sides ≡ positions e
+  sides-size : sizes (sides e) ≡ positions e
   unfolding size
   sides-size = omega arith
 
@@ -100,17 +94,17 @@ module _ {nodes lengths values arities : List ℕ} {e : Equation} {ρ : Values} 
   position-stored : (p : ℕ) → p < positions e → Stored p (term-at e p)
   unfolding term-at equation-sizes
   position-stored p h =
-      let all : AllStored 0 sides = record {
+      let all : AllStored 0 (sides e) = record {
         fit = (front .left-fits, (front .right-fits, tt));
         few = (front .left-variables, (front .right-variables, tt));
-        bytes = subst (PartAt nodes 0) sides-spelled (front .bytes);
+        bytes = subst (PartAt nodes 0) (sides-spelled e) (front .bytes);
         sizes-there = subst (λ l. PartAt lengths 0 (map size l)) sides-parts (front .measured);
         within = omega (arith, sides-size, positions-few (front .limits));
       } in
       let same : 0 + p ≡ p = omega arith in
       subst (λ l. Stored p (getD l p (var 0))) (sym sides-parts)
-      (subst (λ i. Stored i (getD (subterms-of sides) p (var 0))) same
-      (stored-row-subterm arities (front .few-symbols) nodes lengths (ValueOf nodes lengths values) ρ P given-value sides 0 p (var 0) all (omega (arith, sides-size))))
+      (subst (λ i. Stored i (getD (subterms-of (sides e)) p (var 0))) same
+      (stored-row-subterm arities (front .few-symbols) nodes lengths (ValueOf nodes lengths values) ρ P given-value (sides e) 0 p (var 0) all (omega (arith, sides-size))))
 
   instance-at : (p : ℕ) → p < positions e → InstanceAt nodes lengths values ρ (value e ρ) p
   unfolding value

@@ -159,7 +159,7 @@ module _ (ρ : Values) where
         others-found ss ts (match s t m) (match-found s t m k (cc)) (λ n x. match-each-found ss ts n x (cc))
 
 -- Values that give a term the same instance agree on its variables.
-either : (b c : Bool) → (b || c) ≡ true → (b ≡ true) ⊎ (c ≡ true)
+pub either : (b c : Bool) → (b || c) ≡ true → (b ≡ true) ⊎ (c ≡ true)
 either true c h = inl refl
 either false c h = inr h
 

@@ -21,13 +21,13 @@ use Rattle.reducing.specs.Theory.Step.{or-else, Taken, step-taken}
 abbrev pub stopped : Ending → Run
 stopped e = record { steps = []; ending = e }
 
-abbrev at-limit : Option Step → Run
+abbrev pub at-limit : Option Step → Run
 at-limit o = elim o [ none ↦ stopped none-found | some s ↦ stopped limit-reached ]
 
-abbrev unless-large : Step → Run → Bool → Run
+abbrev pub unless-large : Step → Run → Bool → Run
 unless-large s r b = elim b [ true ↦ stopped result-too-large | false ↦ after-step s r ]
 
-abbrev below-limit : (Step → Run) → Option Step → Run
+abbrev pub below-limit : (Step → Run) → Option Step → Run
 below-limit after o = elim o [ none ↦ stopped none-found | some s ↦ unless-large s (after s) (ltb max-task-nodes (size (s .result))) ]
 
 module _ (test : Equation → Direction → Values → Bool) (es : List Equation) where

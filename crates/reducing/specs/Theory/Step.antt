@@ -23,6 +23,13 @@ first-some : {s : Step} (o rest : Option Step) → or-else o rest ≡ some s →
 first-some none rest h = inr h
 first-some (some t) rest h = inl h
 
+-- The step of equation `n` at position `p` that a match gives, and whether it passes the test.
+abbrev pub stepped : (subject : Term) (p n : ℕ) → Equation → Direction → Match → Step
+stepped subject p n e d m = record { equation = n; direction = d; position = p; result = replace subject p (inst (values-of m) (target e d)) }
+
+abbrev pub tested : (subject : Term) (p n : ℕ) → Equation → Direction → Match → Bool → Option Step
+tested subject p n e d m b = elim b [ false ↦ none | true ↦ some (stepped subject p n e d m) ]
+
 module _ (test : Equation → Direction → Values → Bool) where
   -- The step rewrites the subject by the equation, at this part of it.
   pub record Rewrites (e : Equation) (subject part : Term) (s : Step) : Type 0 where
@@ -45,20 +52,14 @@ module _ (test : Equation → Direction → Values → Bool) where
       abbrev Tried : Type 0
       Tried = (s .equation ≡ n) × (s .position ≡ p) × Rewrites e subject part s
 
-      abbrev stepped : Match → Step
-      stepped m = record { equation = n; direction = d; position = p; result = replace subject p (inst (values-of m) (target e d)) }
-
-      abbrev tested : Match → Bool → Option Step
-      tested m b = elim b [ false ↦ none | true ↦ some (stepped m) ]
-
       abbrev matched : Option Match → Option Step
-      matched o = elim o [ none ↦ none | some m ↦ tested m (test e d (values-of m)) ]
+      matched o = elim o [ none ↦ none | some m ↦ tested subject p n e d m (test e d (values-of m)) ]
 
-      tested-some : usable e d ≡ true → (m : Match) → match (source e d) part no-match ≡ some m → (b : Bool) → test e d (values-of m) ≡ b → tested m b ≡ some s
+      tested-some : usable e d ≡ true → (m : Match) → match (source e d) part no-match ≡ some m → (b : Bool) → test e d (values-of m) ≡ b → tested subject p n e d m b ≡ some s
           → Tried
       tested-some u m x false y h = let z : _≡_ {A = ℕ} 0 1 = cc in absurd (omega arith)
       tested-some u m x true y h =
-          let z : s ≡ stepped m = cc in
+          let z : s ≡ stepped subject p n e d m = cc in
           rw z (refl, refl, record { direction-usable = u; found = m; matches = x; passes = y; gives = refl })
 
       matched-some : usable e d ≡ true → (o : Option Match) → match (source e d) part no-match ≡ o → matched o ≡ some s → Tried

@@ -2,7 +2,7 @@
 use Prim.Native.Nat.{ℕ, suc}
 use mathlib.Core.Path.{_≡_, refl, sym, _∙_}
 use mathlib.Core.Bool.{Bool, true, false, _||_, _&&_}
-use mathlib.Core.Logic.{_⊎_, inl, inr}
+use mathlib.Core.Logic.{inl, inr}
 use mathlib.Core.Option.{Option, none, some}
 use native.Mathlib.Decide.{ℕ-discrete}
 use native.Mathlib.Omega.{arith}
@@ -13,7 +13,7 @@ use Rattle.terms.specs.Term.{Term, Terms, var, app, nil, cons, Values}
 use Rattle.terms.specs.Contracts.Limits.{VariablesBelow}
 use Rattle.terms.specs.Theory.Variables.{VariablesIn, AllVariablesIn}
 use Rattle.reducing.specs.Match.{Match, no-match, match, values-of, has-variable, have-variable, covered, all-covered}
-use Rattle.reducing.specs.Theory.Match.{Agrees, values-fit, match-extends, match-sound, same-instance-agrees}
+use Rattle.reducing.specs.Theory.Match.{Agrees, values-fit, match-extends, match-sound, either, same-instance-agrees}
 
 -- If a variable of the pattern had met nothing, two values for it would give the same instance.
 module _ (s t : Term) (m : Match) (v : ℕ) (b : VariablesBelow variable-count s) (x : match s t no-match ≡ some m) (h : has-variable v s ≡ true) where
@@ -67,10 +67,6 @@ or-right false c h = h
 or-left : (b c : Bool) → b ≡ true → (b || c) ≡ true
 or-left true c h = refl
 or-left false c h = let z : _≡_ {A = ℕ} 0 1 = cc in absurd (omega arith)
-
-either : (b c : Bool) → (b || c) ≡ true → (b ≡ true) ⊎ (c ≡ true)
-either true c h = inl refl
-either false c h = inr h
 
 both : (b c : Bool) → (b && c) ≡ true → (b ≡ true) × (c ≡ true)
 both true true h = (refl, refl)

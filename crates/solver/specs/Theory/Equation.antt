@@ -16,25 +16,26 @@ use Rattle.terms.specs.Contracts.Sizes.{Whole, node-sizes}
 use Rattle.terms.specs.Theory.Sizes.{whole}
 use Rattle.unifying.specs.Contracts.Equation.{equation-sizes}
 
+-- Its sides, one behind the other.
+abbrev pub sides : Equation → Terms
+sides e = cons (e .left) (cons (e .right) nil)
+
+pub sides-spelled : (e : Equation) → equation-bytes e ≡ prefixes (sides e)
+unfolding equation-bytes prefix
+sides-spelled e = ap (prefix (e .left) ++_) (sym (append-nil (prefix (e .right))))
+
 module _ (arities : List ℕ) (known : length arities ≤ max-symbols) (e : Equation) (left-fits : Fits arities (e .left)) (right-fits : Fits arities (e .right)) where
-  abbrev sides : Terms
-  sides = cons (e .left) (cons (e .right) nil)
-
-  nodes-spelled : equation-bytes e ≡ prefixes sides
-  unfolding equation-bytes prefix
-  nodes-spelled = ap (prefix (e .left) ++_) (sym (append-nil (prefix (e .right))))
-
-  sides-fit : AllFit arities sides
+  sides-fit : AllFit arities (sides e)
   sides-fit = (left-fits, (right-fits, tt))
 
   pub equation-whole : Whole arities (equation-bytes e)
-  equation-whole = subst (Whole arities) (sym nodes-spelled) (whole arities known sides sides-fit)
+  equation-whole = subst (Whole arities) (sym (sides-spelled e)) (whole arities known (sides e) sides-fit)
 
   pub equation-measured : node-sizes arities (equation-bytes e) ≡ equation-sizes e
   unfolding node-sizes equation-sizes subterms
   equation-measured =
-      ap (λ bs. map size (subterms-of (terms-of arities bs))) nodes-spelled
-      ∙ ap (λ ts. map size (subterms-of ts)) (terms-of-spelled arities known sides sides-fit)
+      ap (λ bs. map size (subterms-of (terms-of arities bs))) (sides-spelled e)
+      ∙ ap (λ ts. map size (subterms-of ts)) (terms-of-spelled arities known (sides e) sides-fit)
       ∙ ap (λ l. map size (subterms (e .left) ++ l)) (append-nil (subterms (e .right)))
 
 pub some-direction : (n : ℕ) → n < 2 → (d : Direction) × (direction-of n ≡ some d)
