@@ -39,12 +39,12 @@ use Rattle.outcomes.specs.Outcome.{TableOutcome, table-unsolved, judge-fields, 
 use Rattle.rules.specs.Contracts.Rows.{RowsAre, HasRows}
 use Rattle.searching.proofs.NextLaws.{rule-below}
 use Rattle.answers.proofs.Fill.{filled-behind}
-use Rattle.answers.proofs.SolveTask.{outcome}
-use Rattle.answers.proofs.Stored.{cells-there}
+use Rattle.solutions.proofs.SolveTask.{outcome}
+use Rattle.comparisons.proofs.Stored.{cells-there}
 use Rattle.answers.proofs.Arities.{symbols-room, symbols-taken, arities-taken}
-use Rattle.judgements.specs.declared.judge.Judged.{Judged}
-use Rattle.judgements.specs.declared.judge.Judged.the-variants.{Refused, End}
-use Rattle.judgements.specs.Contracts.Judgement.{JudgeIs, JudgedAs}
+use Rattle.judged.specs.declared.judge.Judged.{Judged}
+use Rattle.judged.specs.declared.judge.Judged.the-variants.{Refused, End}
+use Rattle.judged.specs.Contracts.Judgement.{JudgeIs, JudgedAs}
 use Rattle.judgements.specs.Contracts.JudgeTask.{JudgementIn, HasJudgement, ValuesIn, HasValues}
 
 -- 1. Numbers that fit their fields.

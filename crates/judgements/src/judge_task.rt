@@ -1,13 +1,13 @@
 // Judge: whether a line of a direction holds at the values of a task, and the first that does.
-use crate::judge::Judged;
-use crate::judge::judge_lines;
-use crate::judge::walk_judged;
 use answers::buffer::fill;
+use answers::number::FIRST_EQUATION_LINE;
 use answers::number::fields_number;
 use answers::number::refusal_number;
-use answers::solve::FIRST_EQUATION_LINE;
 use format::limits::Limits;
 use format::refusal::Refusal;
+use judged::judge::Judged;
+use judged::judge::judge_lines;
+use judged::judge::walk_judged;
 use judging::trimmed::KeptLines;
 use loading::load::load_terms;
 use reading::seek::TaskHead;

@@ -46,10 +46,11 @@ use Rattle.rules.specs.Contracts.Rows.{RowsAre, bound-count}
 use Rattle.rules.specs.Contracts.Walks.{RulesAt, WalksAs}
 use Rattle.searching.specs.Contracts.Next.{NextIs, RulesKept, HasRulesKept}
 use Rattle.running.specs.declared.course.Course.{Course}
-use Rattle.running.specs.Contracts.Course.{RulesReady, RunIs, CourseIs, the-run, last-of}
+use Rattle.stepping.specs.Contracts.Stepping.{RulesReady, RunIs}
+use Rattle.running.specs.Contracts.Course.{CourseIs, the-run, last-of}
 use Rattle.answers.proofs.Fill.{filled-behind}
 use Rattle.answers.proofs.Arities.{symbols-room, symbols-taken, arities-taken}
-use Rattle.answers.proofs.SolveTask.{walk-cleared}
+use Rattle.solutions.proofs.SolveTask.{walk-cleared}
 use Rattle.runs.specs.Contracts.RunTask.{LinesReady, RunTermIs, Ran, RanAs, ReductionIn}
 
 -- 1. What the run starts from.

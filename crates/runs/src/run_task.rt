@@ -1,8 +1,8 @@
 // Run: the steps of a task's term, its ending and its last term.
 use answers::buffer::fill;
+use answers::number::FIRST_EQUATION_LINE;
 use answers::number::fields_number;
 use answers::number::refusal_number;
-use answers::solve::FIRST_EQUATION_LINE;
 use comparing::nodes::SUBJECT;
 use format::copy::copy_front;
 use format::limits::Limits;

@@ -5,7 +5,7 @@ use lib.ListN.{length, drop}
 use native.Mathlib.Omega.{arith}
 use Rattle.format.specs.Limits.{scratch-bytes}
 use Rattle.outcomes.specs.Buffer.{cleared, blanked}
-use Rattle.answers.proofs.SolveTask.{outcome}
+use Rattle.solutions.proofs.SolveTask.{outcome}
 use borrow.Author.Needs.{needs}
 use Rattle.judgements.proofs.JudgeTaskLaws.{walk-behind, left-over, answered, none-holds, some-holds, rows-has, refused-fits, refused-told, values-has, line-low, judged-told}
 use Rattle.judgements.proofs.judge_task.judge_found.Statement.{statement}
