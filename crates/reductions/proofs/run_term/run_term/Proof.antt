@@ -3,10 +3,10 @@ use mathlib.Core.Path.{refl}
 use native.Mathlib.Omega.{arith}
 use Rattle.format.specs.Limits.{node-count}
 use Rattle.comparing.specs.Theory.Cells.{symbols-zero}
-use Rattle.runs.proofs.RunTaskLaws.{term-symbols-room, term-symbols-taken, rules-have, terms-have, run-is, ending-low, course-small, course-few, course-front, course-ran}
+use Rattle.reductions.proofs.RunTermLaws.{term-symbols-room, term-symbols-taken, rules-have, terms-have, run-is, ending-low, course-small, course-few, course-front, course-ran}
 use borrow.Author.Needs.{needs}
-use Rattle.runs.proofs.run_task.run_term.Statement.{statement}
-use Rattle.runs.proofs.run_task.run_term.Tie as tie
+use Rattle.reductions.proofs.run_term.run_term.Statement.{statement}
+use Rattle.reductions.proofs.run_term.run_term.Tie as tie
 
 prepare-next-requires : tie.Need-prepare-next-requires
 prepare-next-requires c κs =

@@ -3,8 +3,8 @@ use Prim.Native.Nat.{ℕ}
 use mathlib.Core.Path.{_≡_}
 use native.Mathlib.Omega.{arith}
 use borrow.Author.Needs.{needs}
-use Rattle.runs.proofs.run_task.prepare_next.Statement.{statement}
-use Rattle.runs.proofs.run_task.prepare_next.Tie as tie
+use Rattle.reductions.proofs.run_term.prepare_next.Statement.{statement}
+use Rattle.reductions.proofs.run_term.prepare_next.Tie as tie
 
 fill-next-requires : tie.Need-fill-next-requires
 fill-next-requires c κs = (c .before .before .before .before .before .before .before .pre .0 (c .before .if1 .taken), c .before .before .before .before .before .before .before .pre .1)
