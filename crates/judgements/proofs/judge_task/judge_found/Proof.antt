@@ -1,84 +1,72 @@
+-- `judge_found` walks every rule, judges the values by the lines of one, and leaves the lent buffers blank.
+use mathlib.Core.Path.{_∙_}
+use native.Mathlib.Omega.{arith}
 use borrow.Author.Needs.{needs}
+use Rattle.judgements.proofs.JudgeTaskLaws.{walk-behind, left-over, rows-has, judged-has, judgement-told}
 use Rattle.judgements.proofs.judge_task.judge_found.Statement.{statement}
 use Rattle.judgements.proofs.judge_task.judge_found.Tie as tie
-use Rattle.judgements.proofs.judge_task.judge_found.Reads as reads
-use Rattle.judgements.proofs.judge_task.judge_found.Lts as lts
-use Rattle.answers.proofs.buffer.fill.Reads as fill-reads
-use Rattle.judged.proofs.judge.walk_judged.Reads as walk-judged-reads
-use Rattle.judgements.proofs.judge_task.judge_walked.Reads as judge-walked-reads
-use Rattle.rules.proofs.rows.store_equations.Reads as store-equations-reads
 
--- src/judge_task.rt:133:35
-slice-aggregate-store-equations : tie.Need-slice-aggregate-store-equations
-slice-aggregate-store-equations c = search needs
-
--- src/judge_task.rt:133:51
-slice-aggregate-store-equations-2 : tie.Need-slice-aggregate-store-equations-2
-slice-aggregate-store-equations-2 c = search needs
-
--- src/judge_task.rt:133:5
-store-equations-requires : tie.Need-store-equations-requires
-store-equations-requires c κs = search needs
-
--- src/judge_task.rt:134:30
-slice-aggregate-walk-judged : tie.Need-slice-aggregate-walk-judged
-slice-aggregate-walk-judged c = search needs
-
--- src/judge_task.rt:134:42
-slice-aggregate-walk-judged-2 : tie.Need-slice-aggregate-walk-judged-2
-slice-aggregate-walk-judged-2 c = search needs
-
--- src/judge_task.rt:134:9
 walk-judged-requires : tie.Need-walk-judged-requires
-walk-judged-requires c κs = search needs
+walk-judged-requires c κs =
+    let at-store = c .before .before .before .before .before .before in
+    let start = at-store .before .before .before .before .before .before in
+    let stored = at-store .store-equations in
+    (rows-has (start .pre .0 .is) (stored .last .1 .1 .0) (stored .last .1 .1 .1 .0) (stored .ensures), start .pre .1, omega (arith, start .pre .2))
 
--- src/judge_task.rt:140:9
-slice-aggregate-judge-walked : tie.Need-slice-aggregate-judge-walked
-slice-aggregate-judge-walked c = search needs
-
--- src/judge_task.rt:141:9
-slice-aggregate-judge-walked-2 : tie.Need-slice-aggregate-judge-walked-2
-slice-aggregate-judge-walked-2 c = search needs
-
--- src/judge_task.rt:135:9
 judge-walked-requires : tie.Need-judge-walked-requires
-judge-walked-requires c κs = search needs
+judge-walked-requires c κs =
+    let at-walk = c .before .before .before .before .before .before .before .before in
+    let at-store = at-walk .before .before .before .before .before .before .before in
+    let start = at-store .before .before .before .before .before .before in
+    let stored = at-store .store-equations in
+    let walked = at-walk .walk-judged in (
+      judged-has (start .pre .0 .is) (stored .last .1 .1 .0) (stored .last .1 .1 .1 .0) (stored .ensures) (walked .last .1 .1 .1 .1 .0) (walked .result) (walked .ensures .0),
+      omega (arith, walked .kept .1 .1 .1 .1 .1 .0, start .pre .2),
+    )
 
--- src/judge_task.rt:147:5
 fill-requires : tie.Need-fill-requires
-fill-requires c κs = search needs
+fill-requires c κs =
+    let at-walk = c .before .before .before .before .before .before .before .before .before .before .before .before in
+    omega (arith, at-walk .walk-judged .kept .1 .1 .1 .1 .0, at-walk .before .before .before .before .before .before .before .before .before .before .before .before .before .pre .1)
 
--- src/judge_task.rt:148:5
 fill-requires-2 : tie.Need-fill-requires-2
-fill-requires-2 c κs = search needs
+fill-requires-2 c κs =
+    let at-judge = c .before .before .before .before .before .before .before in
+    let at-walk = at-judge .before .before .before .before .before .before .before .before .before in
+    omega (arith, at-judge .judge-walked .kept .1 .1 .1 .1 .1 .1 .1 .1 .1 .0, at-walk .walk-judged .kept .1 .1 .1 .1 .1 .0, at-walk .before .before .before .before .before .before .before .before .before .before .before .before .before .pre .2)
 
--- src/judge_task.rt:119:1
-same-length : tie.Need-same-length
-same-length c = search needs
-
--- src/judge_task.rt:119:1
-same-length-2 : tie.Need-same-length-2
-same-length-2 c = search needs
-
--- src/judge_task.rt:119:1
 returns : tie.Need-returns
-returns c = search needs
+returns c task j =
+    let at-fill = c .before .before .before .before .before .before in
+    let at-judge = at-fill .before .before .before .before in
+    let at-walk = at-judge .before .before .before .before .before .before .before .before .before in
+    let at-store = at-walk .before .before .before .before .before .before .before in
+    let start = at-store .before .before .before .before .before .before in
+    let stored = at-store .store-equations in
+    let walked = at-walk .walk-judged in
+    let judge = at-judge .judge-walked in
+    let table = start .args .table .now in
+    let scratch = start .args .scratch .now in
+    let worked = walked .last .1 .1 .1 .1 .0 in
+    judgement-told j (stored .last .1 .1 .0) (stored .last .1 .1 .1 .0) (stored .ensures) worked (walked .result) (walked .ensures .0) table scratch (judge .ensures .0)
+    ∙ left-over (judge .result) table worked (at-fill .fill .last .0) scratch (judge .last .1 .1 .1 .1 .1 .1 .1 .1 .1 .0) (c .before .before .fill2 .last .0) (walked .ensures .1 .0) (at-fill .fill .ensures)
+    (judge .ensures .1 ∙ walk-behind scratch (walked .last .1 .1 .1 .1 .1 .0) (walked .ensures .1 .1)) (c .before .before .fill2 .ensures)
 
 pub judge-found-spec : {M : Type 1} → statement M
 judge-found-spec =
     tie.close
     (tie.spec
-    slice-aggregate-store-equations
-    slice-aggregate-store-equations-2
-    store-equations-requires
-    slice-aggregate-walk-judged
-    slice-aggregate-walk-judged-2
+    (λ c. search needs)
+    (λ c. search needs)
+    (λ c κs. search needs)
+    (λ c. search needs)
+    (λ c. search needs)
     walk-judged-requires
-    slice-aggregate-judge-walked
-    slice-aggregate-judge-walked-2
+    (λ c. search needs)
+    (λ c. search needs)
     judge-walked-requires
     fill-requires
     fill-requires-2
-    same-length
-    same-length-2
+    (λ c. search needs)
+    (λ c. search needs)
     returns)

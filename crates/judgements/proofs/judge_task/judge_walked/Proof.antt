@@ -1,64 +1,51 @@
+-- `judge_walked` gives the number that judge returns, by what the walks gave.
+use mathlib.Core.Path.{refl}
+use native.Mathlib.Omega.{arith}
 use borrow.Author.Needs.{needs}
+use Rattle.judgements.proofs.JudgeTaskLaws.{none-holds, some-holds, refused-fits, refused-told, values-has, line-low, judged-told}
 use Rattle.judgements.proofs.judge_task.judge_walked.Statement.{statement}
 use Rattle.judgements.proofs.judge_task.judge_walked.Tie as tie
-use Rattle.judgements.proofs.judge_task.judge_walked.Reads as reads
-use Rattle.judgements.proofs.judge_task.judge_walked.Lts as lts
-use Rattle.answers.proofs.number.fields_number.Reads as fields-number-reads
-use Rattle.answers.proofs.number.refusal_number.Reads as refusal-number-reads
-use Rattle.judgements.proofs.judge_task.judge_values.Reads as judge-values-reads
 
--- src/judge_task.rt:95:25
-enum-known-judged : tie.Need-enum-known-judged
-enum-known-judged c = search needs
-
--- src/judge_task.rt:95:63
 add-refusal-number : tie.Need-add-refusal-number
-add-refusal-number c = search needs
+add-refusal-number c = let low = refused-fits (c .before .before .before .before .before .before .before .before .pre .0 .are) (c .before .judged .given .1) in omega arith
 
--- src/judge_task.rt:95:43
 refusal-number-requires : tie.Need-refusal-number-requires
-refusal-number-requires c κs = search needs
+refusal-number-requires c κs = refused-fits (c .before .before .before .before .before .before .before .before .pre .0 .are) (c .before .judged .given .1)
 
--- src/judge_task.rt:96:21
-enum-known-judged-2 : tie.Need-enum-known-judged-2
-enum-known-judged-2 c = search needs
-
--- src/judge_task.rt:97:17
 judge-values-requires : tie.Need-judge-values-requires
-judge-values-requires c κs = search needs
+judge-values-requires c κs = let start = c .before .before .before .before .before .before .before .before .before in (values-has (start .pre .0 .are) (c .before .before .judged2 .given .1), start .pre .1)
 
--- src/judge_task.rt:112:17
 fields-number-requires : tie.Need-fields-number-requires
-fields-number-requires c κs = search needs
+fields-number-requires c κs =
+    (omega arith, line-low (c .before .before .before .before .before .before .before .before .before .before .before .before .before .pre .0 .are) (c .before .before .before .before .before .before .judged2 .given .1) (c .before .before .before .judge-values .ensures .0), omega arith)
 
--- src/judge_task.rt:78:1
 returns : tie.Need-returns
-returns c = search needs
+returns c = (λ es i e d ts j. refused-told j (c .before .before .judged .given .1) (c .refusal-number .ensures), refl)
 
--- src/judge_task.rt:78:1
 same-length : tie.Need-same-length
-same-length c = search needs
+same-length c = c .before .before .scratch .given
 
--- src/judge_task.rt:78:1
 returns-2 : tie.Need-returns-2
-returns-2 c = search needs
+returns-2 c =
+    let judge = c .before .before .before .judge-values in
+    (λ es i e d ts j. judged-told j (c .before .before .before .before .before .before .judged2 .given .1) (judge .ensures .0) (none-holds (c .if1 .taken) refl), judge .ensures .1)
 
--- src/judge_task.rt:78:1
 same-length-2 : tie.Need-same-length-2
-same-length-2 c = search needs
+same-length-2 c = c .before .before .before .scratch .given
 
--- src/judge_task.rt:78:1
 returns-3 : tie.Need-returns-3
-returns-3 c = search needs
+returns-3 c =
+    let judge = c .before .before .before .before .judge-values in
+    (λ es i e d ts j. judged-told j (c .before .before .before .before .before .before .before .judged2 .given .1) (judge .ensures .0) (some-holds (judge .result) (c .before .if1 .left) (c .fields-number .ensures)), judge .ensures .1)
 
 pub judge-walked-spec : {M : Type 1} → statement M
 judge-walked-spec =
     tie.close
     (tie.spec
-    enum-known-judged
+    (λ c. search needs)
     add-refusal-number
     refusal-number-requires
-    enum-known-judged-2
+    (λ c. search needs)
     judge-values-requires
     fields-number-requires
     returns
