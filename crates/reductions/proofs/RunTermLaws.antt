@@ -26,7 +26,7 @@ use Rattle.outcomes.specs.Buffer.{fields}
 use Rattle.rules.specs.Contracts.Rows.{RowsAre}
 use Rattle.rules.specs.Contracts.Walks.{RulesAt}
 use Rattle.searching.specs.Contracts.Next.{NextIs, RulesKept, HasRulesKept}
-use Rattle.stepping.specs.Contracts.Stepping.{RulesReady, RunIs}
+use Rattle.seeking.specs.Contracts.Seeking.{RulesReady, RunIs}
 use Rattle.running.specs.declared.course.Course.{Course}
 use Rattle.running.specs.Contracts.Course.{CourseIs, the-run, last-of}
 use Rattle.answers.proofs.Arities.{symbols-room, symbols-taken, arities-taken}

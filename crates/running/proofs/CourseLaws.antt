@@ -22,7 +22,8 @@ use Rattle.outcomes.specs.Outcome.{log-of}
 use Rattle.replacing.specs.Contracts.Replacing.{ReplacedAs}
 use Rattle.replacing.specs.declared.part.Replaced.the-variants.{TooLarge}
 use Rattle.searching.specs.Contracts.Searching.{StepAt}
-use Rattle.stepping.specs.Contracts.Stepping.{RulesReady, StepIs, RunIs}
+use Rattle.seeking.specs.Contracts.Seeking.{RulesReady, RunIs}
+use Rattle.stepping.specs.Contracts.Stepping.{StepIs}
 use Rattle.stepping.proofs.StepLaws.{step-possible}
 use Rattle.running.specs.Contracts.Course.{CourseIs}
 

@@ -3,7 +3,7 @@ use comparing::nodes::SUBJECT;
 use reducing::ending::Ending;
 use replacing::part::Replaced;
 use searching::positions::Found;
-use stepping::step::find_step;
+use seeking::seek::find_step;
 use stepping::step::put_step;
 use stepping::step::take_step;
 ghost use mathlib.Core.Path.{_≡_};
@@ -14,7 +14,7 @@ ghost use lib.ListN.{length, drop};
 ghost use Rattle.format.specs.Limits.{max-steps, table-bytes, scratch-bytes, log-bytes};
 ghost use Rattle.terms.specs.Term.{Term};
 ghost use Rattle.terms.specs.Equation.{Equation};
-ghost use Rattle.stepping.specs.Contracts.Stepping.{RunIs};
+ghost use Rattle.seeking.specs.Contracts.Seeking.{RunIs};
 ghost use Rattle.running.specs.Contracts.Course.{CourseIs};
 
 // How a run ends: its steps, its ending, and the nodes of its last term.

@@ -37,7 +37,7 @@ use Rattle.rules.specs.Contracts.Walks.{WalksAs}
 use Rattle.answers.proofs.Fill.{filled-behind}
 use Rattle.solutions.proofs.SolveTask.{walk-cleared}
 use Rattle.reductions.specs.Contracts.RunTerm.{LinesReady, RunTermIs, Ran}
-use Rattle.runs.specs.Contracts.RunTask.{RanAs, ReductionIn}
+use Rattle.runs.specs.Contracts.RunTask.{fit-together, RanAs, ReductionIn}
 
 -- 1. The walks.
 module _ (n : ℕ) (e : Equation) (es : List Equation) where
@@ -74,18 +74,16 @@ module _ (es : List Equation) (bounds table : List ℕ) where
   unfolding equation-line
   number-low {walks} {why} {number} l w e = let x = refused-low 0 es why (number + 2) (subst (WalksAs es bounds table) e w) in omega arith
 
-  pub full-ready : {walks : Walks} → WalksAs es bounds table walks → walks ≡ Full → LinesReady false bounds table es
-  full-ready w e = let x : WalksAs es bounds table Full = subst (WalksAs es bounds table) e w in x .1
+  pub walks-ready : (walks : Walks) → ((why : Refusal) (number : ℕ) → walks ≡ Refused why number → ⊥) → WalksAs es bounds table walks → LinesReady (fit-together walks) bounds table es
+  walks-ready (Refused why number) other w = absurd (other why number refl)
+  walks-ready Full other w = w .1
+  walks-ready Kept other w = w .2
 
-  pub kept-ready : {walks : Walks} → WalksAs es bounds table walks → walks ≡ Kept → LinesReady true bounds table es
-  kept-ready w e = let x : WalksAs es bounds table Kept = subst (WalksAs es bounds table) e w in x .2
-
-module _ {walks : Walks} {es : List Equation} {k : ℕ} {subject : Term} {term term-after log log-after : List ℕ} {r : ℕ} where
-  pub full-as : walks ≡ Full → Ran es k subject term term-after log log-after r → RanAs walks es k subject term term-after log log-after r
-  full-as e d = subst (λ w. RanAs w es k subject term term-after log log-after r) (sym e) d
-
-  pub kept-as : walks ≡ Kept → Ran es k subject term term-after log log-after r → RanAs walks es k subject term term-after log log-after r
-  kept-as e d = subst (λ w. RanAs w es k subject term term-after log log-after r) (sym e) d
+pub ran-as : {es : List Equation} {k : ℕ} {subject : Term} {term term-after log log-after : List ℕ} {r : ℕ} (walks : Walks) → ((why : Refusal) (number : ℕ) → walks ≡ Refused why number → ⊥)
+    → Ran es k subject term term-after log log-after r → RanAs walks es k subject term term-after log log-after r
+ran-as (Refused why number) other d = absurd (other why number refl)
+ran-as Full other d = d
+ran-as Kept other d = d
 
 pub refused-as : {walks : Walks} (es : List Equation) (k : ℕ) (subject : Term) (term log : List ℕ) {r : ℕ} {why : Refusal} {number : ℕ} → walks ≡ Refused why number → r ≡ refusal-number why (number + 2)
     → RanAs walks es k subject term term log log r

@@ -26,7 +26,18 @@ ghost use Rattle.outcomes.specs.Asked.{asked, reduction-task};
 ghost use Rattle.outcomes.specs.Outcome.{run-answer};
 ghost use Rattle.rules.specs.Contracts.Walks.{WalksAs};
 ghost use Rattle.reductions.specs.Contracts.RunTerm.{RunTermIs};
-ghost use Rattle.runs.specs.Contracts.RunTask.{HasWalked, RanAs, ReductionIn, HasReduction};
+ghost use Rattle.runs.specs.Contracts.RunTask.{fit-together, HasWalked, RanAs, ReductionIn, HasReduction};
+
+// Whether the lines of all rules fit the table together.
+fn lines_fit(walks: Walks) -> bool
+    ensures { λ r. ⌜ r ≡ fit-together walks ⌝ }
+{
+    match walks {
+        Walks::Refused(_, _) => false,
+        Walks::Full => false,
+        Walks::Kept => true,
+    }
+}
 
 // The run of the term that the digits from `from` to `end` write, if no walk is refused.
 fn run_walked(
@@ -50,39 +61,24 @@ fn run_walked(
     ensures { λ _. ⌜ drop table-bytes (now (table .exit)) ≡ drop table-bytes (now (table .entry)) ⌝ }
     ensures { λ _. ⌜ drop scratch-bytes (now (scratch .exit)) ≡ drop scratch-bytes (now (scratch .entry)) ⌝ }
 {
-    match walks {
-        Walks::Refused(why, equation) => refusal_number(why, equation + FIRST_EQUATION_LINE),
-        Walks::Full => run_term(
-            sheet,
-            known,
-            limit,
-            from,
-            end,
-            equations,
-            lengths,
-            bounds,
-            false,
-            table,
-            scratch,
-            term,
-            log,
-        ),
-        Walks::Kept => run_term(
-            sheet,
-            known,
-            limit,
-            from,
-            end,
-            equations,
-            lengths,
-            bounds,
-            true,
-            table,
-            scratch,
-            term,
-            log,
-        ),
+    if let Walks::Refused(why, equation) = walks {
+        return refusal_number(why, equation + FIRST_EQUATION_LINE);
     }
+    run_term(
+        sheet,
+        known,
+        limit,
+        from,
+        end,
+        equations,
+        lengths,
+        bounds,
+        lines_fit(walks),
+        table,
+        scratch,
+        term,
+        log,
+    )
 }
 
 // Run on a task that is a run.

@@ -1,4 +1,3 @@
 -- Laws that the proofs of the functions share.
 pub mod StepLaws
 pub mod LogLaws
-pub mod SearchLaws

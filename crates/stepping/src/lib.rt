@@ -1,2 +1,2 @@
-// One step of a run: sought, taken and logged.
+// A step that was found: taken and logged.
 pub mod step;

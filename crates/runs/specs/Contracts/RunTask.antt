@@ -1,6 +1,7 @@
 -- The tasks of an accepted sheet that run answers.
 use Prim.Native.Nat.{ℕ}
 use mathlib.Core.Path.{_≡_}
+use mathlib.Core.Bool.{Bool, true, false}
 use mathlib.Core.List.{List}
 use Rattle.terms.specs.Term.{Term}
 use Rattle.terms.specs.Equation.{Equation}
@@ -13,6 +14,12 @@ use Rattle.rules.specs.Contracts.Walks.{WalksAs}
 use Rattle.rules.specs.declared.walks.Walks.{Walks}
 use Rattle.rules.specs.declared.walks.Walks.the-variants.{Refused, Full, Kept}
 use Rattle.reductions.specs.Contracts.RunTerm.{RunTermIs, Ran}
+
+-- Whether the lines of all rules fit the table together.
+abbrev pub fit-together : Walks → Bool
+fit-together (Refused why number) = false
+fit-together Full = false
+fit-together Kept = true
 
 -- The term of a run, and the walks of all rules.
 pub record HasWalked (sheet : List ℕ) (known : Known) (from end : ℕ) (equations lengths bounds : List ℕ) (walks : Walks) (table : List ℕ) : Type 0 where

@@ -5,9 +5,9 @@ use native.Mathlib.Omega.{arith}
 use lib.Seq.{length-take-le}
 use borrow.Author.Needs.{needs}
 use Rattle.format.specs.Limits.{cell-count, scratch-bytes}
-use Rattle.stepping.proofs.SearchLaws.{by-positions, by-rules, behind-kept}
-use Rattle.stepping.proofs.step.find_step.Statement.{statement}
-use Rattle.stepping.proofs.step.find_step.Tie as tie
+use Rattle.seeking.proofs.SearchLaws.{by-positions, by-rules, behind-kept}
+use Rattle.seeking.proofs.seek.find_step.Statement.{statement}
+use Rattle.seeking.proofs.seek.find_step.Tie as tie
 
 slice-aggregate-find-by-positions : tie.Need-slice-aggregate-find-by-positions
 slice-aggregate-find-by-positions c = let start = c .before .before .before .before .before .before .before .before .before .before .before .before .before in sym (length-take-le cell-count (start .args .scratch .now) (omega (arith, start .pre .1 .1)))

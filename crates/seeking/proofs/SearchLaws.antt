@@ -10,7 +10,7 @@ use Rattle.terms.specs.Term.{Term}
 use Rattle.terms.specs.Equation.{Equation}
 use Rattle.searching.specs.Contracts.Next.{SearchIs}
 use Rattle.rulewise.specs.Contracts.Rulewise.{AllSolve}
-use Rattle.stepping.specs.Contracts.Stepping.{RulesReady, RunIs}
+use Rattle.seeking.specs.Contracts.Seeking.{RulesReady, RunIs}
 
 module _ {equations lengths : List ℕ} {rules : ℕ} {bounds next : List ℕ} {fits : Bool} {table nodes sizes : List ℕ} {n : ℕ} {arities : List ℕ} {es : List Equation} {subject : Term}
     (is : RunIs equations lengths rules bounds next fits table nodes sizes n arities es subject) where
