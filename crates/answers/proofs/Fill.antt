@@ -1,14 +1,15 @@
 -- Laws for filling a buffer from its front.
-use Prim.Native.Nat.{ℕ, zero, suc, _+_, _-_, _≤_, _<_}
+use Prim.Native.Nat.{ℕ, zero, suc, _+_, _≤_, _<_}
 use mathlib.Core.Path.{_≡_, refl, sym, ap, _∙_}
 use mathlib.Core.List.{List, [], _∷_, _++_, append-assoc}
 use lib.ListN.{length, getD, drop, set, replicate, length-replicate, length-append, length-drop}
-use lib.Seq.{drop-cons, set-append-seam, drop-drop}
+use lib.Seq.{drop-cons, set-append-seam}
 use native.Mathlib.Numerals.{add-one}
 use native.Mathlib.Omega.{arith}
 use Rattle.format.specs.Buffer.{written}
-use Rattle.format.specs.Limits.{scratch-bytes}
-use Rattle.outcomes.specs.Buffer.{filled, cleared}
+use Rattle.format.specs.Limits.{no-position, table-bytes, scratch-bytes}
+use Rattle.format.specs.Theory.Behind.{behind-more}
+use Rattle.outcomes.specs.Buffer.{filled, cleared, blanked}
 
 filled-is : (n b : ℕ) (buffer : List ℕ) → filled n b buffer ≡ replicate n b ++ drop n buffer
 unfolding filled written
@@ -39,11 +40,13 @@ length-filled n b buffer h = ap length (filled-is n b buffer) ∙ length-append 
 
 -- What stands in the part that is filled does not matter.
 pub filled-behind : (n k b : ℕ) (xs ys : List ℕ) → k ≤ n → drop k xs ≡ drop k ys → filled n b xs ≡ filled n b ys
-filled-behind n k b xs ys h e = filled-is n b xs ∙ ap (replicate n b ++_) (behind xs ∙ (ap (drop (n - k)) e ∙ sym (behind ys))) ∙ sym (filled-is n b ys)
-  where
-    behind : (zs : List ℕ) → drop n zs ≡ drop (n - k) (drop k zs)
-    behind zs = let parts : n ≡ k + (n - k) = omega arith in ap (λ m. drop m zs) parts ∙ sym (drop-drop (n - k) k zs)
+filled-behind n k b xs ys h e = filled-is n b xs ∙ ap (replicate n b ++_) (behind-more n k xs ys h e) ∙ sym (filled-is n b ys)
 
-pub cleared-is : (scratch : List ℕ) → cleared scratch ≡ filled scratch-bytes 0 scratch
+-- So what stands behind what was used is enough.
+pub cleared-behind : (k : ℕ) (scratch worked last : List ℕ) → k ≤ scratch-bytes → drop k worked ≡ drop k scratch → last ≡ filled scratch-bytes 0 worked → last ≡ cleared scratch
 unfolding cleared
-cleared-is scratch = refl
+cleared-behind k scratch worked last l h e = e ∙ filled-behind scratch-bytes k 0 worked scratch l h
+
+pub blanked-behind : (table worked last : List ℕ) → drop table-bytes worked ≡ drop table-bytes table → last ≡ filled table-bytes no-position worked → last ≡ blanked table
+unfolding blanked
+blanked-behind table worked last h e = e ∙ filled-behind table-bytes table-bytes no-position worked table (omega arith) h

@@ -1,2 +1,2 @@
-pub mod Arities
 pub mod Fill
+pub mod Outcomes

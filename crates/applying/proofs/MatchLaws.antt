@@ -13,7 +13,7 @@ use Rattle.reducing.specs.Match.{Match}
 use Rattle.matching.specs.Contracts.Matching.{MatchIs, Matched, SidePart}
 use Rattle.rules.specs.Contracts.Rows.{SideIs}
 use Rattle.applying.specs.Contracts.Trying.{part-at}
-use Rattle.applying.specs.Theory.Parts.{part-stored}
+use Rattle.comparing.specs.Theory.Stored.{part-stored}
 
 pub side-part : {equations lengths arities nodes sizes : List ℕ} {side : Arguments} {s subject : Term} {node p : ℕ} → SideIs equations lengths arities side s → SubjectIs nodes sizes arities subject
     → p < size subject → node ≡ position-count + p → SidePart equations side nodes sizes node arities s (part-at subject p)
@@ -21,7 +21,7 @@ side-part {arities = arities} {nodes = nodes} {sizes = sizes} {subject = subject
   fits = side .fits;
   spelled = side .stored .bytes;
   ends = side .ends;
-  part = subst (λ i. GroundStored nodes sizes arities i (part-at subject p)) (sym n) (part-stored is p h);
+  part = subst (λ i. GroundStored nodes sizes arities i (part-at subject p)) (sym n) (part-stored (is .stored) p h);
 }
 
 -- The match that the code finds is that of the definition, and so is that it finds none.

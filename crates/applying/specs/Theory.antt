@@ -1,3 +1,2 @@
 -- Laws.
 pub mod Testable
-pub mod Parts

@@ -15,7 +15,7 @@ use Rattle.reading.specs.declared.read.SheetStatus.the-variants.{Refused as She
 use Rattle.reading.specs.Contracts.Reader.{SheetRead}
 use Rattle.outcomes.specs.Buffer.{refusal-number}
 use Rattle.outcomes.specs.Asked.{find, asked, judgement-task}
-use Rattle.solutions.proofs.SolveTask.{outcome}
+use Rattle.answers.proofs.Outcomes.{table-outcome}
 use Rattle.outcomes.specs.Outcome.{table-fits, judge-answer, judge-call}
 
 module _ (sheet table scratch : List ℕ) (task : ℕ) where
@@ -23,15 +23,15 @@ module _ (sheet table scratch : List ℕ) (task : ℕ) where
   unfolding judge-call
   by-fit b e = ap (λ b. judge-answer table scratch (asked b sheet (judgement-task task))) e
 
-  short : table-fits table scratch ≡ false → {n : ℕ} → n ≡ refusal-number short-buffer 0 → judge-call sheet task table scratch ≡ outcome n table scratch
+  short : table-fits table scratch ≡ false → {n : ℕ} → n ≡ refusal-number short-buffer 0 → judge-call sheet task table scratch ≡ table-outcome n table scratch
   unfolding judge-answer asked
-  short h e = by-fit false h ∙ ap (λ n. outcome n table scratch) (sym e)
+  short h e = by-fit false h ∙ ap (λ n. table-outcome n table scratch) (sym e)
 
-  pub table-short : length table < table-bytes → {n : ℕ} → n ≡ refusal-number short-buffer 0 → judge-call sheet task table scratch ≡ outcome n table scratch
+  pub table-short : length table < table-bytes → {n : ℕ} → n ≡ refusal-number short-buffer 0 → judge-call sheet task table scratch ≡ table-outcome n table scratch
   unfolding table-fits
   table-short h e = short (ap (λ b. b && leb scratch-bytes (length scratch)) (lt-leb table-bytes (length table) h)) e
 
-  pub scratch-short : table-bytes ≤ length table → length scratch < scratch-bytes → {n : ℕ} → n ≡ refusal-number short-buffer 0 → judge-call sheet task table scratch ≡ outcome n table scratch
+  pub scratch-short : table-bytes ≤ length table → length scratch < scratch-bytes → {n : ℕ} → n ≡ refusal-number short-buffer 0 → judge-call sheet task table scratch ≡ table-outcome n table scratch
   unfolding table-fits
   scratch-short g h e = short (cc (le-leb table-bytes (length table) g, lt-leb scratch-bytes (length scratch) h)) e
 
@@ -40,9 +40,9 @@ module _ (sheet table scratch : List ℕ) (task : ℕ) where
   buffers-long g h = by-fit true (cc (le-leb table-bytes (length table) g, le-leb scratch-bytes (length scratch) h))
 
   pub sheet-refused : table-bytes ≤ length table → scratch-bytes ≤ length scratch → (k : Known) (r : SheetStatus) → SheetRead sheet k r → {x : Refusal} {line n : ℕ} → r ≡ Sheet-Refused x line → n ≡ refusal-number x line
-      → judge-call sheet task table scratch ≡ outcome n table scratch
+      → judge-call sheet task table scratch ≡ table-outcome n table scratch
   unfolding judge-answer asked find
   sheet-refused g h k r s e d =
       buffers-long g h
       ∙ ap (λ x. judge-answer table scratch (find (judgement-task task) x)) (subst (SheetRead sheet k) e s .0)
-      ∙ ap (λ n. outcome n table scratch) (sym d)
+      ∙ ap (λ n. table-outcome n table scratch) (sym d)

@@ -16,7 +16,8 @@ use Rattle.reading.specs.Contracts.Reader.{SheetRead}
 use Rattle.outcomes.specs.Buffer.{refusal-number}
 use Rattle.outcomes.specs.Asked.{find, asked, solve-directed}
 use Rattle.outcomes.specs.Outcome.{table-fits, solve-answer, solve-call}
-use Rattle.solutions.proofs.SolveTask.{outcome, answered}
+use Rattle.answers.proofs.Outcomes.{table-outcome}
+use Rattle.solutions.proofs.SolveTask.{solve-answered}
 
 module _ (sheet table scratch : List ℕ) (equation direction : ℕ) where
   -- 3. The whole call.
@@ -24,26 +25,26 @@ module _ (sheet table scratch : List ℕ) (equation direction : ℕ) where
   unfolding solve-call
   by-fit b e = ap (λ b. solve-answer equation table scratch (asked b sheet (solve-directed equation direction))) e
 
-  short : table-fits table scratch ≡ false → {n : ℕ} → n ≡ refusal-number short-buffer 0 → solve-call sheet equation direction table scratch ≡ outcome n table scratch
+  short : table-fits table scratch ≡ false → {n : ℕ} → n ≡ refusal-number short-buffer 0 → solve-call sheet equation direction table scratch ≡ table-outcome n table scratch
   unfolding solve-answer asked
-  short h e = by-fit false h ∙ ap (λ n. outcome n table scratch) (sym e)
+  short h e = by-fit false h ∙ ap (λ n. table-outcome n table scratch) (sym e)
 
-  pub table-short : length table < table-bytes → {n : ℕ} → n ≡ refusal-number short-buffer 0 → solve-call sheet equation direction table scratch ≡ outcome n table scratch
+  pub table-short : length table < table-bytes → {n : ℕ} → n ≡ refusal-number short-buffer 0 → solve-call sheet equation direction table scratch ≡ table-outcome n table scratch
   unfolding table-fits
   table-short h e = short (ap (λ b. b && leb scratch-bytes (length scratch)) (lt-leb table-bytes (length table) h)) e
 
-  pub scratch-short : table-bytes ≤ length table → length scratch < scratch-bytes → {n : ℕ} → n ≡ refusal-number short-buffer 0 → solve-call sheet equation direction table scratch ≡ outcome n table scratch
+  pub scratch-short : table-bytes ≤ length table → length scratch < scratch-bytes → {n : ℕ} → n ≡ refusal-number short-buffer 0 → solve-call sheet equation direction table scratch ≡ table-outcome n table scratch
   unfolding table-fits
   scratch-short g h e = short (cc (le-leb table-bytes (length table) g, lt-leb scratch-bytes (length scratch) h)) e
 
-  pub buffers-long : table-bytes ≤ length table → scratch-bytes ≤ length scratch → solve-call sheet equation direction table scratch ≡ answered sheet table scratch equation direction
+  pub buffers-long : table-bytes ≤ length table → scratch-bytes ≤ length scratch → solve-call sheet equation direction table scratch ≡ solve-answered sheet table scratch equation direction
   unfolding table-fits
   buffers-long g h = by-fit true (cc (le-leb table-bytes (length table) g, le-leb scratch-bytes (length scratch) h))
 
   pub sheet-refused : table-bytes ≤ length table → scratch-bytes ≤ length scratch → (k : Known) (r : SheetStatus) → SheetRead sheet k r → {x : Refusal} {line n : ℕ} → r ≡ Sheet-Refused x line → n ≡ refusal-number x line
-      → solve-call sheet equation direction table scratch ≡ outcome n table scratch
+      → solve-call sheet equation direction table scratch ≡ table-outcome n table scratch
   unfolding solve-answer asked find
   sheet-refused g h k r s e d =
       buffers-long g h
       ∙ ap (λ x. solve-answer equation table scratch (find (solve-directed equation direction) x)) (subst (SheetRead sheet k) e s .0)
-      ∙ ap (λ n. outcome n table scratch) (sym d)
+      ∙ ap (λ n. table-outcome n table scratch) (sym d)

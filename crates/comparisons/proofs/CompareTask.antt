@@ -3,13 +3,14 @@ use Prim.Native.Nat.{ℕ, _≤_, _<_}
 use mathlib.Core.Path.{_≡_, sym, ap, subst, _∙_}
 use mathlib.Core.Bool.{true}
 use mathlib.Core.Option.{Option, none, some}
-use mathlib.Core.List.{List}
+use mathlib.Core.List.{List, _++_, append-nil}
 use lib.ListN.{length}
 use native.Mathlib.Omega.{arith}
 use Rattle.format.specs.declared.refusal.Refusal.the-variants.{AbsentArgument as absent-argument}
 use Rattle.format.specs.Lists.{entry}
 use Rattle.format.specs.Theory.Lists.{entry-none, every-entry}
-use Rattle.terms.specs.Term.{Term, Ground}
+use Rattle.terms.specs.Term.{Term, size, Ground}
+use Rattle.terms.specs.Prefix.{prefix}
 use Rattle.ordering.specs.declared.verdict.Verdict.{Verdict}
 use Rattle.ordering.specs.Verdict.{verdict, verdict-number}
 use Rattle.scanning.specs.declared.known.Known.{Known}
@@ -19,14 +20,14 @@ use Rattle.sheet.specs.Sheet.{Task, run, judgement, comparison, Sheet}
 use Rattle.sheet.specs.Reading.{accepted, read}
 use Rattle.scanning.specs.Contracts.Scan.{known-arities}
 use Rattle.scanning.specs.Contracts.Known.{Roomy}
-use Rattle.reading.specs.Contracts.Seek.{Accepts, TaskIn, TaskAt, task-terms}
+use Rattle.reading.specs.Contracts.Seek.{Accepts, TaskIn, TaskAt, Spans, task-terms}
 use Rattle.sheet.specs.Contracts.Valid.{ValidTask}
 use Rattle.sheet.specs.Theory.Accepted.{accepted-valid}
 use Rattle.reading.specs.Theory.Found.{task-asked, is-run, is-judgement, is-comparison}
 use Rattle.outcomes.specs.Buffer.{fields, refusal-number, cleared}
 use Rattle.outcomes.specs.Asked.{found, find, asked, comparison-in, comparison-task}
 use Rattle.outcomes.specs.Outcome.{CompareOutcome, compare-answer}
-use Rattle.comparisons.specs.Contracts.Comparison.{PairIs, HasPair}
+use Rattle.comparisons.specs.Contracts.Comparison.{PairIn}
 
 abbrev pub outcome : ℕ → List ℕ → CompareOutcome
 outcome n scratch = record { returned = n; scratch = scratch }
@@ -66,10 +67,10 @@ module _ (sheet scratch : List ℕ) (task : ℕ) where
         pub first : Term
         pub second : Term
         pub is-task : TaskIn sheet task (comparison first second)
-        pub pair : PairIs sheet (known-arities known) (place .from) (place .end) first second
+        pub pair : PairIn sheet (known-arities known) (place .from) (place .end) first second
 
       pub pair-found : place .head ≡ Comparison → PairFound
-      unfolding task-terms
+      unfolding task-terms prefix size
       pair-found h =
           let (t, i) = task-asked sheet known task a there in
           let (u, v, x) = is-comparison t (sym (each t i .0) ∙ h) in
@@ -85,19 +86,18 @@ module _ (sheet scratch : List ℕ) (task : ℕ) where
             second = v;
             is-task = j;
             pair = record {
-              spans = each (comparison u v) j .1;
-              first-ground = subst (λ arities. Ground arities u) (sym arities) (valid .0);
-              second-ground = subst (λ arities. Ground arities v) (sym arities) (valid .1);
-              few-nodes = valid .2;
+              spans = subst (Spans sheet (place .from) (place .end)) (ap (prefix u ++_) (sym (append-nil (prefix v)))) (each (comparison u v) j .1);
+              ground = (subst (λ arities. Ground arities u) (sym arities) (valid .0), (subst (λ arities. Ground arities v) (sym arities) (valid .1), tt));
+              few-nodes = omega (arith, valid .2);
               few-symbols = omega (arith, ap length (g .arities-are), g .valid .symbols .few-symbols);
             };
           }
 
-      pub pair-has : place .head ≡ Comparison → HasPair sheet (known-arities known) (place .from) (place .end)
-      pair-has h = let f = pair-found h in record { first = f .first; second = f .second; is = f .pair }
+      pub pair-has : place .head ≡ Comparison → (s : Term) × (t : Term) × PairIn sheet (known-arities known) (place .from) (place .end) s t
+      pair-has h = let f = pair-found h in (f .first, f .second, f .pair)
 
       pub comparison-there : (h : place .head ≡ Comparison) (w : Verdict) (after : List ℕ) {n r : ℕ}
-          → ((s t : Term) → PairIs sheet (known-arities known) (place .from) (place .end) s t → w ≡ verdict s t) → r ≡ verdict-number w → n ≡ fields r 0 0
+          → ((s t : Term) → PairIn sheet (known-arities known) (place .from) (place .end) s t → w ≡ verdict s t) → r ≡ verdict-number w → n ≡ fields r 0 0
           → after ≡ cleared scratch → answered ≡ outcome n after
       unfolding compare-answer found comparison-in
       comparison-there h w after {n} v x e c =

@@ -1,21 +1,21 @@
--- The walks of all rules in order, where the lines of one are kept: the first refusal, and what holds before each turn of the loop.
-use Prim.Native.Nat.{ℕ, zero, suc, _+_, _-_, _/_, _≤_, _<_}
+-- The walks of all rules in order, where the lines of one are kept: what holds before each turn of the loop.
+use Prim.Native.Nat.{ℕ, _+_, _/_, _≤_, _<_}
 use mathlib.Core.Path.{_≡_, refl, ap, subst, _∙_}
-use mathlib.Core.Option.{Option, none, some}
-use mathlib.Core.List.{List, [], _∷_, _++_}
+use mathlib.Core.Option.{some}
+use mathlib.Core.List.{List, [], _∷_}
 use native.Mathlib.Omega.{arith}
 use native.Mathlib.Decide.{ℕ-discrete}
 use lib.ListN.{length, take, drop}
-use lib.Seq.{drop-append-add, drop-drop, take-at}
+use lib.Seq.{take-at}
 use Rattle.format.specs.Limits.{table-bytes}
 use Rattle.format.specs.Lists.{entry}
 use Rattle.format.specs.declared.refusal.Refusal.{Refusal}
-use Rattle.terms.specs.Equation.{Equation, Direction, left-right, right-left, direction-number}
+use Rattle.terms.specs.Equation.{Equation, Direction}
 use Rattle.solving.specs.Line.{Line}
-use Rattle.solving.specs.Walk.{Walked, solved, refused, solve, Solves}
+use Rattle.solving.specs.Walk.{solved, solve, Solves}
 use Rattle.walking.specs.Contracts.Walking.{memory-bytes}
 use Rattle.lines.specs.Contracts.Layout.{placed}
-use Rattle.lines.specs.Theory.Placed.{placed-length}
+use Rattle.lines.specs.Theory.Placed.{placed-length, drop-placed}
 use Rattle.solver.specs.declared.positions.WalkEnd.the-variants.{Solved, Refused}
 use Rattle.solver.specs.declared.positions.WalkResult.{WalkResult as Reported}
 use Rattle.solver.specs.Contracts.Reports.{LeavesEnd, Leaves}
@@ -23,71 +23,19 @@ use Rattle.reducing.specs.Contracts.Rules.{rule-number}
 use Rattle.judging.specs.declared.trimmed.Kept.{Kept}
 use Rattle.judging.specs.declared.trimmed.Kept.the-variants.{Full, End}
 use Rattle.judging.specs.Contracts.Trimmed.{trimmed-lines, RecordsAre, HasRecords, KeptAs}
-use Rattle.outcomes.specs.Asked.{equation-line, WalkRefusal, first-refusal}
+use Rattle.outcomes.specs.Asked.{equation-line}
 use Rattle.judged.specs.declared.judge.Judged.the-variants.{Refused as Unsolved, End as Ended}
-use Rattle.rules.specs.Contracts.Rows.{RowsAre, RuleIs, HasRuleIn, HasRows}
+use Rattle.rules.specs.Contracts.Rows.{RowsAre, RuleIs, HasRows}
 use Rattle.rules.specs.Contracts.Lines.{ProperLines, LinesAt}
 use Rattle.judged.specs.Contracts.Judgement.{JudgedAs}
+use Rattle.outcomes.specs.Theory.Walks.{SolvedBefore, refused-first, solved-all, none-refused}
 use Rattle.rules.specs.Theory.Proper.{walked-proper}
 use Rattle.rules.proofs.RowLaws.{rule-row}
 use Rattle.rules.proofs.KeepLaws.{leaves-refused, records-there, full-kept}
-use Rattle.rules.proofs.WalkLaws.{rule-of}
+use Rattle.rules.proofs.WalkLaws.{rule-of, rule-there}
 use Rattle.searching.proofs.NextLaws.{rule-below}
 
--- 1. The first refusal.
-abbrev SolvesBelow : List Equation → (rule : ℕ) → Type 0
-SolvesBelow es rule = (j : ℕ) (q : Equation) (f : Direction) → entry es j ≡ some q → rule-number j f < rule → Solves q f
-
-module _ (k : ℕ) (q : Equation) (qs : List Equation) where
-  abbrev on-right : Walked → Option WalkRefusal
-  on-right w = elim w [ refused r ↦ some (record { refusal = r; line = equation-line k }) | solved ls n ↦ first-refusal (suc k) qs ]
-
-  abbrev on-left : Walked → Option WalkRefusal
-  on-left w = elim w [ refused r ↦ some (record { refusal = r; line = equation-line k }) | solved ls n ↦ on-right (solve q right-left) ]
-
-  left-first : first-refusal k (q ∷ qs) ≡ on-left (solve q left-right)
-  unfolding first-refusal
-  left-first = refl
-
-  right-next : Solves q left-right → first-refusal k (q ∷ qs) ≡ on-right (solve q right-left)
-  right-next s = left-first ∙ ap on-left (s .walked)
-
-  others-next : Solves q left-right → Solves q right-left → first-refusal k (q ∷ qs) ≡ first-refusal (suc k) qs
-  others-next s t = right-next s ∙ ap on-right (t .walked)
-
-pub refused-first : (es : List Equation) (k i : ℕ) {e : Equation} (d : Direction) (why : Refusal) → entry es i ≡ some e → SolvesBelow es (rule-number i d) → solve e d ≡ refused why
-    → first-refusal k es ≡ some (record { refusal = why; line = equation-line (k + i) })
-unfolding entry direction-number
-refused-first [] k i d why x s r = let z : _≡_ {A = ℕ} 0 1 = cc in absurd (omega arith)
-refused-first (q ∷ qs) k zero {e} left-right why x s r =
-    let y : q ≡ e = cc in
-    let n : k ≡ k + 0 = omega arith in
-    left-first k q qs ∙ (ap (on-left k q qs) (ap (λ q. solve q left-right) y ∙ r) ∙ ap (λ n. some (record { refusal = why; line = equation-line n })) n)
-refused-first (q ∷ qs) k zero {e} right-left why x s r =
-    let y : q ≡ e = cc in
-    let n : k ≡ k + 0 = omega arith in
-    right-next k q qs (s 0 q left-right refl (omega arith))
-    ∙ (ap (on-right k q qs) (ap (λ q. solve q right-left) y ∙ r) ∙ ap (λ n. some (record { refusal = why; line = equation-line n })) n)
-refused-first (q ∷ qs) k (suc i) {e} d why x s r =
-    let n : suc k + i ≡ k + suc i = omega arith in
-    others-next k q qs (s 0 q left-right refl (omega arith)) (s 0 q right-left refl (omega arith))
-    ∙ (refused-first qs (suc k) i d why x (λ j p f y h. s (suc j) p f y (omega arith)) r ∙ ap (λ n. some (record { refusal = why; line = equation-line n })) n)
-
-pub none-refused : (es : List Equation) (k : ℕ) → ((j : ℕ) (q : Equation) (f : Direction) → entry es j ≡ some q → Solves q f) → first-refusal k es ≡ none
-unfolding entry first-refusal
-none-refused [] k s = refl
-none-refused (q ∷ qs) k s = others-next k q qs (s 0 q left-right refl) (s 0 q right-left refl) ∙ none-refused qs (suc k) (λ j p f x. s (suc j) p f x)
-
--- 2. Lines kept from the front of the table.
-behind-front : (n : ℕ) (part buffer : List ℕ) → length part ≤ n → drop n (placed 0 part buffer) ≡ drop n buffer
-unfolding placed
-behind-front n part buffer h =
-    let d = n - length part in
-    let far : n ≡ length part + d = omega arith in
-    let back : 0 + length part + d ≡ n = omega arith in
-    ap (λ m. drop m (part ++ drop (0 + length part) buffer)) far
-    ∙ (drop-append-add part (drop (0 + length part) buffer) d ∙ (drop-drop d (0 + length part) buffer ∙ ap (λ m. drop m buffer) back))
-
+-- 1. Lines kept from the front of the table.
 front-lines : (ls : List Line) {end : ℕ} (before : List ℕ) {after : List ℕ} → table-bytes ≤ length before → end ≡ 0 + length (trimmed-lines ls) → end ≤ table-bytes → after ≡ placed 0 (trimmed-lines ls) before
     → LinesAt after (record { from = 0; end = end }) ls
 unfolding placed
@@ -98,13 +46,13 @@ front-lines ls {end} before {after} room x y z = record {
   there = ap (take end) z ∙ take-at (trimmed-lines ls) (drop (0 + length (trimmed-lines ls)) before) end (omega (arith, x));
 }
 
--- 3. From rule to rule.
+-- 2. From rule to rule.
 -- The rule's walk solves, and its lines are kept from the front of the table to `end`.
 abbrev KeptTo : (table : List ℕ) (end : ℕ) → Equation → Direction → Type 0
 KeptTo table end e d = (ls : List Line) × (turns : ℕ) × (solve e d ≡ solved ls turns) × ProperLines e ls × LinesAt table (record { from = 0; end = end }) ls
 
 pub record JudgedSoFar (es : List Equation) (judged : ℕ) (table : List ℕ) (end rule : ℕ) : Type 0 where
-  pub solve-below : SolvesBelow es rule
+  pub solve-below : SolvedBefore es rule
   pub kept : (i : ℕ) (e : Equation) (d : Direction) → entry es i ≡ some e → judged ≡ rule-number i d → judged < rule → KeptTo table end e d
 
 module _ (equations lengths : List ℕ) (count judged : ℕ) (table₀ scratch₀ : List ℕ) where
@@ -114,11 +62,6 @@ module _ (equations lengths : List ℕ) (count judged : ℕ) (table₀ scratch�
     pub table-behind : drop table-bytes table ≡ drop table-bytes table₀
     pub scratch-behind : drop memory-bytes scratch ≡ drop memory-bytes scratch₀
     pub so-far : (arities : List ℕ) (es : List Equation) → RowsAre equations lengths arities es → count ≡ length es → JudgedSoFar es judged table end rule
-
-pub rule-there : {equations lengths : List ℕ} {count rule : ℕ} → HasRows equations lengths count → rule < count + count → HasRuleIn equations lengths rule
-rule-there {rule = rule} has h =
-    let r = rule-of (has .those) rule (omega (arith, has .counted)) in
-    record { arities = has .arities; number = r .number; equation = r .equation; direction = r .direction; is = record { row = has .are .row (r .number) (r .equation) (r .numbered); number = r .is } }
 
 pub judging-start : (equations lengths : List ℕ) (count judged : ℕ) (table scratch : List ℕ) → Judging equations lengths count judged table scratch table scratch 0 0
 judging-start equations lengths count judged table scratch = record {
@@ -138,7 +81,7 @@ module _ {equations lengths : List ℕ} {count judged : ℕ} {table₀ scratch�
   pub judging-done : count + count ≤ rule → (arities : List ℕ) (es : List Equation) → RowsAre equations lengths arities es → count ≡ length es → JudgedAs es judged table (Ended end)
   judging-done h arities es rows c =
       let s = k .so-far arities es rows c in (
-        none-refused es 0 (λ j q f x. s .solve-below j q f x (omega (arith, rule-below es j f x))),
+        none-refused 0 es (solved-all es (λ j q f x l. s .solve-below j q f x (omega arith))),
         λ i e d x y. s .kept i e d x y (omega (arith, rule-below es i d x)),
       )
 
@@ -151,8 +94,8 @@ module _ {equations lengths : List ℕ} {count judged : ℕ} {table₀ scratch�
         let r = rule-of es rule (omega (arith, c)) in
         let is : RuleIs equations lengths arities rule (r .number) (r .equation) (r .direction) = record { row = rows .row (r .number) (r .equation) (r .numbered); number = r .is } in
         let n : 0 + r .number ≡ rule / 2 = omega (arith, rule-row is) in
-        refused-first es 0 (r .number) (r .direction) why (r .numbered) (subst (SolvesBelow es) (r .is) (k .so-far arities es rows c .solve-below))
-        (leaves-refused (leaves arities (r .number) (r .equation) (r .direction) is) x)
+        refused-first 0 es (r .number) (r .direction) (r .equation) (r .numbered) (leaves-refused (leaves arities (r .number) (r .equation) (r .direction) is) x)
+        (subst (SolvedBefore es) (r .is) (k .so-far arities es rows c .solve-below))
         ∙ ap (λ n. some (record { refusal = why; line = equation-line n })) n
 
     module _ (solves : told .ending ≡ Solved) where
@@ -161,7 +104,7 @@ module _ {equations lengths : List ℕ} {count judged : ℕ} {table₀ scratch�
           let this = rule-there has there in
           record { kept = _; are = records-there (this .is .row .limits) (this .direction) (leaves (this .arities) (this .number) (this .equation) (this .direction) (this .is)) solves }
 
-      one-more-solves : (arities : List ℕ) (es : List Equation) → RowsAre equations lengths arities es → count ≡ length es → SolvesBelow es (rule + 1)
+      one-more-solves : (arities : List ℕ) (es : List Equation) → RowsAre equations lengths arities es → count ≡ length es → SolvedBefore es (rule + 1)
       one-more-solves arities es rows c j q f x h = elim (ℕ-discrete rule (rule-number j f)) [
         | yes y ↦ walk-solves (leaves arities j q f (record { row = rows .row j q x; number = y })) solves
         | no y ↦ k .so-far arities es rows c .solve-below j q f x (omega arith)
@@ -212,7 +155,7 @@ module _ {equations lengths : List ℕ} {count judged : ℕ} {table₀ scratch�
                 record {
                   table-length = ap length z ∙ (placed-length 0 part table (omega (arith, table-room)) ∙ k .table-length);
                   scratch-length = same-length ∙ k .scratch-length;
-                  table-behind = ap (drop table-bytes) z ∙ (behind-front table-bytes part table (omega arith) ∙ k .table-behind);
+                  table-behind = ap (drop table-bytes) z ∙ (drop-placed table-bytes 0 part table (omega arith) (omega arith) ∙ k .table-behind);
                   scratch-behind = same-behind ∙ k .scratch-behind;
                   so-far = λ arities es rows c. record {
                     solve-below = one-more-solves arities es rows c;

@@ -1,19 +1,19 @@
 -- Laws for the call judge: what it earns, by the task that is found and by the walks.
-use Prim.Native.Nat.{ℕ, zero, suc, _+_, _-_, _*_, _≤_, _<_}
+use Prim.Native.Nat.{ℕ, zero, suc, _+_, _*_, _≤_, _<_}
 use mathlib.Core.Path.{_≡_, refl, sym, ap, subst, _∙_}
 use mathlib.Core.Bool.{true}
 use mathlib.Core.Option.{Option, none, some}
-use mathlib.Core.List.{List, [], _∷_, _++_}
+use mathlib.Core.List.{List, [], _∷_}
 use lib.ListN.{length, take, drop}
-use lib.Seq.{drop-at, drop-drop}
 use native.Mathlib.Omega.{arith}
-use Rattle.format.specs.Limits.{no-position, max-text, max-equations, table-bytes, scratch-bytes, cell-count}
+use Rattle.format.specs.Limits.{no-position, max-text, max-equations, table-bytes, scratch-bytes}
 use Rattle.format.specs.Lists.{entry}
 use Rattle.format.specs.declared.refusal.Refusal.{Refusal}
 use Rattle.format.specs.declared.refusal.Refusal.the-variants.{AbsentArgument as absent-argument}
 use Rattle.format.specs.Theory.Lists.{entry-none, every-entry}
+use Rattle.format.specs.Theory.Behind.{behind-more}
 use Rattle.terms.specs.Term.{Term, Terms, count, Values, Grounds}
-use Rattle.terms.specs.Equation.{Equation, Direction, left-right, right-left, value}
+use Rattle.terms.specs.Equation.{Equation, Direction, value}
 use Rattle.scanning.specs.declared.known.Known.{Known}
 use Rattle.scanning.specs.Contracts.Scan.{known-arities}
 use Rattle.scanning.specs.Contracts.Known.{Roomy}
@@ -29,25 +29,24 @@ use Rattle.loading.specs.Contracts.Loading.{TermsIn, Loaded}
 use Rattle.solving.specs.Line.{Line}
 use Rattle.solving.specs.Holds.{LineHolds}
 use Rattle.solving.specs.Judge.{line-holds?, first-holding}
-use Rattle.solving.specs.Walk.{Walked, solved, refused, solve}
 use Rattle.solving.specs.Theory.Solve.{solved-line-count}
 use Rattle.reducing.specs.Test.{holding-in, holding-line, given-values}
 use Rattle.walking.specs.Contracts.Walking.{memory-bytes}
 use Rattle.outcomes.specs.Buffer.{field-limit, fields, refusal-number, filled, cleared, blanked}
 use Rattle.outcomes.specs.Asked.{found, find, asked, values-in, judgement-in, judgement-task, equation-line, WalkRefusal, first-refusal}
+use Rattle.outcomes.specs.Theory.Walks.{refusal-low}
 use Rattle.outcomes.specs.Outcome.{TableOutcome, table-unsolved, judge-fields, judge-walked, judge-answer}
 use Rattle.rules.specs.Contracts.Rows.{RowsAre, HasRows}
 use Rattle.searching.proofs.NextLaws.{rule-below}
-use Rattle.answers.proofs.Fill.{filled-behind}
-use Rattle.solutions.proofs.SolveTask.{outcome}
-use Rattle.comparisons.proofs.Stored.{cells-there}
-use Rattle.answers.proofs.Arities.{symbols-room, symbols-taken, arities-taken}
+use Rattle.answers.proofs.Outcomes.{table-outcome}
+use Rattle.answers.proofs.Fill.{cleared-behind, blanked-behind}
+use Rattle.scanning.specs.Theory.Arities.{symbols-room, symbols-taken, arities-taken}
 use Rattle.judged.specs.declared.judge.Judged.{Judged}
 use Rattle.judged.specs.declared.judge.Judged.the-variants.{Refused, End}
 use Rattle.judged.specs.Contracts.Judgement.{JudgeIs, JudgedAs}
 use Rattle.judgements.specs.Contracts.JudgeTask.{JudgementIn, HasJudgement, ValuesIn, HasValues, JudgedIn, HasJudged, JudgedNumber}
 
--- 1. Numbers that fit their fields.
+-- 1. The number of a line fits its field.
 first-holding-low : (ρ : Values) (value : ℕ → Term) (ls : List Line) → first-holding ρ value ls ≤ length ls
 unfolding first-holding
 first-holding-low ρ value [] = omega arith
@@ -58,59 +57,14 @@ first-holding-low ρ value (l ∷ ls) = go (line-holds? ρ value l) (first-holdi
     go (no x) zero b = omega arith
     go (no x) (suc i) b = omega arith
 
-line-here : (k n : ℕ) → equation-line k < equation-line (k + suc n)
-unfolding equation-line
-line-here k n = omega arith
-
-line-next : (k n : ℕ) → equation-line (suc k + n) ≡ equation-line (k + suc n)
-line-next k n = let e : suc k + n ≡ k + suc n = omega arith in ap equation-line e
-
--- A walk that is refused is one of these equations'.
-refusal-low : (k : ℕ) (es : List Equation) (r : WalkRefusal) → first-refusal k es ≡ some r → r .line < equation-line (k + length es)
-unfolding first-refusal
-refusal-low k [] r h = let z : _≡_ {A = ℕ} 0 1 = cc in absurd (omega arith)
-refusal-low k (q ∷ qs) r h = left (refusal-low (suc k) qs r) (solve q left-right) h
-  where
-    here : {x : Refusal} → some (record { refusal = x; line = equation-line k }) ≡ some r → r .line < equation-line (k + suc (length qs))
-    here {x} h = let e : record { refusal = x; line = equation-line k } ≡ r = cc in omega (arith, ap (λ r. r .line) e, line-here k (length qs))
-
-    right : (first-refusal (suc k) qs ≡ some r → r .line < equation-line (suc k + length qs)) → (w : Walked)
-        → _≡_ {A = Option WalkRefusal} (elim w [ refused x ↦ some (record { refusal = x; line = equation-line k }) | solved ls n ↦ first-refusal (suc k) qs ]) (some r)
-        → r .line < equation-line (k + suc (length qs))
-    right f (refused x) h = here h
-    right f (solved ls n) h = omega (arith, f h, line-next k (length qs))
-
-    left : (first-refusal (suc k) qs ≡ some r → r .line < equation-line (suc k + length qs)) → (w : Walked)
-        → _≡_ {A = Option WalkRefusal} (elim w [
-          | refused x ↦ some (record { refusal = x; line = equation-line k })
-          | solved ls n ↦ elim (solve q right-left) [ refused x ↦ some (record { refusal = x; line = equation-line k }) | solved ls′ n′ ↦ first-refusal (suc k) qs ]
-        ]) (some r)
-        → r .line < equation-line (k + suc (length qs))
-    left f (refused x) h = here h
-    left f (solved ls n) h = right f (solve q right-left) h
-
--- 2. What stands behind the part that is used is unchanged.
-behind-more : (n k : ℕ) (xs ys : List ℕ) → k ≤ n → drop k xs ≡ drop k ys → drop n xs ≡ drop n ys
-behind-more n k xs ys h e = behind xs ∙ (ap (drop (n - k)) e ∙ sym (behind ys))
-  where
-    behind : (zs : List ℕ) → drop n zs ≡ drop (n - k) (drop k zs)
-    behind zs = let parts : n ≡ k + (n - k) = omega arith in ap (λ m. drop m zs) parts ∙ sym (drop-drop (n - k) k zs)
-
--- The cells stand first in scratch.
-pub cells-behind : (scratch front : List ℕ) → scratch-bytes ≤ length scratch → length front ≡ length (take cell-count scratch)
-    → drop scratch-bytes (front ++ drop cell-count scratch) ≡ drop scratch-bytes scratch
-cells-behind scratch front h l =
-    behind-more scratch-bytes cell-count (front ++ drop cell-count scratch) scratch (omega arith) (drop-at front (drop cell-count scratch) cell-count (l ∙ cells-there scratch h))
-
+-- 2. The lent buffers are left blank.
 pub walk-behind : (scratch worked : List ℕ) → drop memory-bytes worked ≡ drop memory-bytes scratch → drop scratch-bytes worked ≡ drop scratch-bytes scratch
-walk-behind scratch worked h = behind-more scratch-bytes memory-bytes worked scratch (omega arith) h
+walk-behind scratch worked = behind-more scratch-bytes memory-bytes worked scratch (omega arith)
 
 pub left-over : (n : ℕ) (table table′ blank scratch scratch′ last : List ℕ) → drop table-bytes table′ ≡ drop table-bytes table → blank ≡ filled table-bytes no-position table′
-    → drop scratch-bytes scratch′ ≡ drop scratch-bytes scratch → last ≡ filled scratch-bytes 0 scratch′ → outcome n (blanked table) (cleared scratch) ≡ outcome n blank last
-unfolding blanked cleared
+    → drop scratch-bytes scratch′ ≡ drop scratch-bytes scratch → last ≡ filled scratch-bytes 0 scratch′ → table-outcome n (blanked table) (cleared scratch) ≡ table-outcome n blank last
 left-over n table table′ blank scratch scratch′ last t b s l =
-    ap (λ t. outcome n t (cleared scratch)) (sym (b ∙ filled-behind table-bytes table-bytes no-position table′ table (omega arith) t))
-    ∙ ap (outcome n blank) (sym (l ∙ filled-behind scratch-bytes scratch-bytes 0 scratch′ scratch (omega arith) s))
+    ap (λ t. table-outcome n t (cleared scratch)) (sym (blanked-behind table table′ blank t b)) ∙ ap (table-outcome n blank) (sym (cleared-behind scratch-bytes scratch scratch′ last (omega arith) s l))
 
 -- 3. The values of a judgement, and the lines of its rule.
 module _ {sheet : List ℕ} {known : Known} {from end : ℕ} {equations lengths : List ℕ} {rule : ℕ} {table : List ℕ} {filled i : ℕ} {e : Equation} {d : Direction} {ts : Terms}
@@ -195,34 +149,34 @@ module _ {sheet : List ℕ} {known : Known} {from end : ℕ} {equations lengths 
 
 -- 5. What judge earns, by the task.
 module _ (sheet table scratch : List ℕ) (task : ℕ) where
-  abbrev pub answered : TableOutcome
-  answered = judge-answer table scratch (asked true sheet (judgement-task task))
+  abbrev pub judge-answered : TableOutcome
+  judge-answered = judge-answer table scratch (asked true sheet (judgement-task task))
 
-  answer-of : (s : Sheet) → read sheet ≡ accepted s → (o : Option Task) → entry (s .tasks) task ≡ o → answered ≡ judge-answer table scratch (found (judgement-in (s .equations) o))
+  answer-of : (s : Sheet) → read sheet ≡ accepted s → (o : Option Task) → entry (s .tasks) task ≡ o → judge-answered ≡ judge-answer table scratch (found (judgement-in (s .equations) o))
   unfolding asked find judgement-task
   answer-of s r o h = ap (λ x. judge-answer table scratch (find (judgement-task task) x)) r ∙ ap (λ o. judge-answer table scratch (found (judgement-in (s .equations) o))) h
 
   module _ (known : Known) (a : Accepts sheet known) where
-    pub task-absent : known .tasks ≤ task → {n : ℕ} → n ≡ refusal-number absent-argument 0 → answered ≡ outcome n table scratch
+    pub task-absent : known .tasks ≤ task → {n : ℕ} → n ≡ refusal-number absent-argument 0 → judge-answered ≡ table-outcome n table scratch
     unfolding judge-answer found judgement-in
-    task-absent h e = let (s, r, g) = a in answer-of s r none (entry-none (s .tasks) task (omega (arith, g .tasks-are))) ∙ ap (λ n. outcome n table scratch) (sym e)
+    task-absent h e = let (s, r, g) = a in answer-of s r none (entry-none (s .tasks) task (omega (arith, g .tasks-are))) ∙ ap (λ n. table-outcome n table scratch) (sym e)
 
     module _ (there : task < known .tasks) (place : TaskFound) (each : (t : Task) → TaskIn sheet task t → TaskAt sheet t place) where
-      pub run-there : {k n : ℕ} → place .head ≡ Run k → n ≡ refusal-number absent-argument 0 → answered ≡ outcome n table scratch
+      pub run-there : {k n : ℕ} → place .head ≡ Run k → n ≡ refusal-number absent-argument 0 → judge-answered ≡ table-outcome n table scratch
       unfolding judge-answer found judgement-in
       run-there {k} h e =
           let (t, i) = task-asked sheet known task a there in
           let (u, x) = is-run t (sym (each t i .0) ∙ h) in
           let (s, r, y) = i in
-          answer-of s r (some (run k u)) (y ∙ ap some x) ∙ ap (λ n. outcome n table scratch) (sym e)
+          answer-of s r (some (run k u)) (y ∙ ap some x) ∙ ap (λ n. table-outcome n table scratch) (sym e)
 
-      pub comparison-there : {n : ℕ} → place .head ≡ Comparison → n ≡ refusal-number absent-argument 0 → answered ≡ outcome n table scratch
+      pub comparison-there : {n : ℕ} → place .head ≡ Comparison → n ≡ refusal-number absent-argument 0 → judge-answered ≡ table-outcome n table scratch
       unfolding judge-answer found judgement-in
       comparison-there h e =
           let (t, i) = task-asked sheet known task a there in
           let (u, v, x) = is-comparison t (sym (each t i .0) ∙ h) in
           let (s, r, y) = i in
-          answer-of s r (some (comparison u v)) (y ∙ ap some x) ∙ ap (λ n. outcome n table scratch) (sym e)
+          answer-of s r (some (comparison u v)) (y ∙ ap some x) ∙ ap (λ n. table-outcome n table scratch) (sym e)
 
 -- The task is a judgement.
 module _ (sheet : List ℕ) (known : Known) (task : ℕ) (a : Accepts sheet known) (there : task < known .tasks) (place : TaskFound) (each : (t : Task) → TaskIn sheet task t → TaskAt sheet t place)
@@ -285,7 +239,7 @@ module _ {sheet : List ℕ} {known : Known} {rule from end task : ℕ} (j : Judg
 
   module _ (table scratch : List ℕ) where
     answer-is : (o : Option WalkRefusal) → first-refusal 0 (parts .content .equations) ≡ o
-        → answered sheet table scratch task ≡ judge-walked table scratch (record { equations = parts .content .equations; equation = parts .equation; direction = j .direction; values = given-values (j .terms) }) o
+        → judge-answered sheet table scratch task ≡ judge-walked table scratch (record { equations = parts .content .equations; equation = parts .equation; direction = j .direction; values = given-values (j .terms) }) o
     unfolding judge-answer found judgement-in values-in
     answer-is o h =
         let es = parts .content .equations in
@@ -294,10 +248,10 @@ module _ {sheet : List ℕ} {known : Known} {rule from end task : ℕ} (j : Judg
         ∙ ap (judge-walked table scratch (record { equations = es; equation = parts .equation; direction = j .direction; values = given-values (j .terms) })) h
 
     answer-told : (worked : List ℕ) (judged : Judged) {n : ℕ} → JudgedAs (parts .content .equations) rule worked judged → JudgedNumber judged (parts .equation) (j .direction) (given-values (j .terms)) n
-        → answered sheet table scratch task ≡ outcome n (blanked table) (cleared scratch)
+        → judge-answered sheet table scratch task ≡ table-outcome n (blanked table) (cleared scratch)
     unfolding judge-walked table-unsolved
-    answer-told worked (Refused why k) w x = answer-is (some (record { refusal = why; line = equation-line k })) w ∙ ap (λ n. outcome n (blanked table) (cleared scratch)) (sym x)
-    answer-told worked (End filled) w x = answer-is none (w .0) ∙ ap (λ n. outcome n (blanked table) (cleared scratch)) (sym x)
+    answer-told worked (Refused why k) w x = answer-is (some (record { refusal = why; line = equation-line k })) w ∙ ap (λ n. table-outcome n (blanked table) (cleared scratch)) (sym x)
+    answer-told worked (End filled) w x = answer-is none (w .0) ∙ ap (λ n. table-outcome n (blanked table) (cleared scratch)) (sym x)
 
   module _ (equations lengths : List ℕ) (rows : (s : Sheet) → read sheet ≡ accepted s → RowsAre equations lengths (known-arities known) (s .equations)) where
     rows-are : RowsAre equations lengths (known-arities known) (parts .content .equations)
@@ -323,6 +277,6 @@ module _ {sheet : List ℕ} {known : Known} {rule from end task : ℕ} (j : Judg
 
       pub judgement-told : (table scratch : List ℕ) {n : ℕ}
           → ((es : List Equation) (i : ℕ) (e : Equation) (d : Direction) (ts : Terms) → JudgedIn sheet known from end equations lengths rule judged worked es i e d ts → JudgedNumber judged e d (given-values ts) n)
-          → answered sheet table scratch task ≡ outcome n (blanked table) (cleared scratch)
+          → judge-answered sheet table scratch task ≡ table-outcome n (blanked table) (cleared scratch)
       judgement-told table scratch told =
           answer-told table scratch worked judged (judged-in .walked) (told (parts .content .equations) (j .number) (parts .equation) (j .direction) (j .terms) judged-in)

@@ -1,2 +1,3 @@
 -- Laws.
 pub mod Number
+pub mod Walks

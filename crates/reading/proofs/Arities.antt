@@ -14,7 +14,7 @@ use Rattle.format.specs.Lists.{any, all}
 use Rattle.format.specs.Refusal.{Result, refuse, give}
 use Rattle.format.specs.declared.refusal.Refusal.the-variants.{SymbolFrame}
 use Rattle.format.specs.Lists.{Every}
-use Rattle.format.specs.Theory.Lists.{every-append}
+use Rattle.format.specs.Theory.Lists.{every-append, any-append}
 use Rattle.scanning.specs.declared.known.Known.{Known}
 use Rattle.scanning.specs.declared.scan.ReadStatus.{ReadStatus}
 use Rattle.scanning.specs.declared.scan.ReadStatus.the-variants.{Done, Refused}
@@ -27,15 +27,6 @@ use Rattle.scanning.specs.Theory.Listed.{length-listed, getD-listed, listed-mor
 use Rattle.scanning.specs.Theory.Between.{between-end, between-cons, two-more, first-byte}
 
 -- 1. Tests on lists, entry by entry.
-any-append : {A : Type 0} (f : A → Bool) (xs ys : List A) → any f (xs ++ ys) ≡ (any f xs || any f ys)
-unfolding any
-any-append f [] ys = refl
-any-append f (x ∷ xs) ys = ap (f x ||_) (any-append f xs ys) ∙ assoc (f x) (any f xs) (any f ys)
-  where
-    assoc : (a b c : Bool) → (a || (b || c)) ≡ ((a || b) || c)
-    assoc true b c = refl
-    assoc false b c = refl
-
 any-at : (f : ℕ → Bool) (xs : List ℕ) (i : ℕ) → i < length xs → f (getD xs i 0) ≡ true → any f xs ≡ true
 unfolding any
 any-at f [] i h e = absurd (omega arith)

@@ -29,7 +29,7 @@ use Rattle.searching.specs.Contracts.Next.{NextIs, RulesKept, HasRulesKept}
 use Rattle.seeking.specs.Contracts.Seeking.{RulesReady, RunIs}
 use Rattle.running.specs.declared.course.Course.{Course}
 use Rattle.running.specs.Contracts.Course.{CourseIs, the-run, last-of}
-use Rattle.answers.proofs.Arities.{symbols-room, symbols-taken, arities-taken}
+use Rattle.scanning.specs.Theory.Arities.{symbols-room, symbols-taken, arities-taken}
 use Rattle.reductions.specs.Contracts.RunTerm.{LinesReady, RunTermIs, Ran}
 
 -- 1. What the run starts from.

@@ -2,6 +2,5 @@ pub mod Left
 pub mod Counted
 pub mod Written
 pub mod Putting
-pub mod Ground
 pub mod Result
 pub mod Placing

@@ -15,16 +15,17 @@ use Rattle.terms.specs.Contracts.Sizes.{Measurable, node-sizes}
 use Rattle.terms.specs.Contracts.Stored.{SubjectIs, AllSymbols}
 use Rattle.terms.specs.Theory.Prefix.{ground-fits, length-prefix}
 use Rattle.terms.specs.Theory.Placed.{Placed, placed-stored, placed-measurable, placed-sizes}
+use Rattle.terms.specs.Theory.Ground.{instance-ground}
 use Rattle.terms.specs.Theory.Replace.{ground-replace}
 use Rattle.terms.specs.Theory.Symbols.{symbols-append, ground-symbols}
+use Rattle.reducing.specs.Theory.Variables.{variables-are}
 use Rattle.replacing.specs.Contracts.Replacing.{ReplacementIs}
 use Rattle.replacing.proofs.Written.{Front, written-behind}
-use Rattle.replacing.proofs.Ground.{ground-instance}
 
 pub ground-result : {bytes : List ℕ} {side : Arguments} {arities nodes lengths values : List ℕ} {node n : ℕ} {subject t : Term} {ρ : Values} {p : ℕ}
     → ReplacementIs bytes side arities nodes lengths values node n subject t ρ p → Ground arities (replace subject p (inst ρ t))
 ground-result {arities = arities} {subject = subject} {t} {ρ} {p} r =
-    ground-replace arities (inst ρ t) (ground-instance arities ρ t (r .instance-is .fits) (λ v e. r .instance-is .given v e .ground)) subject p (r .stands .stored .ground)
+    ground-replace arities (inst ρ t) (instance-ground arities ρ (λ v. Ground arities (ρ v)) (λ v g. g) t (r .instance-is .fits) (variables-are (λ v. Ground arities (ρ v)) t (λ v e. r .instance-is .given v e .ground))) subject p (r .stands .stored .ground)
 
 -- The bytes of `u` stand first in `result`, and are copied to where the subject stood.
 module _ {nodes lengths arities : List ℕ} {subject : Term} (s : SubjectIs nodes lengths arities subject) (u : Term) (g : Ground arities u)

@@ -26,7 +26,7 @@ use Rattle.sheet.specs.Theory.Accepted.{accepted-valid}
 use Rattle.scanning.specs.declared.known.Known.{Known}
 use Rattle.scanning.specs.Contracts.Scan.{known-arities}
 use Rattle.scanning.specs.Contracts.Known.{KnowsSheet}
-use Rattle.scanning.specs.Theory.Listed.{length-listed, listed-taken}
+use Rattle.scanning.specs.Theory.Arities.{arities-taken}
 use Rattle.reading.specs.Contracts.Seek.{Accepts, EquationIn, Decoded}
 use Rattle.reading.specs.Theory.Found.{equation-asked, equation-low}
 use Rattle.rules.specs.Contracts.Rows.{row-bytes, RowIs, RowsAre}
@@ -77,16 +77,9 @@ module _ (row : ℕ) (xs ys : List ℕ) (low : row ≤ length xs) where
     put-there : from-row row (put-row row xs ys) ≡ ys
     put-there = ap₂ (λ n l. take (n - row) l) put-length put-from ∙ take-at ys last-part (length xs - row) (same ∙ length-from-row row xs)
 
--- 2. The arities that are known of a sheet stand first in their array.
-module _ {known : Known} {s : Sheet} (g : KnowsSheet known s) where
-  pub symbols-room : known .symbols ≤ length (known .arities)
-  symbols-room = omega (arith, ap length (g .arities-are), length-listed (known .symbols) (known .arities), g .roomy .arities-room, g .valid .symbols .few-symbols)
-
-  pub symbols-taken : known .symbols ≡ length (take (known .symbols) (known .arities))
-  symbols-taken = sym (length-take-le (known .symbols) (known .arities) symbols-room)
-
-  arities-taken : known-arities known ≡ take (known .symbols) (known .arities)
-  arities-taken = listed-taken (known .symbols) (known .arities) symbols-room
+-- 2. The arities of an accepted sheet are few.
+pub arities-few : {known : Known} {s : Sheet} → KnowsSheet known s → length (known-arities known) ≤ max-symbols
+arities-few g = omega (arith, ap length (g .arities-are), g .valid .symbols .few-symbols)
 
 -- 3. An equation of the sheet.
 module _ (sheet : List ℕ) (known : Known) (a : Accepts sheet known) (s : Sheet) (r : read sheet ≡ accepted s) where
@@ -98,7 +91,7 @@ module _ (sheet : List ℕ) (known : Known) (a : Accepts sheet known) (s : Sheet
       subst (KnowsSheet known) d g
 
   few-arities : length (known-arities known) ≤ max-symbols
-  few-arities = omega (arith, ap length (known-sheet .arities-are), known-sheet .valid .symbols .few-symbols)
+  few-arities = arities-few known-sheet
 
   equation-valid : (i : ℕ) (q : Equation) → entry (s .equations) i ≡ some q → ValidEquation (known-arities known) q
   equation-valid i q x = subst (λ arities. ValidEquation arities q) (sym (known-sheet .arities-are)) (every-entry (ValidEquation (s .arities)) (s .equations) i (accepted-valid sheet s r .0 .equations) x)
@@ -154,7 +147,7 @@ module _ {sheet : List ℕ} {known : Known} where
             let v = equation-valid sheet known a s r e q x in
             let count = each q i .0 in
             let few = positions-few (v .limits) in
-            let arities = arities-taken (known-sheet sheet known a s r) in
+            let arities = arities-taken (known-sheet sheet known a s r .roomy) (few-arities sheet known a s r) in
             record {
               ordered = omega arith;
               few = omega (arith, count, length-nodes q, few);
@@ -198,7 +191,7 @@ module _ {sheet : List ℕ} {known : Known} where
               let v = equation-valid sheet known a s r e q x in
               let few = few-arities sheet known a s r in
               let measured : node-sizes (take (known .symbols) (known .arities)) (take n (from-row this-row after)) ≡ equation-sizes q =
-              ap₂ node-sizes (sym (arities-taken (known-sheet sheet known a s r))) (read-back q i) ∙ equation-measured (known-arities known) few q (v .left-fits) (v .right-fits) in
+              ap₂ node-sizes (sym (arities-taken (known-sheet sheet known a s r .roomy) (few-arities sheet known a s r))) (read-back q i) ∙ equation-measured (known-arities known) few q (v .left-fits) (v .right-fits) in
               record {
                 few-symbols = few;
                 limits = v .limits;

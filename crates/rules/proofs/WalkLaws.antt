@@ -1,27 +1,28 @@
 -- The walks of all rules in order: the first that is refused; and the lines of those that solve, kept one behind the other.
-use Prim.Native.Nat.{ℕ, zero, suc, _+_, _-_, _*_, _/_, _≤_, _<_}
+use Prim.Native.Nat.{ℕ, zero, suc, _+_, _*_, _/_, _≤_, _<_}
 use mathlib.Core.Path.{_≡_, refl, sym, ap, ap₂, subst, _∙_}
 use mathlib.Core.Bool.{Bool, true, false}
-use mathlib.Core.Option.{Option, none, some}
+use mathlib.Core.Option.{none, some}
 use mathlib.Core.List.{List, [], _∷_, _++_}
 use native.Mathlib.Omega.{arith}
 use native.Mathlib.Decide.{decLt}
 use lib.ListN.{length, getD, set, take, drop, length-set}
-use lib.Seq.{slice, length-take-le, take-append-le, take-take, drop-at, drop-drop, getD-set-same, getD-set-other}
+use lib.Seq.{slice, length-take-le, take-append-le, take-take, getD-set-same, getD-set-other}
 use Rattle.format.specs.Limits.{table-bytes}
 use Rattle.format.specs.Lists.{entry}
 use Rattle.format.specs.declared.refusal.Refusal.{Refusal}
 use Rattle.format.specs.Theory.Lists.{entry-length}
 use Rattle.terms.specs.Equation.{Equation, Direction, left-right, right-left, direction-number}
-use Rattle.solving.specs.Walk.{Walked, solved, refused, solve, Solves}
+use Rattle.solving.specs.Walk.{solve, Solves}
 use Rattle.walking.specs.Contracts.Walking.{memory-bytes}
 use Rattle.lines.specs.Contracts.Layout.{placed}
-use Rattle.lines.specs.Theory.Placed.{placed-length}
+use Rattle.lines.specs.Theory.Placed.{placed-length, placed-back, drop-placed}
 use Rattle.reducing.specs.Test.{EverySolves}
 use Rattle.reducing.specs.Contracts.Rules.{rule-number}
-use Rattle.outcomes.specs.Asked.{equation-line, WalkRefusal, first-refusal}
+use Rattle.outcomes.specs.Asked.{equation-line, first-refusal}
+use Rattle.outcomes.specs.Theory.Walks.{SolvedBefore, refused-first, solved-all, none-refused}
 use Rattle.judging.specs.Contracts.Trimmed.{trimmed-lines}
-use Rattle.judging.proofs.Parts.{part-slice, part-rest}
+use Rattle.judging.proofs.Parts.{part-slice}
 use Rattle.rules.specs.declared.keep.RuleKept.{RuleKept}
 use Rattle.rules.specs.declared.keep.RuleKept.the-variants.{Refused, Full, End}
 use Rattle.rules.specs.Contracts.Rows.{RowsAre, RuleIs, HasRows, HasRuleIn, bound-count}
@@ -54,67 +55,7 @@ unfolding direction-number
 rule-half i left-right h = omega arith
 rule-half i right-left h = omega arith
 
--- 2. The first refusal.
-abbrev SolvedBefore : List Equation → ℕ → Type 0
-SolvedBefore es rule = (i : ℕ) (e : Equation) (d : Direction) → entry es i ≡ some e → rule-number i d < rule → Solves e d
-
-abbrev walk-then : (number : ℕ) → Walked → Option WalkRefusal → Option WalkRefusal
-walk-then n w rest = elim w [ refused why ↦ some (record { refusal = why; line = equation-line n }) | solved ls k ↦ rest ]
-
-solves-then : (n : ℕ) {e : Equation} {d : Direction} {rest x : Option WalkRefusal} → Solves e d → rest ≡ x → walk-then n (solve e d) rest ≡ x
-solves-then n {rest = rest} s h = ap (λ w. walk-then n w rest) (s .walked) ∙ h
-
-refused-then : (n m : ℕ) {w : Walked} (rest : Option WalkRefusal) {why : Refusal} → w ≡ refused why → n ≡ m → walk-then n w rest ≡ some (record { refusal = why; line = equation-line m })
-refused-then n m rest {why} x y = ap (λ w. walk-then n w rest) x ∙ ap (λ k. some (record { refusal = why; line = equation-line k })) y
-
-later-solve : (q : Equation) (qs : List Equation) (i : ℕ) (d : Direction) → SolvedBefore (q ∷ qs) (rule-number (suc i) d) → SolvedBefore qs (rule-number i d)
-unfolding entry
-later-solve q qs i d h j f c x l = h (suc j) f c x (omega arith)
-
-first-is : (n : ℕ) (q : Equation) (qs : List Equation) → first-refusal n (q ∷ qs) ≡ walk-then n (solve q left-right) (walk-then n (solve q right-left) (first-refusal (suc n) qs))
-unfolding first-refusal
-first-is n q qs = refl
-
-first-none : (n : ℕ) → first-refusal n [] ≡ none
-unfolding first-refusal
-first-none n = refl
-
--- The equations from number `n` on.
-refused-from : (n : ℕ) (es : List Equation) (i : ℕ) (d : Direction) (e : Equation) {why : Refusal} → entry es i ≡ some e → solve e d ≡ refused why → SolvedBefore es (rule-number i d)
-    → first-refusal n es ≡ some (record { refusal = why; line = equation-line (n + i) })
-unfolding entry direction-number
-refused-from n [] i d e x y h = let z : _≡_ {A = ℕ} 0 1 = cc in absurd (omega arith)
-refused-from n (q ∷ qs) zero left-right e x y h =
-    let w : q ≡ e = cc in
-    first-is n q qs ∙ refused-then n (n + 0) _ (ap (λ f. solve f left-right) w ∙ y) (omega arith)
-refused-from n (q ∷ qs) zero right-left e x y h =
-    let w : q ≡ e = cc in
-    first-is n q qs
-    ∙ solves-then n (h 0 q left-right refl (omega arith)) (refused-then n (n + 0) _ (ap (λ f. solve f right-left) w ∙ y) (omega arith))
-refused-from n (q ∷ qs) (suc i) d e {why} x y h =
-    let w : suc n + i ≡ n + suc i = omega arith in
-    first-is n q qs
-    ∙ solves-then n (h 0 q left-right refl (omega arith))
-    (solves-then n (h 0 q right-left refl (omega arith))
-    (refused-from (suc n) qs i d e x y (later-solve q qs i d h) ∙ ap (λ k. some (record { refusal = why; line = equation-line k })) w))
-
-none-from : (n : ℕ) (es : List Equation) → SolvedBefore es (2 * length es) → first-refusal n es ≡ none
-unfolding entry direction-number
-none-from n [] h = first-none n
-none-from n (q ∷ qs) h =
-    first-is n q qs
-    ∙ solves-then n (h 0 q left-right refl (omega arith)) (solves-then n (h 0 q right-left refl (omega arith)) (none-from (suc n) qs (λ i e d x l. h (suc i) e d x (omega arith))))
-
-every-solves : (es : List Equation) → SolvedBefore es (2 * length es) → EverySolves es
-unfolding entry direction-number
-every-solves [] h = tt
-every-solves (q ∷ qs) h = (each, every-solves qs (λ i e d x l. h (suc i) e d x (omega arith)))
-  where
-    each : (d : Direction) → Solves q d
-    each left-right = h 0 q left-right refl (omega arith)
-    each right-left = h 0 q right-left refl (omega arith)
-
--- 3. A part that is put into the table: what stands before it and behind it stays.
+-- 2. A part that is put into the table: what stands before it and behind it stays.
 module _ (at : ℕ) (part buffer : List ℕ) (room : at + length part ≤ length buffer) where
   slice-before : (f t : ℕ) → t ≤ at → slice f t (placed at part buffer) ≡ slice f t buffer
   unfolding placed
@@ -122,22 +63,8 @@ module _ (at : ℕ) (part buffer : List ℕ) (room : at + length part ≤ length
       ap (drop f)
       (take-append-le t (take at buffer) (part ++ drop (at + length part) buffer) (omega (arith, length-take-le at buffer (omega arith))) ∙ take-take t at buffer h)
 
-  from-part : drop at (placed at part buffer) ≡ part ++ drop (at + length part) buffer
-  unfolding placed
-  from-part = drop-at (take at buffer) (part ++ drop (at + length part) buffer) at (length-take-le at buffer (omega arith))
-
   pub slice-placed : slice at (at + length part) (placed at part buffer) ≡ part
-  slice-placed = part-slice at (placed at part buffer) part (drop (at + length part) buffer) from-part (omega (arith, placed-length at part buffer room))
-
-  pub drop-behind : (n : ℕ) → at + length part ≤ n → drop n (placed at part buffer) ≡ drop n buffer
-  drop-behind n h =
-      let end = at + length part in
-      let further : n ≡ end + (n - end) = omega arith in
-      ap (λ m. drop m (placed at part buffer)) further
-      ∙ (sym (drop-drop (n - end) end (placed at part buffer))
-      ∙ (ap (drop (n - end)) (part-rest at (placed at part buffer) part (drop end buffer) from-part)
-      ∙ (drop-drop (n - end) end buffer
-      ∙ ap (λ m. drop m buffer) (sym further))))
+  slice-placed = part-slice at (placed at part buffer) part (drop (at + length part) buffer) (placed-back at part buffer (omega arith)) (omega (arith, placed-length at part buffer room))
 
   module _ (bounds : List ℕ) (rule bound : ℕ) where
     rule-stays : {k : ℕ} {e : Equation} {d : Direction} → RuleAt bounds buffer k e d → getD bounds (suc k) 0 ≤ at → k < rule
@@ -156,7 +83,7 @@ module _ (at : ℕ) (part buffer : List ℕ) (room : at + length part ≤ length
           };
         }
 
--- 4. The loop. The rules before `rule` solve. If they fit, their lines stand in the table up to `start`.
+-- 3. The loop. The rules before `rule` solve. If they fit, their lines stand in the table up to `start`.
 pub record WalkedTo (bounds table : List ℕ) (fits : Bool) (start rule : ℕ) (es : List Equation) : Type 0 where
   pub solve : SolvedBefore es rule
   pub kept : fits ≡ true → (i : ℕ) (e : Equation) (d : Direction) → entry es i ≡ some e → rule-number i d < rule
@@ -234,7 +161,7 @@ module _ {equations lengths : List ℕ} {count : ℕ} {table₀ scratch₀ bound
   walk-refused {why} y arities es r c =
       let o = rule-of es rule (omega (arith, t .low)) in
       let half : 0 + o .number ≡ rule / 2 = omega (arith, rule-half (o .number) (o .direction) (o .is)) in
-      refused-from 0 es (o .number) (o .direction) (o .equation) (o .numbered) (kept-as y r (o .number) (o .equation) (o .direction) (o .numbered) (o .is) .0)
+      refused-first 0 es (o .number) (o .direction) (o .equation) (o .numbered) (kept-as y r (o .number) (o .equation) (o .direction) (o .numbered) (o .is) .0)
       (λ j f d x l. t .walking .so-far arities es r c .solve j f d x (omega (arith, o .is)))
       ∙ ap (λ n. some (record { refusal = why; line = equation-line n })) half
 
@@ -324,7 +251,7 @@ module _ {equations lengths : List ℕ} {count : ℕ} {table₀ scratch₀ bound
       reached = λ f. getD-set-same bounds (rule + 1) next 0 bound-low;
       table-behind =
           ap (drop table-bytes) after-is
-          ∙ (drop-behind start placed-lines table placed-room table-bytes (let (s, ls, are, e, l, p) = this-kept y in omega arith) ∙ t .walking .table-behind);
+          ∙ (drop-placed table-bytes start placed-lines table (let r = placed-room in omega arith) (let (s, ls, are, e, l, p) = this-kept y in omega arith) ∙ t .walking .table-behind);
       scratch-behind = t .scratch-rest ∙ t .walking .scratch-behind;
       so-far = λ arities es r c. record {
         solve = one-more-solves r c (λ i e d x z. kept-as y r i e d x z .0);
@@ -355,7 +282,7 @@ module _ {equations lengths : List ℕ} {count : ℕ} {table₀ scratch₀ bound
   pub all-solve : (first-refusal 0 es ≡ none) × EverySolves es
   all-solve =
       let s : SolvedBefore es (2 * length es) = λ i e d x l. w .so-far arities es r c .solve i e d x (omega arith) in
-      (none-from 0 es s, every-solves es s)
+      let all = solved-all es s in (none-refused 0 es all, all)
 
   pub all-kept : fits ≡ true → RulesAt bounds table es
   all-kept f i e d x = w .so-far arities es r c .kept f i e d x (omega (arith, rule-low i d (entry-length es i x))) .0

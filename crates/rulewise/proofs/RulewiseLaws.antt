@@ -7,18 +7,15 @@ use mathlib.Core.List.{List, [], _∷_, _++_}
 use native.Mathlib.Omega.{arith}
 use native.Mathlib.Decide.{decLt}
 use lib.ListN.{length, getD, drop, replicate, length-replicate}
-use lib.Seq.{slice, drop-append-add, drop-drop}
+use lib.Seq.{slice}
 use Rattle.format.specs.Limits.{table-bytes, scratch-bytes, variable-count, position-count, node-count, cell-count}
 use Rattle.format.specs.Lists.{entry}
 use Rattle.format.specs.Theory.Lists.{entry-length}
-use Rattle.terms.specs.Term.{Term, Terms, var, app, nil, cons, size, sizes}
-use Rattle.terms.specs.Position.{subterms, subterms-of}
-use Rattle.terms.specs.Prefix.{prefix}
+use Rattle.format.specs.Theory.Behind.{behind-more, cells-behind}
+use Rattle.terms.specs.Term.{Term, size, sizes}
 use Rattle.terms.specs.Equation.{Equation, Direction, source}
 use Rattle.terms.specs.declared.arguments.Arguments.{Arguments}
-use Rattle.terms.specs.Contracts.Stored.{GroundStored, SubjectIs}
-use Rattle.terms.specs.Theory.Position.{subterm-first, subterm-rest}
-use Rattle.terms.specs.Theory.Stored.{stored-tail}
+use Rattle.terms.specs.Contracts.Stored.{SubjectIs}
 use Rattle.solving.specs.Walk.{Solves}
 use Rattle.reducing.specs.Match.{Match, no-match, match}
 use Rattle.reducing.specs.Run.{Step, try, step}
@@ -27,9 +24,8 @@ use Rattle.reducing.specs.Contracts.Rules.{rule-number}
 use Rattle.reducing.specs.Theory.First.{step-none, step-first}
 use Rattle.comparing.specs.Theory.Cells.{none-ready, zero-bytes}
 use Rattle.matching.specs.Contracts.Matching.{Matched, SidePart}
-use Rattle.matching.proofs.Row.{Row, row-first, row-others}
 use Rattle.walking.specs.Contracts.Walking.{memory-bytes}
-use Rattle.lines.specs.Theory.Placed.{placed-length}
+use Rattle.lines.specs.Theory.Placed.{placed-length, drop-placed}
 use Rattle.judging.specs.declared.trimmed.KeptLines.{KeptLines}
 use Rattle.judging.specs.Contracts.Trimmed.{trimmed-lines}
 use Rattle.rules.specs.declared.keep.RuleKept.{RuleKept}
@@ -40,48 +36,10 @@ use Rattle.applying.specs.Contracts.Trying.{Settled, part-at, Applies, TryIs}
 use Rattle.searching.specs.Contracts.Searching.{StepAt}
 use Rattle.rulewise.specs.Contracts.Rulewise.{MatchesFrom, SourceIs, FirstFor, KeptTry, HasKeptTry, UnkeptTry, HasUnkeptTry, AllSolve, HasAllSolve}
 use Rattle.applying.proofs.TryLaws.{none-matches}
-use Rattle.rules.proofs.WalkLaws.{rule-of, rule-low, slice-placed, drop-behind, rule-in}
+use Rattle.applying.proofs.MatchLaws.{side-part as matched-part}
+use Rattle.rules.proofs.WalkLaws.{rule-of, rule-low, slice-placed, rule-in}
 
--- 1. The part of the subject at a position stands at its node.
-module _ {nodes lengths arities : List ℕ} where
-  arguments-row : {i f : ℕ} {ts : Terms} → GroundStored nodes lengths arities i (app f ts) → Row nodes lengths arities (i + 1) ts
-  unfolding prefix subterms size
-  arguments-row g = record {
-    few-symbols = g .few-symbols;
-    ground = g .ground .2;
-    bytes = stored-tail (g .stored .bytes);
-    lengths-there = stored-tail (g .stored .lengths-there);
-    low = omega (arith, g .low);
-    within = omega (arith, g .within);
-  }
-
-  mutual
-    unfolding subterms size
-
-    part-stored : (t : Term) (i p : ℕ) → GroundStored nodes lengths arities i t → p < size t → GroundStored nodes lengths arities (i + p) (part-at t p)
-    part-stored (var v) i p g h = absurd (g .ground)
-    part-stored (app f ts) i zero g h = let e : i ≡ i + 0 = omega arith in subst (λ n. GroundStored nodes lengths arities n (app f ts)) e g
-    part-stored (app f ts) i (suc p) g h =
-        let e : (i + 1) + p ≡ i + suc p = omega arith in
-        subst (λ n. GroundStored nodes lengths arities n (part-at (app f ts) (suc p))) e (row-part ts (i + 1) p (arguments-row g) (omega arith))
-
-    row-part : (ts : Terms) (i p : ℕ) → Row nodes lengths arities i ts → p < sizes ts → GroundStored nodes lengths arities (i + p) (getD (subterms-of ts) p (var 0))
-    row-part nil i p r h = absurd (omega arith)
-    row-part (cons t ts) i p r h = elim (decLt p (size t)) [
-      | yes l ↦ subst (GroundStored nodes lengths arities (i + p)) (sym (subterm-first t ts p (var 0) l)) (part-stored t i p (row-first r) l)
-      | no n ↦
-          let e : (i + size t) + (p - size t) ≡ i + p = omega arith in
-          subst (GroundStored nodes lengths arities (i + p)) (sym (subterm-rest t ts p (var 0) (omega arith)))
-          (subst (λ n. GroundStored nodes lengths arities n (getD (subterms-of ts) (p - size t) (var 0))) e (row-part ts (i + size t) (p - size t) (row-others r) (omega arith)))
-    ]
-
-pub subject-part : {nodes sizes arities : List ℕ} {subject : Term} → SubjectIs nodes sizes arities subject → (node : ℕ) → position-count ≤ node → node < position-count + size subject
-    → GroundStored nodes sizes arities node (part-at subject (node - position-count))
-subject-part {nodes} {sizes} {arities} {subject} s node h l =
-    let e : position-count + (node - position-count) ≡ node = omega arith in
-    subst (λ n. GroundStored nodes sizes arities n (part-at subject (node - position-count))) e (part-stored subject position-count (node - position-count) (s .stored) (omega arith))
-
--- 2. The first node at which a side matches.
+-- 1. The first node at which a side matches.
 pub record Seeking (equations : List ℕ) (side : Arguments) (nodes sizes : List ℕ) (end node : ℕ) : Type 0 where
   pub low : position-count ≤ node
   pub within : node ≤ end
@@ -90,8 +48,7 @@ pub record Seeking (equations : List ℕ) (side : Arguments) (nodes sizes : List
 
 pub side-part : {equations : List ℕ} {side : Arguments} {nodes sizes : List ℕ} {end : ℕ} {arities : List ℕ} {s subject : Term} → SourceIs equations side nodes sizes end arities s subject
     → (node : ℕ) → position-count ≤ node → node < end → SidePart equations side nodes sizes node arities s (part-at subject (node - position-count))
-side-part i node h l =
-    record { fits = i .side-is .fits; spelled = i .side-is .stored .bytes; ends = i .side-is .ends; part = subject-part (i .subject-is) node h (omega (arith, i .inside)) }
+side-part i node h l = matched-part (i .side-is) (i .subject-is) (omega (arith, i .inside)) (omega arith)
 
 not-matched : (nodes sizes arities values : List ℕ) {r : Bool} (o : Option Match) → Matched nodes sizes arities o values r → r ≡ false → o ≡ none
 not-matched nodes sizes arities values none m h = refl
@@ -122,7 +79,7 @@ module _ {equations : List ℕ} {side : Arguments} {nodes sizes : List ℕ} {end
   pub seeking-done : end ≤ node → (arities : List ℕ) (s subject : Term) → SourceIs equations side nodes sizes end arities s subject → MatchesFrom s subject end end
   seeking-done h arities s subject i = record { within = omega arith; low = i .low; none-before = λ p l. k .none-before arities s subject i p (omega arith) }
 
--- 3. The first node at which a rule can step.
+-- 2. The first node at which a rule can step.
 module _ (equations lengths : List ℕ) (rule : ℕ) (table : List ℕ) (lines : KeptLines) (nodes₀ sizes₀ : List ℕ) (from end : ℕ) where
   pub record Trying (nodes sizes ready cells : List ℕ) (node : ℕ) : Type 0 where
     pub low : from ≤ node
@@ -200,7 +157,7 @@ module _ {equations lengths : List ℕ} {rule : ℕ} {table : List ℕ} {lines :
     trying-done h arities i e d subject t =
         record { within = omega arith; none-before = λ p l. k .none-before arities i e d subject t p (omega arith); can = λ l. absurd (omega arith) }
 
--- 4. A rule whose lines are not kept.
+-- 3. A rule whose lines are not kept.
 module _ {equations lengths : List ℕ} {rule : ℕ} {nodes sizes : List ℕ} {end : ℕ} {arities : List ℕ} {i : ℕ} {e : Equation} {d : Direction} {subject : Term}
     (u : UnkeptTry equations lengths rule nodes sizes end arities i e d subject) where
   pub none-for : ((p : ℕ) → position-count + p < end → try line-test subject p (part-at subject p) i e d ≡ none) → FirstFor subject i e d end end
@@ -245,28 +202,16 @@ pub front-behind : {equations lengths : List ℕ} {rule : ℕ} {nodes sizes : Li
 front-behind h table after r room k =
     let (last, y) = kept-ends (h .is) table after r k in
     let (s, ls, are, x, low, put) = subst (RuleKeptAs (h .equation) (h .direction) 0 table after) y k in
-    ap (drop table-bytes) put ∙ drop-behind 0 (trimmed-lines ls) table (omega arith) table-bytes (omega arith)
+    ap (drop table-bytes) put ∙ drop-placed table-bytes 0 (trimmed-lines ls) table (omega arith) (omega arith)
 
 -- A walk's memory and the cells are at the front of scratch.
 pub scratch-after-walk : (before after : List ℕ) → drop memory-bytes after ≡ drop memory-bytes before → drop scratch-bytes after ≡ drop scratch-bytes before
-scratch-after-walk before after h =
-    let n : memory-bytes + (scratch-bytes - memory-bytes) ≡ scratch-bytes = omega arith in
-    ap (λ m. drop m after) (sym n)
-    ∙ (sym (drop-drop (scratch-bytes - memory-bytes) memory-bytes after)
-    ∙ (ap (drop (scratch-bytes - memory-bytes)) h
-    ∙ (drop-drop (scratch-bytes - memory-bytes) memory-bytes before
-    ∙ ap (λ m. drop m before) n)))
+scratch-after-walk before after h = behind-more scratch-bytes memory-bytes after before (omega arith) h
 
 pub scratch-after-cells : (cells walked : List ℕ) → length cells ≡ cell-count → drop scratch-bytes (cells ++ drop cell-count walked) ≡ drop scratch-bytes walked
-scratch-after-cells cells walked h =
-    let n : scratch-bytes ≡ length cells + (scratch-bytes - cell-count) = omega arith in
-    let m : cell-count + (scratch-bytes - cell-count) ≡ scratch-bytes = omega arith in
-    ap (λ k. drop k (cells ++ drop cell-count walked)) n
-    ∙ (drop-append-add cells (drop cell-count walked) (scratch-bytes - cell-count)
-    ∙ (drop-drop (scratch-bytes - cell-count) cell-count walked
-    ∙ ap (λ k. drop k walked) m))
+scratch-after-cells cells walked h = cells-behind walked cells h
 
--- 5. The first step of all. The rules before `rule` cannot step before node `best`; rule `found`, if there is one, can step there, and none before it can.
+-- 4. The first step of all. The rules before `rule` cannot step before node `best`; rule `found`, if there is one, can step there, and none before it can.
 pub record FoundHere (es : List Equation) (subject : Term) (best found : ℕ) : Type 0 where
   pub number : ℕ
   pub equation : Equation

@@ -1,18 +1,19 @@
 -- Laws for the call run: what it earns, by the walks and by the task that is found.
-use Prim.Native.Nat.{ℕ, suc, _+_, _≤_, _<_}
+use Prim.Native.Nat.{ℕ, _+_, _≤_, _<_}
 use mathlib.Core.Path.{_≡_, refl, sym, ap, subst, _∙_}
-use mathlib.Core.Bool.{true, false}
+use mathlib.Core.Bool.{true}
 use mathlib.Core.Option.{Option, none, some}
-use mathlib.Core.List.{List, [], _∷_, append-nil}
+use mathlib.Core.List.{List, append-nil}
 use lib.ListN.{length, drop}
 use native.Mathlib.Omega.{arith}
-use Rattle.format.specs.Limits.{no-position, max-equations, max-steps, table-bytes, scratch-bytes}
+use Rattle.format.specs.Limits.{max-equations, max-steps, scratch-bytes}
 use Rattle.format.specs.Lists.{entry}
 use Rattle.format.specs.Theory.Lists.{entry-none, every-entry}
+use Rattle.format.specs.Theory.Behind.{behind-more}
 use Rattle.format.specs.declared.refusal.Refusal.{Refusal}
 use Rattle.format.specs.declared.refusal.Refusal.the-variants.{AbsentArgument as absent-argument}
 use Rattle.terms.specs.Term.{Term, nil, cons, size, Ground}
-use Rattle.terms.specs.Equation.{Equation, left-right, right-left}
+use Rattle.terms.specs.Equation.{Equation}
 use Rattle.terms.specs.Prefix.{prefix}
 use Rattle.sheet.specs.Sheet.{Task, run, judgement, comparison, Sheet}
 use Rattle.sheet.specs.Reading.{accepted, read}
@@ -25,54 +26,23 @@ use Rattle.reading.specs.declared.seek.TaskHead.the-variants.{Run, Judgement, C
 use Rattle.reading.specs.Contracts.Seek.{Accepts, TaskIn, TaskAt, Spans, task-terms}
 use Rattle.reading.specs.Theory.Found.{task-asked, is-run, is-judgement, is-comparison}
 use Rattle.loading.specs.Contracts.Loading.{TermsIn}
-use Rattle.solving.specs.Walk.{Walked, solved, refused, solve}
-use Rattle.outcomes.specs.Buffer.{refusal-number, filled, cleared, blanked}
-use Rattle.outcomes.specs.Asked.{found, find, asked, reduction-in, reduction-task, equation-line, WalkRefusal, first-refusal}
+use Rattle.outcomes.specs.Buffer.{refusal-number, cleared, blanked}
+use Rattle.outcomes.specs.Asked.{found, find, asked, reduction-in, reduction-task, equation-line, first-refusal}
+use Rattle.outcomes.specs.Theory.Walks.{refusal-low}
 use Rattle.outcomes.specs.Outcome.{RunOutcome, run-done, run-walked, run-answer}
 use Rattle.walking.specs.Contracts.Walking.{memory-bytes}
 use Rattle.rules.specs.declared.walks.Walks.{Walks}
 use Rattle.rules.specs.declared.walks.Walks.the-variants.{Refused, Full, Kept}
 use Rattle.rules.specs.Contracts.Rows.{RowsAre, bound-count}
 use Rattle.rules.specs.Contracts.Walks.{WalksAs}
-use Rattle.answers.proofs.Fill.{filled-behind}
-use Rattle.solutions.proofs.SolveTask.{walk-cleared}
 use Rattle.reductions.specs.Contracts.RunTerm.{LinesReady, RunTermIs, Ran}
 use Rattle.runs.specs.Contracts.RunTask.{fit-together, RanAs, ReductionIn}
 
 -- 1. The walks.
-module _ (n : ℕ) (e : Equation) (es : List Equation) where
-  abbrev after-second : Walked → Option WalkRefusal
-  after-second w = elim w [ refused r ↦ some (record { refusal = r; line = equation-line n }) | solved ls t ↦ first-refusal (suc n) es ]
-
-  abbrev after-first : Walked → Option WalkRefusal
-  after-first w = elim w [ refused r ↦ some (record { refusal = r; line = equation-line n }) | solved ls t ↦ after-second (solve e right-left) ]
-
--- The line of a refusal is an equation's.
-refused-low : (n : ℕ) (es : List Equation) (why : Refusal) (line : ℕ) → first-refusal n es ≡ some (record { refusal = why; line = line }) → line < n + length es + 2
-unfolding first-refusal equation-line
-refused-low n [] why line h = let z : _≡_ {A = ℕ} 0 1 = cc in absurd (omega arith)
-refused-low n (e ∷ es) why line h = left (refused-low (suc n) es why line) (solve e left-right) h
-  where
-    here : (r : Refusal) → _≡_ {A = Option WalkRefusal} (some (record { refusal = r; line = n + 2 })) (some (record { refusal = why; line = line })) → line < n + suc (length es) + 2
-    here r h =
-        let same : _≡_ {A = WalkRefusal} (record { refusal = r; line = n + 2 }) (record { refusal = why; line = line }) = cc in
-        let x : n + 2 ≡ line = ap (λ w. w .line) same in
-        omega arith
-
-    right : (first-refusal (suc n) es ≡ some (record { refusal = why; line = line }) → line < suc n + length es + 2) → (w : Walked)
-        → after-second n e es w ≡ some (record { refusal = why; line = line }) → line < n + suc (length es) + 2
-    right ih (refused r) h = here r h
-    right ih (solved ls t) h = let x = ih h in omega arith
-
-    left : (first-refusal (suc n) es ≡ some (record { refusal = why; line = line }) → line < suc n + length es + 2) → (w : Walked)
-        → after-first n e es w ≡ some (record { refusal = why; line = line }) → line < n + suc (length es) + 2
-    left ih (refused r) h = here r h
-    left ih (solved ls t) h = right ih (solve e right-left) h
-
 module _ (es : List Equation) (bounds table : List ℕ) where
   pub number-low : {walks : Walks} {why : Refusal} {number : ℕ} → length es ≤ max-equations → WalksAs es bounds table walks → walks ≡ Refused why number → number < max-equations
   unfolding equation-line
-  number-low {walks} {why} {number} l w e = let x = refused-low 0 es why (number + 2) (subst (WalksAs es bounds table) e w) in omega arith
+  number-low {why = why} {number} l w e = omega (arith, refusal-low 0 es (record { refusal = why; line = equation-line number }) (subst (WalksAs es bounds table) e w))
 
   pub walks-ready : (walks : Walks) → ((why : Refusal) (number : ℕ) → walks ≡ Refused why number → ⊥) → WalksAs es bounds table walks → LinesReady (fit-together walks) bounds table es
   walks-ready (Refused why number) other w = absurd (other why number refl)
@@ -94,14 +64,8 @@ refused-as es k subject term log {r} e x = subst (λ w. RanAs w es k subject ter
 abbrev pub outcome : ℕ → (table scratch term log : List ℕ) → RunOutcome
 outcome n table scratch term log = record { returned = n; table = table; scratch = scratch; term = term; log = log }
 
-pub table-blanked : (table kept worked last : List ℕ) → drop table-bytes kept ≡ drop table-bytes table → drop table-bytes worked ≡ drop table-bytes kept
-    → last ≡ filled table-bytes no-position worked → last ≡ blanked table
-unfolding blanked
-table-blanked table kept worked last g h e = e ∙ filled-behind table-bytes table-bytes no-position worked table (omega arith) (h ∙ g)
-
-pub scratch-cleared : (scratch kept worked last : List ℕ) → drop memory-bytes kept ≡ drop memory-bytes scratch → drop scratch-bytes worked ≡ drop scratch-bytes kept
-    → last ≡ filled scratch-bytes 0 worked → last ≡ cleared scratch
-scratch-cleared scratch kept worked last g h e = walk-cleared scratch kept last g (e ∙ filled-behind scratch-bytes scratch-bytes 0 worked kept (omega arith) h)
+pub scratch-behind : (scratch kept worked : List ℕ) → drop memory-bytes kept ≡ drop memory-bytes scratch → drop scratch-bytes worked ≡ drop scratch-bytes kept → drop scratch-bytes worked ≡ drop scratch-bytes scratch
+scratch-behind scratch kept worked g h = h ∙ behind-more scratch-bytes memory-bytes kept scratch (omega arith) g
 
 module _ (table scratch term log : List ℕ) (k : ℕ) (subject : Term) {r : ℕ} {blank clear term-after log-after : List ℕ} (b : blank ≡ blanked table) (c : clear ≡ cleared scratch) where
   left-as : (n : ℕ) (t l : List ℕ) → r ≡ n → term-after ≡ t → log-after ≡ l → outcome n (blanked table) (cleared scratch) t l ≡ outcome r blank clear term-after log-after

@@ -1,4 +1,5 @@
 -- Laws.
 pub mod Between
 pub mod Listed
+pub mod Arities
 pub mod Status

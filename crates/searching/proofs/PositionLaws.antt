@@ -26,7 +26,7 @@ use Rattle.rules.specs.Contracts.Walks.{RuleAt}
 use Rattle.searching.specs.Contracts.Next.{next-at, SearchIs, HasSearch, HasSearchAt}
 use Rattle.applying.specs.Contracts.Trying.{Settled, part-at, Applies, TryIs, HasTry}
 use Rattle.searching.specs.Contracts.Searching.{FirstRule, StepAt}
-use Rattle.applying.specs.Theory.Parts.{part-stored}
+use Rattle.comparing.specs.Theory.Stored.{part-stored}
 use Rattle.rules.proofs.WalkLaws.{rule-of}
 use Rattle.searching.proofs.NextLaws.{rule-below}
 
@@ -40,7 +40,7 @@ record SymbolIs (arities : List ℕ) (f : ℕ) (t : Term) : Type 0 where
 symbol-at : {nodes sizes arities : List ℕ} {subject : Term} {node p : ℕ} → SubjectIs nodes sizes arities subject → p < size subject → node ≡ position-count + p
     → SymbolIs arities (getD nodes node 0) (part-at subject p)
 unfolding prefix
-symbol-at {nodes} {sizes} {arities} {subject} {node} {p} s h e = go (part-at subject p) (subst (λ i. GroundStored nodes sizes arities i (part-at subject p)) (sym e) (part-stored s p h))
+symbol-at {nodes} {sizes} {arities} {subject} {node} {p} s h e = go (part-at subject p) (subst (λ i. GroundStored nodes sizes arities i (part-at subject p)) (sym e) (part-stored (s .stored) p h))
   where
     go : (t : Term) → GroundStored nodes sizes arities node t → SymbolIs arities (getD nodes node 0) t
     go (var v) g = absurd (g .ground)

@@ -36,39 +36,36 @@ use Rattle.solver.specs.Theory.Equation.{some-direction}
 use Rattle.solver.specs.Contracts.Equation.{EquationIs, HasEquation}
 use Rattle.walking.specs.Contracts.Walking.{memory-bytes}
 use Rattle.solver.specs.Contracts.Reports.{ReportsEnd, Reports}
-use Rattle.answers.proofs.Fill.{filled-behind}
-use Rattle.answers.proofs.Arities.{arities-taken}
-
-abbrev pub outcome : ℕ → (table scratch : List ℕ) → TableOutcome
-outcome n table scratch = record { returned = n; table = table; scratch = scratch }
+use Rattle.answers.proofs.Outcomes.{table-outcome}
+use Rattle.answers.proofs.Fill.{cleared-behind}
+use Rattle.scanning.specs.Theory.Arities.{arities-taken}
 
 -- 1. What is left after a walk.
 pub walk-cleared : (scratch worked last : List ℕ) → drop memory-bytes worked ≡ drop memory-bytes scratch → last ≡ filled scratch-bytes 0 worked → last ≡ cleared scratch
-unfolding cleared
-walk-cleared scratch worked last h e = e ∙ filled-behind scratch-bytes memory-bytes 0 worked scratch (omega arith) h
+walk-cleared scratch worked last = cleared-behind memory-bytes scratch worked last (omega arith)
 
 module _ (equation : ℕ) (scratch : List ℕ) {w : Walked} {table after : List ℕ} {told : Reported} (t : Reports w table after told) where
   pub walk-solved : {n : ℕ} {last : List ℕ} → told .ending ≡ Solved → n ≡ fields (told .lines) (told .turns) 0 → last ≡ cleared scratch
-      → solve-walked equation table scratch w ≡ outcome n after last
+      → solve-walked equation table scratch w ≡ table-outcome n after last
   unfolding solve-walked
   walk-solved {n} {last} x e c =
       let (ls, y, l, a) = subst (λ e. ReportsEnd w table after e (told .lines) (told .turns)) x (t .ends) in
       ap (solve-walked equation table scratch) y
-      ∙ ap (λ k. outcome (fields k (told .turns) 0) (written (records ls) table) (cleared scratch)) (sym l)
-      ∙ ap (λ n. outcome n (written (records ls) table) (cleared scratch)) (sym e)
-      ∙ ap (λ a. outcome n a (cleared scratch)) (sym a)
-      ∙ ap (outcome n after) (sym c)
+      ∙ ap (λ k. table-outcome (fields k (told .turns) 0) (written (records ls) table) (cleared scratch)) (sym l)
+      ∙ ap (λ n. table-outcome n (written (records ls) table) (cleared scratch)) (sym e)
+      ∙ ap (λ a. table-outcome n a (cleared scratch)) (sym a)
+      ∙ ap (table-outcome n after) (sym c)
 
   pub walk-refused : {n : ℕ} {why : Refusal} {blank last : List ℕ} → told .ending ≡ Refused why → n ≡ refusal-number why (equation + 2) → blank ≡ filled table-bytes no-position after → last ≡ cleared scratch
-      → solve-walked equation table scratch w ≡ outcome n blank last
+      → solve-walked equation table scratch w ≡ table-outcome n blank last
   unfolding solve-walked table-unsolved equation-line blanked
   walk-refused {n} {why} {blank} {last} x e b c =
       let (y, a) = subst (λ e. ReportsEnd w table after e (told .lines) (told .turns)) x (t .ends) in
       ap (solve-walked equation table scratch) y
-      ∙ ap (λ n. outcome n (filled table-bytes no-position table) (cleared scratch)) (sym e)
-      ∙ ap (λ a. outcome n (filled table-bytes no-position a) (cleared scratch)) (sym a)
-      ∙ ap (λ b. outcome n b (cleared scratch)) (sym b)
-      ∙ ap (outcome n blank) (sym c)
+      ∙ ap (λ n. table-outcome n (filled table-bytes no-position table) (cleared scratch)) (sym e)
+      ∙ ap (λ a. table-outcome n (filled table-bytes no-position a) (cleared scratch)) (sym a)
+      ∙ ap (λ b. table-outcome n b (cleared scratch)) (sym b)
+      ∙ ap (table-outcome n blank) (sym c)
 
 -- The counts of a walk that solves fit their fields.
 pub counts-low : (d : Direction) {bytes arities table after : List ℕ} {e : Equation} {told : Reported} → EquationIs bytes arities e → Reports (solve e d) table after told → told .ending ≡ Solved
@@ -119,11 +116,11 @@ module _ (sheet : List ℕ) (equation : ℕ) (known : Known) (a : Accepts sheet 
 
 -- What solve earns there.
 module _ (sheet table scratch : List ℕ) (equation direction : ℕ) where
-  abbrev pub answered : TableOutcome
-  answered = solve-answer equation table scratch (asked true sheet (solve-directed equation direction))
+  abbrev pub solve-answered : TableOutcome
+  solve-answered = solve-answer equation table scratch (asked true sheet (solve-directed equation direction))
 
   answer-of : (s : Sheet) → read sheet ≡ accepted s → (o : Option Equation) (d : Option Direction) → entry (s .equations) equation ≡ o → direction-of direction ≡ d
-      → answered ≡ solve-answer equation table scratch (found (directed-in o d))
+      → solve-answered ≡ solve-answer equation table scratch (found (directed-in o d))
   unfolding asked find solve-directed
   answer-of s r o d x y =
       ap (λ x. solve-answer equation table scratch (find (solve-directed equation direction) x)) r
@@ -131,21 +128,21 @@ module _ (sheet table scratch : List ℕ) (equation direction : ℕ) where
       ∙ ap (λ d. solve-answer equation table scratch (found (directed-in o d))) y
 
   module _ (known : Known) (a : Accepts sheet known) where
-    pub equation-absent : known .equations ≤ equation → {n : ℕ} → n ≡ refusal-number absent-argument 0 → answered ≡ outcome n table scratch
+    pub equation-absent : known .equations ≤ equation → {n : ℕ} → n ≡ refusal-number absent-argument 0 → solve-answered ≡ table-outcome n table scratch
     unfolding solve-answer found directed-in
     equation-absent h e =
         let (s, r, g) = a in
-        answer-of s r none (direction-of direction) (entry-none (s .equations) equation (omega (arith, g .equations-are))) refl ∙ ap (λ n. outcome n table scratch) (sym e)
+        answer-of s r none (direction-of direction) (entry-none (s .equations) equation (omega (arith, g .equations-are))) refl ∙ ap (λ n. table-outcome n table scratch) (sym e)
 
     module _ (there : equation < known .equations) where
-      pub direction-absent : 2 ≤ direction → {n : ℕ} → n ≡ refusal-number absent-argument 0 → answered ≡ outcome n table scratch
+      pub direction-absent : 2 ≤ direction → {n : ℕ} → n ≡ refusal-number absent-argument 0 → solve-answered ≡ table-outcome n table scratch
       unfolding solve-answer found directed-in
       direction-absent h e =
           let (q, (s, r, x)) = equation-asked sheet known equation a there in
-          answer-of s r (some q) none x (no-direction direction h) ∙ ap (λ n. outcome n table scratch) (sym e)
+          answer-of s r (some q) none x (no-direction direction h) ∙ ap (λ n. table-outcome n table scratch) (sym e)
 
       pub equation-answer : direction < 2 → {o : TableOutcome} (bytes arities : List ℕ) → ((q : Equation) → EquationIn sheet equation q → EquationIs bytes arities q)
-          → ((e : Equation) (d : Direction) → EquationIs bytes arities e → direction-of direction ≡ some d → solve-walked equation table scratch (solve e d) ≡ o) → answered ≡ o
+          → ((e : Equation) (d : Direction) → EquationIs bytes arities e → direction-of direction ≡ some d → solve-walked equation table scratch (solve e d) ≡ o) → solve-answered ≡ o
       unfolding solve-answer found directed-in
       equation-answer h bytes arities f w =
           let (q, i) = equation-asked sheet known equation a there in

@@ -28,9 +28,9 @@ use Rattle.lines.specs.Contracts.Room.{lines-bytes}
 use Rattle.walking.specs.Contracts.WellFormed.{WellFormed}
 use Rattle.walking.specs.Contracts.Walking.{memory-bytes, whole-walk, Walking, left-to-do, GoesOn, Advances, AdvancesAs, EndsAs, WalkEnds}
 use Rattle.unifying.specs.Theory.PrefixForm.{form-layout}
-use Rattle.lines.specs.Theory.Placed.{placed-length}
+use Rattle.lines.specs.Theory.Placed.{placed-length, placed-back}
 use Rattle.lines.specs.Theory.Line.{opening-means}
-use Rattle.walking.proofs.Walking.{placed-back, well-formed-length, ended}
+use Rattle.walking.proofs.Walking.{well-formed-length, ended}
 
 -- 1. The opening line.
 module _ {nodes sizes : List ℕ} (laid : InPrefixForm nodes sizes) (s t : ℕ) (i : s < length nodes) (j : t < length nodes) where

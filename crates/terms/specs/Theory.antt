@@ -9,6 +9,7 @@ pub mod Append
 pub mod Sizes
 pub mod Stored
 pub mod Variables
+pub mod Ground
 pub mod Spelled
 pub mod Symbols
 pub mod Replace

@@ -7,6 +7,7 @@ use mathlib.Core.List.{List, [], _∷_, _++_, map}
 use lib.ListN.{length}
 use borrow.Author.Tests.{lt-ltb, le-ltb}
 use Rattle.format.specs.Lists.{any}
+use Rattle.format.specs.Theory.Lists.{any-append}
 use Rattle.format.specs.Limits.{max-lines}
 use Rattle.format.specs.declared.refusal.Refusal.{Refusal}
 use Rattle.format.specs.declared.refusal.Refusal.the-variants.{TooManyTurns as too-many-turns, TooManyElements as too-many-elements, TooManyLines as too-many-lines}
@@ -61,15 +62,6 @@ module _ (view : ℕ → Node) where
   turn-some (f ∷ fs) l ls new h x = rw (h .0 .nothing-left, turn-some fs l ls new (h .1) x, turn)
 
 -- The limits: only new lines can be too long.
-any-append : {A : Type 0} (f : A → Bool) (xs ys : List A) → any f (xs ++ ys) ≡ (any f xs || any f ys)
-unfolding any
-any-append f [] ys = refl
-any-append f (a ∷ xs) ys = go (f a) (any-append f xs ys)
-  where
-    go : (b : Bool) → any f (xs ++ ys) ≡ (any f xs || any f ys) → (b || any f (xs ++ ys)) ≡ ((b || any f xs) || any f ys)
-    go true h = refl
-    go false h = h
-
 pub short-append : (xs ys : List Line) → any crowded xs ≡ false → any crowded ys ≡ false → any crowded (xs ++ ys) ≡ false
 short-append xs ys h k = any-append crowded xs ys ∙ rw (h, k)
 

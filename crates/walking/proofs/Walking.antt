@@ -4,15 +4,15 @@ use mathlib.Core.Path.{_≡_, refl, sym, ap, _∙_}
 use mathlib.Core.Bool.{true, false}
 use mathlib.Core.Option.{some}
 use mathlib.Core.List.{List, [], _∷_, _++_, map, map-append, append-assoc, append-nil}
-use lib.ListN.{length, take, drop, length-append, length-map, length-replicate}
-use lib.Seq.{slice, take-append-le, take-take, drop-at, take-at, drop-drop, drop-append-add, length-take-le}
+use lib.ListN.{length, take, drop, length-append, length-map}
+use lib.Seq.{slice, take-append-le, take-take, drop-at, take-at, drop-drop, length-take-le}
 use borrow.Author.Tests.{le-ltb}
 use native.Mathlib.Omega.{arith}
 use Rattle.format.specs.Lists.{any}
-use Rattle.format.specs.Limits.{variable-count, max-elements, max-lines, max-turns, record-bytes}
+use Rattle.format.specs.Limits.{max-elements, max-lines, max-turns, record-bytes}
 use Rattle.format.specs.declared.refusal.Refusal.{Refusal}
 use Rattle.format.specs.declared.refusal.Refusal.the-variants.{TooManyTurns as too-many-turns, TooManyElements as too-many-elements, TooManyLines as too-many-lines}
-use Rattle.solving.specs.Line.{Element, equal, greater, Line, line, element-bytes, record-of, records}
+use Rattle.solving.specs.Line.{Element, Line, record-of, records}
 use Rattle.solving.specs.Walk.{enough, treat-line, turn, crowded, over-limit, solved, refused, walk-from}
 use Rattle.walking.specs.declared.walk.Walk.{Walk}
 use Rattle.unifying.specs.Contracts.PrefixForm.{view-of, InPrefixForm}
@@ -22,8 +22,9 @@ use Rattle.lines.specs.Contracts.Layout.{line-bytes, placed}
 use Rattle.lines.specs.Contracts.Room.{lines-bytes}
 use Rattle.walking.specs.Contracts.WellFormed.{KnownReduced, WellFormed}
 use Rattle.walking.specs.Contracts.Walking.{AllWellFormed, HoldsTable, whole-walk, Walking, GoesOn}
+use Rattle.solving.specs.Theory.Records.{length-record-of}
 use Rattle.unifying.specs.Theory.Bindings.{length-bindings, readable-slots}
-use Rattle.lines.specs.Theory.Placed.{placed-length}
+use Rattle.lines.specs.Theory.Placed.{placed-length, placed-back, drop-placed}
 use Rattle.lines.specs.Theory.InPlace.{slice-is, lines-append}
 use Rattle.lines.specs.Theory.Resting.{length-resting}
 use Rattle.walking.proofs.Turn.{Settled, leftmost-none, finished-append, turn-none, turn-some, short-append, finished-short, crowded-middle, over-elements, over-lines, within-limits, walk-ends, walk-too-long, walk-over, walk-on}
@@ -34,10 +35,6 @@ unfolding placed
 placed-front k at part buffer h l =
     let e = length-take-le at buffer l in
     take-append-le k (take at buffer) (part ++ drop (at + length part) buffer) (omega arith) ∙ take-take k at buffer h
-
-pub placed-back : (at : ℕ) (part buffer : List ℕ) → at ≤ length buffer → drop at (placed at part buffer) ≡ part ++ drop (at + length part) buffer
-unfolding placed
-placed-back at part buffer l = drop-at (take at buffer) (part ++ drop (at + length part) buffer) at (length-take-le at buffer l)
 
 -- 2. The stack of unfinished lines.
 pub well-formed-length : {nodes sizes : List ℕ} (l : RestingLine) → WellFormed nodes sizes l → length (resting-bytes l) ≡ line-bytes
@@ -171,15 +168,6 @@ module _ (nodes sizes memory : List ℕ) (w : Walk) (finished : List Line) (firs
           }
 
 -- 5. The line is finished.
-length-record-of : (bs : List ℕ) (es : List Element) → length bs ≡ variable-count → length es ≤ max-elements → length (record-of (line (bindings-of bs) es)) ≡ record-bytes
-unfolding record-of
-length-record-of bs es h k = simp (length-append, length-map, length-replicate) (omega (arith, length-elements es, length-bindings bs))
-  where
-    length-elements : (es : List Element) → length (element-bytes es) ≡ 2 * length es
-    length-elements [] = refl
-    length-elements (equal p q ∷ es) = omega (arith, length-elements es)
-    length-elements (greater p q ∷ es) = omega (arith, length-elements es)
-
 pub settled : (nodes sizes bs : List ℕ) (es : List Element) → KnownReduced nodes sizes bs es → Settled (view-of nodes sizes) (bindings-of bs) es
 settled nodes sizes bs [] h = tt
 settled nodes sizes bs (e ∷ es) h = (h .0, settled nodes sizes bs es (h .1))
@@ -188,17 +176,6 @@ records-one-more : (fs : List Line) (l : Line) → records (fs ++ (l ∷ [])) �
 unfolding records
 records-one-more [] l = append-nil (record-of l)
 records-one-more (f ∷ fs) l = ap (record-of f ++_) (records-one-more fs l) ∙ sym (append-assoc (record-of f) (records fs) (record-of l))
-
-placed-over : (k at : ℕ) (part buffer : List ℕ) → at ≤ length buffer → at + length part ≤ k → drop k (placed at part buffer) ≡ drop k buffer
-placed-over k at part buffer l h =
-    let j = k - (at + length part) in
-    let e : k ≡ at + (length part + j) = omega arith in
-    let d : k ≡ at + length part + j = omega arith in
-    ap (λ n. drop n (placed at part buffer)) e
-    ∙ (sym (drop-drop (length part + j) at (placed at part buffer))
-    ∙ (ap (drop (length part + j)) (placed-back at part buffer l)
-    ∙ (drop-append-add part (drop (at + length part) buffer) j
-    ∙ (drop-drop j (at + length part) buffer ∙ ap (λ n. drop n buffer) (sym d)))))
 
 placed-through : (at : ℕ) (part buffer : List ℕ) → at ≤ length buffer → take (at + length part) (placed at part buffer) ≡ take at buffer ++ part
 unfolding placed
@@ -217,7 +194,7 @@ module _ (nodes sizes memory : List ℕ) (w : Walk) (finished : List Line) (firs
   unfolding line-of treat-line crowded
   finished-on laid within memory′ r e =
       let s = m .all-well-formed .0 in
-      let k : length (record-of (line-of first)) ≡ record-bytes = length-record-of (first .bindings) (first .elements) (readable-slots (s .readable)) (s .few) in
+      let k : length (record-of (line-of first)) ≡ record-bytes = length-record-of (bindings-of (first .bindings)) (first .elements) (length-bindings (first .bindings) ∙ readable-slots (s .readable)) (s .few) in
       let p : (w .done + 1) * record-bytes ≡ w .done * record-bytes + length (record-of (line-of first)) = omega arith in
       let room : w .done * record-bytes + record-bytes ≤ length memory = omega (arith, m .length-is, m .top-is, m .ordered) in
       record {
@@ -234,7 +211,7 @@ module _ (nodes sizes memory : List ℕ) (w : Walk) (finished : List Line) (firs
                 ∙ (ap (_++ record-of (line-of first)) (m .records-are) ∙ sym (records-one-more finished (line-of first)))));
             lines-are =
                 ap (drop ((w .top + 1) * line-bytes)) e
-                ∙ (placed-over ((w .top + 1) * line-bytes) (w .done * record-bytes) (record-of (line-of first)) memory (omega arith) (omega (arith, m .ordered)) ∙ others-there m);
+                ∙ (drop-placed ((w .top + 1) * line-bytes) (w .done * record-bytes) (record-of (line-of first)) memory (omega arith) (omega (arith, m .ordered)) ∙ others-there m);
             done-is = length-append finished (line-of first ∷ []) ∙ omega (arith, m .done-is);
             top-is = omega (arith, m .top-is);
             ordered = omega (arith, m .ordered);

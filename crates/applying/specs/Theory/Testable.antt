@@ -8,16 +8,17 @@ use mathlib.Core.List.{List, [], _∷_, _++_, map, append-nil}
 use native.Mathlib.Omega.{arith}
 use lib.ListN.{length, getD}
 use Rattle.format.specs.Limits.{max-symbols, first-variable, variable-count, position-count}
-use Rattle.terms.specs.Term.{Term, Terms, var, app, nil, cons, size, sizes, count, Values, inst, insts, Ground, Grounds}
+use Rattle.terms.specs.Term.{Term, Terms, var, nil, cons, size, sizes, Values, Ground}
 use Rattle.terms.specs.Position.{subterms, subterms-of}
 use Rattle.terms.specs.Prefix.{prefix, equation-bytes}
 use Rattle.terms.specs.Equation.{Equation, term-at, view, value}
 use Rattle.terms.specs.Contracts.Limits.{WithinLimits, positions}
-use Rattle.terms.specs.Contracts.Fits.{Fits, AllFit}
+use Rattle.terms.specs.Contracts.Fits.{Fits}
 use Rattle.terms.specs.Contracts.Stored.{PartAt, GroundStored}
 use Rattle.terms.specs.Theory.Limits.{positions-few}
 use Rattle.terms.specs.Theory.Stored.{stored-head}
-use Rattle.terms.specs.Theory.Variables.{VariablesIn, AllVariablesIn}
+use Rattle.terms.specs.Theory.Variables.{VariablesIn}
+use Rattle.terms.specs.Theory.Ground.{instance-ground}
 use Rattle.terms.specs.Theory.View.{variable-at}
 use Rattle.solving.specs.Line.{Bindings, lookup, Element, equal, greater, Line, line}
 use Rattle.solving.specs.Contracts.Within.{AllWithin}
@@ -40,24 +41,6 @@ stored-ground {nodes} {lengths} {arities} {i} {t} g = first (ground-row-denotes 
   where
     first : {end : ℕ} → RowDenotes nodes lengths (λ v u. ⊥) i end (cons t nil) → GroundAt nodes lengths i t
     first (more a r) = a
-
--- An instance of a term over the sheet's symbols is ground where the values of its variables are.
-same-count : (ρ : Values) (ts : Terms) → count (insts ρ ts) ≡ count ts
-unfolding inst count
-same-count ρ nil = refl
-same-count ρ (cons t ts) = ap suc (same-count ρ ts)
-
-module _ (arities : List ℕ) (ρ : Values) (P : ℕ → Type 0) (given : (v : ℕ) → P v → Ground arities (ρ v)) where
-  mutual
-    unfolding inst
-
-    pub instance-ground : (t : Term) → Fits arities t → VariablesIn P t → Ground arities (inst ρ t)
-    instance-ground (var v) f h = given v h
-    instance-ground (app f ts) k h = (k .0, same-count ρ ts ∙ k .1, instances-ground ts (k .2) h)
-
-    instances-ground : (ts : Terms) → AllFit arities ts → AllVariablesIn P ts → Grounds arities (insts ρ ts)
-    instances-ground nil f h = tt
-    instances-ground (cons t ts) f h = (instance-ground t (f .0) (h .0), instances-ground ts (f .1) (h .1))
 
 -- The equation's sides stand at the front, and each of its variables has as its value a term of the subject.
 pub record AtFront (nodes lengths values arities : List ℕ) (e : Equation) (ρ : Values) (P : ℕ → Type 0) : Type 0 where

@@ -1,13 +1,14 @@
 -- The bytes of records determine the lines.
-use Prim.Native.Nat.{ℕ, _*_, _-_, _≤_}
+use Prim.Native.Nat.{ℕ, _*_}
 use mathlib.Core.Path.{_≡_, refl, sym, ap, _∙_}
 use mathlib.Core.Option.{none, some}
 use mathlib.Core.List.{List, [], _∷_, _++_, map, append-assoc}
-use lib.ListN.{length, replicate, length-append, length-map, length-replicate}
+use lib.ListN.{length, length-append, length-map}
 use native.Mathlib.Omega.{arith}
-use Rattle.format.specs.Limits.{variable-count, max-elements, no-position, record-bytes}
+use Rattle.format.specs.Limits.{no-position}
 use Rattle.solving.specs.Line.{Bindings, Element, equal, greater, Line, line, binding-byte, element-bytes, record-of, records}
-use Rattle.solving.specs.Theory.Records.{length-element-bytes}
+use Rattle.lines.specs.Contracts.Resting.{padding}
+use Rattle.solving.specs.Theory.Records.{length-record-of, length-element-bytes}
 use Rattle.calls.specs.Demands.{BoundToPositions, BetweenPositions, Recorded}
 
 -- Two lists that are equal, taken apart at the same place.
@@ -56,16 +57,9 @@ elements-same (greater p q ∷ es) (greater r s ∷ fs) h k e =
     let u = elements-same es fs (h .2) (k .2) t in
     cc
 
-abbrev padding : List Element → List ℕ
-padding es = replicate (2 * (max-elements - length es)) no-position
-
-record-parts : (θ : Bindings) (es : List Element) → record-of (line θ es) ≡ map binding-byte θ ++ (length es ∷ (element-bytes es ++ padding es))
-unfolding record-of
-record-parts θ es = append-assoc (map binding-byte θ) (length es ∷ element-bytes es) (padding es)
-
-length-record : (θ : Bindings) (es : List Element) → length θ ≡ variable-count → length es ≤ max-elements → length (record-of (line θ es)) ≡ record-bytes
-unfolding record-of
-length-record θ es l f = simp (length-append, length-map, length-replicate) (omega (arith, length-element-bytes es))
+record-parts : (θ : Bindings) (es : List Element) → record-of (line θ es) ≡ map binding-byte θ ++ (length es ∷ (element-bytes es ++ padding (length es)))
+unfolding record-of padding
+record-parts θ es = append-assoc (map binding-byte θ) (length es ∷ element-bytes es) (padding (length es))
 
 record-same : (θ η : Bindings) (es fs : List Element) → Recorded (line θ es ∷ []) → Recorded (line η fs ∷ []) → record-of (line θ es) ≡ record-of (line η fs) → line θ es ≡ line η fs
 record-same θ η es fs h k e =
@@ -76,7 +70,7 @@ record-same θ η es fs h k e =
     let x : θ ≡ η = bindings-same θ η b j (first-same (map binding-byte θ) (map binding-byte η) _ _ n f) in
     let y = rest-same (map binding-byte θ) (map binding-byte η) _ _ n f in
     let z : length es ≡ length fs = cc in
-    let w : element-bytes es ++ padding es ≡ element-bytes fs ++ padding fs = cc in
+    let w : element-bytes es ++ padding (length es) ≡ element-bytes fs ++ padding (length fs) = cc in
     let o : length (element-bytes es) ≡ length (element-bytes fs) = length-element-bytes es ∙ ap (2 *_) z ∙ sym (length-element-bytes fs) in
     let r : es ≡ fs = elements-same es fs d m (first-same (element-bytes es) (element-bytes fs) _ _ o w) in
     cc
@@ -84,12 +78,12 @@ record-same θ η es fs h k e =
 pub records-determine : (ls ks : List Line) → Recorded ls → Recorded ks → records ls ≡ records ks → ls ≡ ks
 unfolding records
 records-determine [] [] h k e = refl
-records-determine [] (line η fs ∷ ks) h k e = let l = ap length e ∙ length-append (record-of (line η fs)) (records ks) in absurd (omega (arith, l, length-record η fs (k .0) (k .2)))
-records-determine (line θ es ∷ ls) [] h k e = let l = ap length (sym e) ∙ length-append (record-of (line θ es)) (records ls) in absurd (omega (arith, l, length-record θ es (h .0) (h .2)))
+records-determine [] (line η fs ∷ ks) h k e = let l = ap length e ∙ length-append (record-of (line η fs)) (records ks) in absurd (omega (arith, l, length-record-of η fs (k .0) (k .2)))
+records-determine (line θ es ∷ ls) [] h k e = let l = ap length (sym e) ∙ length-append (record-of (line θ es)) (records ls) in absurd (omega (arith, l, length-record-of θ es (h .0) (h .2)))
 records-determine (line θ es ∷ ls) (line η fs ∷ ks) h k e =
     let (a, b, c, d, u) = h in
     let (i, j, l, m, v) = k in
-    let n : length (record-of (line θ es)) ≡ length (record-of (line η fs)) = length-record θ es a c ∙ sym (length-record η fs i l) in
+    let n : length (record-of (line θ es)) ≡ length (record-of (line η fs)) = length-record-of θ es a c ∙ sym (length-record-of η fs i l) in
     let x = record-same θ η es fs (a, b, c, d, tt) (i, j, l, m, tt) (first-same (record-of (line θ es)) (record-of (line η fs)) _ _ n e) in
     let y = records-determine ls ks u v (rest-same (record-of (line θ es)) (record-of (line η fs)) _ _ n e) in
     cc

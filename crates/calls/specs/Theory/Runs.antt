@@ -21,7 +21,8 @@ use Rattle.outcomes.specs.Asked.{found, find, asked, Reduction, reduction-in, r
 use Rattle.outcomes.specs.Outcome.{run-fits, run-done, run-walked, run-answer, run-call}
 use Rattle.outcomes.specs.Theory.Number.{fields-byte, refused-byte, refused-not-zero}
 use Rattle.calls.specs.Demands.{RunNamed, RunDemand, RunsDemanded, RunsAreReferenceRuns, RunServes, ServedOrHost, RunRefusedByHost}
-use Rattle.calls.specs.Theory.Walks.{accepted-limits, none-refused, every-solves}
+use Rattle.calls.specs.Theory.Walks.{accepted-limits}
+use Rattle.outcomes.specs.Theory.Walks.{none-refused, every-solves}
 
 abbrev pub the-reduction : {sheet : List ℕ} {task : ℕ} → RunNamed sheet task → Reduction
 the-reduction n = record { equations = n .content .equations; limit = n .limit; subject = n .subject }

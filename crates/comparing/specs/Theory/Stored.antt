@@ -13,10 +13,11 @@ use Rattle.terms.specs.Position.{subterms, subterms-of}
 use Rattle.terms.specs.Prefix.{prefix, prefixes}
 use Rattle.terms.specs.Theory.Variables.{VariablesIn, AllVariablesIn}
 use Rattle.terms.specs.Theory.Position.{length-subterms, subterm-first, subterm-rest}
-use Rattle.terms.specs.Theory.Prefix.{grounds-fit, length-prefix}
+use Rattle.terms.specs.Theory.Ground.{ground-no-variable, grounds-no-variable, no-variable-ground}
+use Rattle.terms.specs.Theory.Prefix.{ground-fits, grounds-fit, length-prefix}
 use Rattle.terms.specs.Theory.Stored.{stored-head, stored-tail, stored-first, stored-rest}
 use Rattle.terms.specs.Contracts.Fits.{AllFit, Fits}
-use Rattle.terms.specs.Contracts.Stored.{PartAt}
+use Rattle.terms.specs.Contracts.Stored.{PartAt, GroundStored}
 use Rattle.comparing.specs.Contracts.Nodes.{Denotes, symbol-node, variable-node, RowDenotes, none, more}
 
 -- Terms over symbols with these arities, and values for their variables, which are among those that `P` holds of.
@@ -124,15 +125,6 @@ mutual
   ground-insts arities ρ nil g = refl
   ground-insts arities ρ (cons t ts) g = cc (ground-inst arities ρ t (g .0), ground-insts arities ρ ts (g .1))
 
-mutual
-  ground-no-variable : (arities : List ℕ) (t : Term) → Ground arities t → VariablesIn (λ v. ⊥) t
-  ground-no-variable arities (var v) g = absurd g
-  ground-no-variable arities (app f ts) g = grounds-no-variable arities ts (g .2)
-
-  grounds-no-variable : (arities : List ℕ) (ts : Terms) → Grounds arities ts → AllVariablesIn (λ v. ⊥) ts
-  grounds-no-variable arities nil g = tt
-  grounds-no-variable arities (cons t ts) g = (ground-no-variable arities t (g .0), grounds-no-variable arities ts (g .1))
-
 -- Ground terms that are stored stand there.
 pub ground-row-denotes : (arities : List ℕ) → length arities ≤ max-symbols → {nodes lengths : List ℕ} {i : ℕ} (ts : Terms) → Grounds arities ts
     → PartAt nodes i (prefixes ts) → PartAt lengths i (map size (subterms-of ts)) → i + sizes ts ≤ node-count
@@ -146,3 +138,21 @@ ground-row-denotes arities known {nodes} {lengths} {i} ts g a b h =
       within = h;
     }) in
     rw (ground-insts arities var ts g) at r
+
+-- Each part of a stored ground term is ground and stored at its position.
+pub part-stored : {nodes lengths arities : List ℕ} {i : ℕ} {t : Term} → GroundStored nodes lengths arities i t → (p : ℕ) → p < size t → GroundStored nodes lengths arities (i + p) (getD (subterms t) p (var 0))
+part-stored {nodes} {lengths} {arities} {i} {t} g p h =
+    let s = stored-subterm arities (g .few-symbols) nodes lengths (λ v u. ⊥) var (λ v. ⊥) (λ v x. absurd x) t i p (var 0) (record {
+      fits = ground-fits arities t (g .ground);
+      few = ground-no-variable arities t (g .ground);
+      bytes = g .stored .bytes;
+      sizes-there = g .stored .lengths-there;
+      within = g .within;
+    }) h in
+    record {
+      few-symbols = g .few-symbols;
+      ground = no-variable-ground arities (getD (subterms t) p (var 0)) (s .fits) (s .few);
+      stored = record { bytes = s .bytes; lengths-there = s .sizes-there };
+      low = omega (arith, g .low);
+      within = s .within;
+    }

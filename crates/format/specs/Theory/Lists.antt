@@ -70,3 +70,12 @@ any-true f (x ∷ xs) e = go (any-true f xs) (f x) refl e
         → (i : ℕ) × (y : _) × (entry (x ∷ xs) i ≡ some y) × (f y ≡ true)
     go ih true d e = (0, x, refl, d)
     go ih false d e = let (i, y, a, b) = ih e in (suc i, y, a, b)
+
+pub any-append : {A : Type 0} (f : A → Bool) (xs ys : List A) → any f (xs ++ ys) ≡ (any f xs || any f ys)
+unfolding any
+any-append f [] ys = refl
+any-append f (x ∷ xs) ys = go (f x) (any-append f xs ys)
+  where
+    go : (b : Bool) → any f (xs ++ ys) ≡ (any f xs || any f ys) → (b || any f (xs ++ ys)) ≡ ((b || any f xs) || any f ys)
+    go true h = refl
+    go false h = h

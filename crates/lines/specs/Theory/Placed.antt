@@ -1,9 +1,9 @@
 -- The laws of lines' bytes in the memory of the walk: copied from it, and put into it one behind the other.
-use Prim.Native.Nat.{ℕ, suc, _+_, _*_, _≤_, _<_}
+use Prim.Native.Nat.{ℕ, suc, _+_, _-_, _*_, _≤_, _<_}
 use mathlib.Core.Path.{_≡_, refl, sym, ap, _∙_}
 use mathlib.Core.List.{List, [], _∷_, _++_, append-assoc}
 use lib.ListN.{length-drop, length, getD, set, take, drop, length-append, length-set, take-append-drop}
-use lib.Seq.{slice, slice-empty, paste, paste-zero, paste-suc, length-paste, length-take-le, take-suc, take-suc-set, take-all, drop-append-le, take-at, drop-at, drop-drop, set-append-left, set-at}
+use lib.Seq.{slice, slice-empty, paste, paste-zero, paste-suc, length-paste, length-take-le, take-suc, take-suc-set, take-all, drop-append-le, drop-append-add, take-at, drop-at, drop-drop, set-append-left, set-at}
 use native.Mathlib.Nat.{add-zero, zero-add, suc-add}
 use native.Mathlib.Numerals.{add-one}
 use native.Mathlib.Omega.{arith}
@@ -177,3 +177,19 @@ storing-done {line = line} {before = before} {at = at} {i = i} s h =
     ∙ (append-assoc (take at before) (take i line) (drop (at + i) before)
     ∙ (ap (λ l. take at before ++ (l ++ drop (at + i) before)) (take-all i line (omega arith))
     ∙ ap (λ n. take at before ++ (line ++ drop (at + n) before)) e))
+
+-- What stands behind a part that is placed stays.
+pub placed-back : (at : ℕ) (part buffer : List ℕ) → at ≤ length buffer → drop at (placed at part buffer) ≡ part ++ drop (at + length part) buffer
+unfolding placed
+placed-back at part buffer l = drop-at (take at buffer) (part ++ drop (at + length part) buffer) at (length-take-le at buffer l)
+
+pub drop-placed : (k at : ℕ) (part buffer : List ℕ) → at ≤ length buffer → at + length part ≤ k → drop k (placed at part buffer) ≡ drop k buffer
+drop-placed k at part buffer l h =
+    let j = k - (at + length part) in
+    let e : k ≡ at + (length part + j) = omega arith in
+    let d : k ≡ at + length part + j = omega arith in
+    ap (λ n. drop n (placed at part buffer)) e
+    ∙ (sym (drop-drop (length part + j) at (placed at part buffer))
+    ∙ (ap (drop (length part + j)) (placed-back at part buffer l)
+    ∙ (drop-append-add part (drop (at + length part) buffer) j
+    ∙ (drop-drop j (at + length part) buffer ∙ ap (λ n. drop n buffer) (sym d)))))

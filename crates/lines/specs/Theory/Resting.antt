@@ -48,23 +48,23 @@ module _ (l : RestingLine) (slots : length (l .bindings) ≡ variable-count) whe
   resting-as-record = simp append-assoc
 
   module _ (few : length (l .elements) ≤ max-elements) where
-    pub length-record : length record-part ≡ record-bytes
+    pub length-record-part : length record-part ≡ record-bytes
     unfolding padding
-    length-record = simp (length-append, length-replicate) (omega (arith, slots, length-marks (l .elements)))
+    length-record-part = simp (length-append, length-replicate) (omega (arith, slots, length-marks (l .elements)))
 
     pub reduced-there : getD (resting-bytes l) reduced-place 0 ≡ l .reduced
-    reduced-there = ap (λ b. getD b reduced-place 0) resting-as-record ∙ getD-at record-part (l .reduced) [] 0 reduced-place length-record
+    reduced-there = ap (λ b. getD b reduced-place 0) resting-as-record ∙ getD-at record-part (l .reduced) [] 0 reduced-place length-record-part
 
     pub record-there : take record-bytes (resting-bytes l) ≡ record-part
-    record-there = ap (take record-bytes) resting-as-record ∙ take-at record-part (l .reduced ∷ []) record-bytes length-record
+    record-there = ap (take record-bytes) resting-as-record ∙ take-at record-part (l .reduced ∷ []) record-bytes length-record-part
 
     pub length-resting : length (resting-bytes l) ≡ line-bytes
-    length-resting = ap length resting-as-record ∙ (length-append record-part (l .reduced ∷ []) ∙ ap (_+ 1) length-record)
+    length-resting = ap length resting-as-record ∙ (length-append record-part (l .reduced ∷ []) ∙ ap (_+ 1) length-record-part)
 
     -- Another count of elements that are known to be fully reduced.
     pub set-reduced : (r : ℕ) → set (resting-bytes l) reduced-place r ≡ resting-bytes (record { bindings = l .bindings; elements = l .elements; reduced = r })
     unfolding resting-bytes
-    set-reduced r = ap (λ b. set b reduced-place r) resting-as-record ∙ (set-at record-part (l .reduced) [] r reduced-place length-record ∙ simp append-assoc)
+    set-reduced r = ap (λ b. set b reduced-place r) resting-as-record ∙ (set-at record-part (l .reduced) [] r reduced-place length-record-part ∙ simp append-assoc)
 
 -- The two bytes of an element.
 two-on : (x y : ℕ) (xs : List ℕ) (a b : ℕ) → a ≡ suc (suc b) → getD (x ∷ y ∷ xs) a 0 ≡ getD xs b 0

@@ -5,7 +5,7 @@ use mathlib.Core.Option.{none, some}
 use mathlib.Core.List.{List, [], _∷_, _++_, map}
 use lib.ListN.{length, replicate, length-append, length-map, length-replicate}
 use native.Mathlib.Omega.{arith}
-use Rattle.format.specs.Limits.{max-elements, max-lines, record-bytes, table-bytes, no-position}
+use Rattle.format.specs.Limits.{variable-count, max-elements, max-lines, record-bytes, table-bytes, no-position}
 use Rattle.solving.specs.Line.{Bindings, lookup, Element, equal, greater, Line, line, binding-byte, element-bytes, record-of, records}
 use Rattle.solving.specs.Contracts.Within.{AllWithin}
 use Rattle.solving.specs.Contracts.Written.{WrittenLine, WrittenLines}
@@ -17,9 +17,12 @@ length-element-bytes [] = refl
 length-element-bytes (equal p q ∷ es) = omega (arith, length-element-bytes es)
 length-element-bytes (greater p q ∷ es) = omega (arith, length-element-bytes es)
 
-pub length-record : {n : ℕ} (θ : Bindings) (es : List Element) → WrittenLine n θ es → length (record-of (line θ es)) ≡ record-bytes
+pub length-record-of : (θ : Bindings) (es : List Element) → length θ ≡ variable-count → length es ≤ max-elements → length (record-of (line θ es)) ≡ record-bytes
 unfolding record-of
-length-record θ es w = simp (length-append, length-map, length-replicate) (omega (arith, length-element-bytes es, w .slots, w .few-elements))
+length-record-of θ es l f = simp (length-append, length-map, length-replicate) (omega (arith, length-element-bytes es))
+
+pub length-record : {n : ℕ} (θ : Bindings) (es : List Element) → WrittenLine n θ es → length (record-of (line θ es)) ≡ record-bytes
+length-record θ es w = length-record-of θ es (w .slots) (w .few-elements)
 
 pub length-records : (n : ℕ) (table : List Line) → WrittenLines n table → length (records table) ≡ length table * record-bytes
 unfolding records

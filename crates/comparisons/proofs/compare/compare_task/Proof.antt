@@ -24,8 +24,7 @@ compare-terms-requires c κs =
     let start = c .before .before .before .before .before .before .before in
     let found = c .before .before .before .find-task in (
       pair-has _ (start .args .scratch .now) _ _ (start .pre .0) (c .before .before .before .before .if1 .left) (found .result) (found .ensures) (c .before .enum-told .given .1),
-      known-roomy _ (start .args .scratch .now) (start .args .task) _ (start .pre .0),
-      start .pre .1,
+      (known-roomy _ (start .args .scratch .now) (start .args .task) _ (start .pre .0), start .pre .1),
     )
 
 number-of-verdict-requires : tie.Need-number-of-verdict-requires

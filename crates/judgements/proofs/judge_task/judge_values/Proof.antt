@@ -1,11 +1,11 @@
 -- `judge_values` gives the first line that holds at the values that the digits write.
-use mathlib.Core.Path.{refl, sym}
+use mathlib.Core.Path.{refl, sym, _∙_}
 use Rattle.format.specs.Limits.{node-count}
 use Rattle.scanning.specs.Contracts.Scan.{known-arities}
 use Rattle.comparing.specs.Theory.Cells.{symbols-zero}
-use Rattle.comparisons.proofs.Stored.{cells-there}
+use Rattle.format.specs.Theory.Behind.{cells-there, cells-behind}
 use borrow.Author.Needs.{needs}
-use Rattle.judgements.proofs.JudgeTaskLaws.{cells-behind, values-room, values-symbols, values-taken, values-judged, values-hold}
+use Rattle.judgements.proofs.JudgeTaskLaws.{values-room, values-symbols, values-taken, values-judged, values-hold}
 use Rattle.judgements.proofs.judge_task.judge_values.Statement.{statement}
 use Rattle.judgements.proofs.judge_task.judge_values.Tie as tie
 
@@ -45,7 +45,7 @@ returns c =
     let judge = c .before .before .before .before .judge-lines in (
       λ i e d ts v. values-hold v (judge .ensures (known-arities (start .args .known)) i e d (v .kept) ts
           (values-judged v (load .last .1 .1 .1 .1 .0) (load .last .1 .1 .1 .1 .1 .0) (load .result) (load .ensures ts (values-taken v)))),
-      cells-behind (start .args .scratch .now) (judge .last .1 .1 .1 .1 .1 .1 .1 .0) (start .pre .1) (judge .kept .1 .1 .1 .1 .1 .1 .1 .0),
+      cells-behind (start .args .scratch .now) (judge .last .1 .1 .1 .1 .1 .1 .1 .0) (judge .kept .1 .1 .1 .1 .1 .1 .1 .0 ∙ cells-there (start .args .scratch .now) (start .pre .1)),
     )
 
 pub judge-values-spec : {M : Type 1} → statement M

@@ -6,8 +6,9 @@ use native.Mathlib.Omega.{arith}
 use borrow.Author.Needs.{needs}
 use Rattle.format.specs.Limits.{position-count}
 use Rattle.terms.specs.Theory.Prefix.{length-prefixes}
+use Rattle.terms.specs.Theory.Placed.{placed-stored}
 use Rattle.terms.specs.Theory.Symbols.{symbols-drop, symbols-take, grounds-symbols}
-use Rattle.loading.proofs.Placing.{placed, placed-symbols, placed-stored, terms-few, terms-measurable, sizes-stored}
+use Rattle.loading.proofs.Placing.{placed, placed-symbols, terms-few, terms-measurable, sizes-stored}
 use Rattle.loading.proofs.load.load_terms.Statement.{statement}
 use Rattle.loading.proofs.load.load_terms.Tie as tie
 
@@ -49,7 +50,7 @@ returns c =
       symbols =
           placed-symbols nodes _ _ _ _ symbols (grounds-symbols _ (are .few-symbols) ts (are .ground)) (symbols-take (length nodes - position-count) (drop position-count nodes) behind)
           (symbols-drop (length nodes - position-count) (drop position-count nodes) behind) (decoded .1);
-      bytes = placed-stored _ _ there;
+      bytes = placed-stored there;
       lengths-there = sizes-stored are _ (start .args .sizes .now) _ _ _ there (decoded .0) (omega (arith, start .pre .1 .1)) (c .before .before .measure .ensures);
     }
 

@@ -2,7 +2,8 @@
 use Prim.Native.Nat.{_-_}
 use native.Mathlib.Omega.{arith}
 use borrow.Author.Needs.{needs}
-use Rattle.rules.proofs.StoreLaws.{symbols-room, symbols-taken, Storing, none-stored, all-stored, row-low, room-for-equation, row-measurable, one-more-stored}
+use Rattle.scanning.specs.Theory.Arities.{symbols-room, symbols-taken}
+use Rattle.rules.proofs.StoreLaws.{arities-few, Storing, none-stored, all-stored, row-low, room-for-equation, row-measurable, one-more-stored}
 use Rattle.rules.proofs.rows.store_equations.Statement.{statement}
 use Rattle.rules.proofs.rows.store_equations.Tie as tie
 
@@ -34,10 +35,10 @@ part-measure-start : tie.Need-part-measure-start Inv-loop μ-loop
 part-measure-start c = let k = c .before .before .before .before .before .before .loop .inv in omega (arith, row-low (c .before .before .before .before .before .before .before .before .before .before .before .pre .0) k (c .before .before .before .before .before .loop-test .taken), k .equations-length, c .before .before .equations .given .1)
 
 array-share-prefix-arities : tie.Need-array-share-prefix-arities Inv-loop μ-loop
-array-share-prefix-arities c = symbols-room (c .before .before .before .before .before .before .before .before .before .before .before .before .pre .0 .2)
+array-share-prefix-arities c = let g = c .before .before .before .before .before .before .before .before .before .before .before .before .pre .0 .2 in symbols-room (g .roomy) (arities-few g)
 
 slice-aggregate-measure : tie.Need-slice-aggregate-measure Inv-loop μ-loop
-slice-aggregate-measure c = symbols-taken (c .before .before .before .before .before .before .before .before .before .before .before .before .before .pre .0 .2)
+slice-aggregate-measure c = let g = c .before .before .before .before .before .before .before .before .before .before .before .before .before .pre .0 .2 in symbols-taken (g .roomy) (arities-few g)
 
 sub-measure-2 : tie.Need-sub-measure-2 Inv-loop μ-loop
 sub-measure-2 c = let k = c .before .before .before .before .before .before .before .before .loop .inv in omega (arith, row-low (c .before .before .before .before .before .before .before .before .before .before .before .before .before .pre .0) k (c .before .before .before .before .before .before .before .loop-test .taken), k .lengths-length)

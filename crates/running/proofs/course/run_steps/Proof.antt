@@ -119,7 +119,7 @@ put-step-requires c κs =
     let h = inv .so-far es subject is in
     let next = subst (FoundIs es (h .current)) (c .before .before .before .before .before .before .before .before .before .before .before .before .before .found .given .1) (found .ensures .0 arities es (h .current) (h .is)) in
     let room : 3 * loop .steps + 3 ≤ length (loop .log) = omega (arith, inv .within, inv .log-length, start .pre .1 .2, start .pre .1 .3, c .before .before .before .before .before .before .before .before .before .before .before .if1 .left) in
-    (room, rule-byte h next, position-byte h next .1)
+    (omega (arith, room), omega (arith, rule-byte h next), omega (arith, position-byte h next .1))
 
 add-steps : tie.Need-add-steps Inv-loop μ-loop
 add-steps c =

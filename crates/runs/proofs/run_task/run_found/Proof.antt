@@ -1,8 +1,10 @@
 -- `run_found` is run on a task that is a run.
-use mathlib.Core.Path.{refl}
+use mathlib.Core.Path.{refl, _∙_}
 use native.Mathlib.Omega.{arith}
+use Rattle.format.specs.Limits.{scratch-bytes}
 use Rattle.scanning.specs.Contracts.Scan.{known-arities}
-use Rattle.runs.proofs.RunTaskLaws.{its-equations, its-equations-counted, its-run, limit-low, table-blanked, scratch-cleared, reduction-answered}
+use Rattle.runs.proofs.RunTaskLaws.{its-equations, its-equations-counted, its-run, limit-low, scratch-behind, reduction-answered}
+use Rattle.answers.proofs.Fill.{cleared-behind, blanked-behind}
 use borrow.Author.Needs.{needs}
 use Rattle.runs.proofs.run_task.run_found.Statement.{statement}
 use Rattle.runs.proofs.run_task.run_found.Tie as tie
@@ -50,8 +52,8 @@ returns c =
     let term = its-run is (stored .last .1 .1 .0) (stored .last .1 .1 .1 .0) (kept .last .1 .1 .1 .0) (stored .ensures) (kept .kept .1 .1 .1 .0) in
     let walked = kept .ensures .0 (known-arities (start .args .known)) (its-equations is) (stored .ensures (is .is-task .0) (is .is-task .1)) (its-equations-counted is) in
     reduction-answered is (start .args .table .now) (start .args .scratch .now) (start .args .term .now) (start .args .log .now) (kept .result) (kept .last .1 .1 .1 .0) (kept .last .1 .1 .1 .1 .0)
-    (table-blanked (start .args .table .now) (kept .last .1 .1 .1 .1 .0) (ran .last .1 .1 .1 .1 .1 .1 .1 .1 .1 .0) (c .before .before .before .before .before .before .fill .last .0) (kept .ensures .1 .0) (ran .ensures .1 .0) (c .before .before .before .before .before .before .fill .ensures))
-    (scratch-cleared (start .args .scratch .now) (kept .last .1 .1 .1 .1 .1 .0) (ran .last .1 .1 .1 .1 .1 .1 .1 .1 .1 .1 .0) (c .before .before .fill2 .last .0) (kept .ensures .1 .1) (ran .ensures .1 .1) (c .before .before .fill2 .ensures))
+    (blanked-behind (start .args .table .now) (ran .last .1 .1 .1 .1 .1 .1 .1 .1 .1 .0) (c .before .before .before .before .before .before .fill .last .0) (ran .ensures .1 .0 ∙ kept .ensures .1 .0) (c .before .before .before .before .before .before .fill .ensures))
+    (cleared-behind scratch-bytes (start .args .scratch .now) (ran .last .1 .1 .1 .1 .1 .1 .1 .1 .1 .1 .0) (c .before .before .fill2 .last .0) (omega arith) (scratch-behind (start .args .scratch .now) (kept .last .1 .1 .1 .1 .1 .0) (ran .last .1 .1 .1 .1 .1 .1 .1 .1 .1 .1 .0) (kept .ensures .1 .1) (ran .ensures .1 .1)) (c .before .before .fill2 .ensures))
     walked (ran .ensures .0 (its-equations is) (is .subject) term walked)
 
 pub run-found-spec : {M : Type 1} → statement M

@@ -1,23 +1,22 @@
 -- `find_step` searches by positions or rule by rule, whichever is possible.
 use Prim.Native.Nat.{ℕ}
-use mathlib.Core.Path.{_≡_, refl, sym}
+use mathlib.Core.Path.{_≡_, refl, sym, _∙_}
 use native.Mathlib.Omega.{arith}
-use lib.Seq.{length-take-le}
 use borrow.Author.Needs.{needs}
-use Rattle.format.specs.Limits.{cell-count, scratch-bytes}
-use Rattle.seeking.proofs.SearchLaws.{by-positions, by-rules, behind-kept}
+use Rattle.format.specs.Theory.Behind.{cells-there, cells-behind}
+use Rattle.seeking.proofs.SearchLaws.{by-positions, by-rules}
 use Rattle.seeking.proofs.seek.find_step.Statement.{statement}
 use Rattle.seeking.proofs.seek.find_step.Tie as tie
 
 slice-aggregate-find-by-positions : tie.Need-slice-aggregate-find-by-positions
-slice-aggregate-find-by-positions c = let start = c .before .before .before .before .before .before .before .before .before .before .before .before .before in sym (length-take-le cell-count (start .args .scratch .now) (omega (arith, start .pre .1 .1)))
+slice-aggregate-find-by-positions c = let start = c .before .before .before .before .before .before .before .before .before .before .before .before .before in sym (cells-there (start .args .scratch .now) (start .pre .1 .1))
 
 find-by-positions-requires : tie.Need-find-by-positions-requires
 find-by-positions-requires c κs =
     let start = c .before .before .before .before .before .before .before .before .before .before .before .before .before in
     let has = start .pre .0 in (
       record { arities = has .arities; those = has .those; subject = has .subject; is = by-positions (has .is) (c .before .before .before .before .if1 .taken); counted = has .is .size-is },
-      length-take-le cell-count (start .args .scratch .now) (omega (arith, start .pre .1 .1)),
+      cells-there (start .args .scratch .now) (start .pre .1 .1),
     )
 
 returns : tie.Need-returns
@@ -25,7 +24,7 @@ returns c =
     let start = c .before .before .before .before .before .before .before .before .before .before .before .before .before .before .before .before .before .before .before .before in
     let found = c .before .before .before .before .before .before .find-by-positions in (
       λ arities es subject is. found .ensures .0 arities es subject (by-positions is (c .before .before .before .before .before .before .before .before .before .before .before .if1 .taken)),
-      (found .ensures .1, (λ h. refl, (refl, behind-kept cell-count scratch-bytes (found .last .1 .1 .1 .1 .1 .1 .1 .1 .0) (start .args .scratch .now) (found .kept .1 .1 .1 .1 .1 .1 .1 .1 .0) (omega (arith, start .pre .1 .1)) (omega arith)))),
+      (found .ensures .1, (λ h. refl, (refl, cells-behind (start .args .scratch .now) (found .last .1 .1 .1 .1 .1 .1 .1 .1 .0) (found .kept .1 .1 .1 .1 .1 .1 .1 .1 .0 ∙ cells-there (start .args .scratch .now) (start .pre .1 .1))))),
     )
 
 find-by-rules-requires : tie.Need-find-by-rules-requires

@@ -1,7 +1,7 @@
 -- `solve_found` is solve on an accepted sheet that has the equation.
 use borrow.Author.Needs.{needs}
 use Rattle.reading.specs.Theory.Found.{equation-low}
-use Rattle.answers.proofs.Arities.{symbols-room, symbols-taken}
+use Rattle.scanning.specs.Theory.Arities.{symbols-room, symbols-taken}
 use Rattle.solutions.proofs.SolveTask.{known-few, bytes-room, bytes-taken, equation-is, equation-has, equation-answer}
 use Rattle.solutions.proofs.solve.solve_found.Statement.{statement}
 use Rattle.solutions.proofs.solve.solve_found.Tie as tie
