@@ -21,6 +21,7 @@ fn main() {
     solve();
     judge_and_run();
     crowded();
+    long_runs();
 }
 
 /// A chain of dependent multiplications, to tell a slow moment of the machine from slow code.
@@ -189,5 +190,30 @@ fn crowded() {
             let plain = start.elapsed().as_secs_f64();
             println!("{name:44} {task:6} {number:8x} {:10.2} {:10.2}", 1e3 * proved, 1e3 * plain);
         }
+    }
+}
+
+/// Runs that take long, the least of three: what a call takes.
+fn long_runs() {
+    println!("\n{:44} {:>6} {:>10} {:>10} {:>6}", "long runs", "steps", "proved ms", "plain ms", "ratio");
+    let mut buffers = [22_695, 57_344, 160, 765].map(|length| vec![0xa5; length]);
+    let [table, scratch, term, log] = &mut buffers;
+    for (name, sheet) in runs::long() {
+        let number = calls::run(&sheet, 0, table, scratch, term, log);
+        assert_eq!(number, reference::run(&sheet, 0, table, scratch, term, log), "{name}");
+        let steps = number / 256 % 65_536;
+        let mut least = [f64::MAX; 2];
+        for _ in 0..3 {
+            for (case, least) in least.iter_mut().enumerate() {
+                let start = std::time::Instant::now();
+                match case {
+                    0 => calls::run(&sheet, 0, table, scratch, term, log),
+                    _ => reference::run(&sheet, 0, table, scratch, term, log),
+                };
+                *least = least.min(1e3 * start.elapsed().as_secs_f64());
+            }
+        }
+        let [proved, plain] = least;
+        println!("{name:44} {steps:6} {proved:10.1} {plain:10.1} {:6.2}", proved / plain);
     }
 }

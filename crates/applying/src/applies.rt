@@ -6,10 +6,12 @@ use judging::holding::first_holding;
 use judging::trimmed::KeptLines;
 use matching::side::match_side;
 use rules::sides::sides_of;
+ghost use mathlib.Core.Path.{_≡_};
 ghost use mathlib.Core.List.{List};
 ghost use Prim.Native.Nat.{ℕ, _≤_};
-ghost use lib.ListN.{length};
+ghost use lib.ListN.{length, take};
 ghost use Rattle.format.specs.Limits.{position-count};
+ghost use Rattle.format.specs.Buffer.{written};
 ghost use Rattle.terms.specs.Term.{Term};
 ghost use Rattle.terms.specs.Equation.{Equation, Direction};
 ghost use Rattle.terms.specs.Contracts.Stored.{SubjectIs};
@@ -27,6 +29,16 @@ fn forget_rows(ready: &mut [u8])
         ready[i] = 0;
         i = i + 1;
     }
+}
+
+// The first row of `from` stands first in `to`. It goes by way of an array that overlaps neither, so that the compiler need not copy byte by byte.
+fn load_row(from: &[u8], to: &mut [u8])
+    requires { ⌜ (position-count ≤ length (now from)) × (position-count ≤ length (now to)) ⌝ }
+    ensures { λ _. ⌜ now (to .exit) ≡ written (take position-count (now (from .entry))) (now (to .entry)) ⌝ }
+{
+    let mut row = [0u8; Limits::POSITIONS];
+    copy_front(from, &mut row, Limits::POSITIONS);
+    copy_front(&row, to, Limits::POSITIONS);
 }
 
 // Whether one of the kept lines holds at the match. The equation's row is loaded before the subject; the cells of pairs of subject nodes stay settled.
@@ -49,8 +61,8 @@ fn line_holds(
     ensures { λ _. ⌜ Settled (now (nodes .exit)) (now (sizes .exit)) (now (ready .exit)) (now (cells .exit)) ⌝ }
 {
     let row = rule / 2 * Limits::POSITIONS;
-    copy_front(&equations[row..], nodes, Limits::POSITIONS);
-    copy_front(&lengths[row..], sizes, Limits::POSITIONS);
+    load_row(&equations[row..], nodes);
+    load_row(&lengths[row..], sizes);
     forget_rows(ready);
     0 < first_holding(table, lines, nodes, sizes, values, ready, cells)
 }

@@ -1,6 +1,7 @@
 pub mod Weight
 pub mod Resolved
 pub mod Rows
+pub mod Smaller
 pub mod Loops
 pub mod Rules
 pub mod Pair

@@ -1,5 +1,5 @@
 -- The number of nodes of the term that a node stands for, computed from the memory: the measure of the comparison.
-use Prim.Native.Nat.{ℕ, zero, suc, _+_, _-_, _≤_}
+use Prim.Native.Nat.{ℕ, zero, suc, _+_, _-_, _≤_, _<_}
 use mathlib.Core.Path.{_≡_, ap, _∙_}
 use mathlib.Core.List.{List}
 use native.Mathlib.Omega.{arith}
@@ -45,6 +45,13 @@ module _ (nodes lengths values : List ℕ) where
   unfolding weight
   weight-first k zero h = absurd (omega arith)
   weight-first k (suc n) h = let e : suc n - 1 ≡ n = omega arith in rw e
+
+  -- A row weighs no less than what stands behind its first node.
+  pub weight-behind : (row : Arguments) → row .from < row .end → row-weight nodes lengths values (record { from = row .from + 1; end = row .end }) ≤ row-weight nodes lengths values row
+  unfolding row-weight
+  weight-behind row h =
+      let e : row .end - (row .from + 1) ≡ (row .end - row .from) - 1 = omega arith in
+      rw e (omega (arith, weight-first (row .from) (row .end - row .from) (omega arith)))
 
 module _ {nodes lengths values : List ℕ} where
   mutual

@@ -10,10 +10,10 @@ use terms::arguments::arguments_of;
 use terms::arguments::other_arguments;
 ghost use mathlib.Core.Path.{_≡_};
 ghost use Prim.Native.Nat.{_≤_, _<_};
-ghost use lib.ListN.{getD};
+ghost use lib.ListN.{length, getD};
 ghost use Rattle.format.specs.Limits.{first-variable, position-count};
 ghost use Rattle.comparing.specs.Contracts.Cells.{SettledCells};
-ghost use Rattle.comparing.specs.Contracts.Comparing.{greater-if, HasTerm, HasTerms, Compares, FindsReaching, ComparesWithAll, FindsDifference};
+ghost use Rattle.comparing.specs.Contracts.Comparing.{greater-if, BehindSmaller, HasTerm, HasTerms, Compares, FindsReaching, ComparesWithAll, FindsDifference};
 
 // The verdict of two terms that are not equal.
 fn greater_if(greater: bool) -> Verdict
@@ -83,7 +83,23 @@ fn compare_symbols(
     compare_arguments(nodes, sizes, values, ready, cells, i, j)
 }
 
-// L1: whether one of the terms in the row equals or exceeds the term at j.
+// The row from its first node on whose symbol is not smaller than `symbol`. A node that is passed over gives way to its arguments, which stand right behind it.
+fn behind_smaller(nodes: &[u8], row: Arguments, symbol: u8) -> Arguments
+    requires { ⌜ (row .from ≤ row .end) × (row .from < row .end → row .end ≤ length (now nodes)) ⌝ }
+    ensures { λ r. ⌜ BehindSmaller (now (nodes .entry)) symbol row r ⌝ }
+{
+    let end = row.end;
+    let mut at = row.from;
+    while at < end {
+        if symbol <= nodes[at] {
+            return Arguments { from: at, end: end };
+        }
+        at = at + 1;
+    }
+    Arguments { from: at, end: end }
+}
+
+// L1: whether one of the terms in the row equals or exceeds the term at j. A term whose symbol is smaller than that at j does so if one of its arguments does.
 fn argument_reaches(
     nodes: &[u8],
     sizes: &[u8],
@@ -99,18 +115,20 @@ fn argument_reaches(
     ensures { λ r. ⌜ FindsReaching (now (nodes .entry)) (now (sizes .entry)) (now (values .entry)) row j r ⌝ }
     ensures { λ _. ⌜ SettledCells (now (nodes .entry)) (now (sizes .entry)) (now (values .entry)) (now (ready .exit)) (now (cells .exit)) ⌝ }
 {
-    let mut rest = row;
+    let g = nodes[j];
+    let mut rest = behind_smaller(nodes, row, g);
     while rest.from < rest.end {
         let verdict = exceeds(nodes, sizes, values, ready, cells, rest.from, j);
         let Verdict::Smaller = verdict else {
             return true;
         };
-        rest = other_arguments(sizes, rest);
+        let others = other_arguments(sizes, rest);
+        rest = behind_smaller(nodes, others, g);
     }
     false
 }
 
-// Whether the term at i exceeds every term in the row.
+// Whether the term at i exceeds every term in the row. It exceeds a term whose symbol is smaller than its own if it exceeds every argument of that one.
 fn exceeds_arguments(
     nodes: &[u8],
     sizes: &[u8],
@@ -121,18 +139,20 @@ fn exceeds_arguments(
     row: Arguments,
 ) -> bool
     requires { ⌜ SettledCells (now nodes) (now sizes) (now values) (now ready) (now cells) ⌝ }
-    requires { ⌜ HasTerm (now nodes) (now sizes) (now values) i ⌝ }
+    requires { ⌜ HasTerm (now nodes) (now sizes) (now values) i × (getD (now nodes) i 0 < first-variable) ⌝ }
     requires { ⌜ HasTerms (now nodes) (now sizes) (now values) row × (position-count ≤ row .from) ⌝ }
     ensures { λ r. ⌜ ComparesWithAll (now (nodes .entry)) (now (sizes .entry)) (now (values .entry)) i row r ⌝ }
     ensures { λ _. ⌜ SettledCells (now (nodes .entry)) (now (sizes .entry)) (now (values .entry)) (now (ready .exit)) (now (cells .exit)) ⌝ }
 {
-    let mut rest = row;
+    let f = nodes[i];
+    let mut rest = behind_smaller(nodes, row, f);
     while rest.from < rest.end {
         let verdict = exceeds(nodes, sizes, values, ready, cells, i, rest.from);
         let Verdict::Greater = verdict else {
             return false;
         };
-        rest = other_arguments(sizes, rest);
+        let others = other_arguments(sizes, rest);
+        rest = behind_smaller(nodes, others, f);
     }
     true
 }

@@ -1,23 +1,24 @@
--- What the test of a binding and of an inequality finds: from the nodes' symbols, and from the verdict of two nodes.
+-- What the test of a binding and of an inequality finds: from the nodes' symbols and sizes, and from the verdict of two nodes.
 use Prim.Native.Nat.{ℕ, _+_, _≤_, _<_}
-use mathlib.Core.Path.{_≡_, sym, subst, _∙_}
+use mathlib.Core.Path.{_≡_, sym, ap, subst, _∙_}
 use mathlib.Core.Logic.{inl, inr}
 use mathlib.Core.List.{List}
 use native.Mathlib.Omega.{arith}
 use lib.ListN.{length, getD}
 use Rattle.format.specs.Limits.{position-count, first-variable}
-use Rattle.terms.specs.Term.{Term, Values}
-use Rattle.ordering.specs.Order.{_≻_}
+use Rattle.terms.specs.Term.{Term, Terms, app, nil, Values}
+use Rattle.ordering.specs.Order.{_≻_, L1, L2, L3, none}
 use Rattle.ordering.specs.declared.verdict.Verdict.{Verdict}
 use Rattle.ordering.specs.declared.verdict.Verdict.the-variants.{Smaller as smaller, Equal as equal, Greater as greater}
 use Rattle.ordering.specs.Verdict.{verdict}
+use Rattle.ordering.specs.Theory.Decide.{lexicographic-nil-left}
 use Rattle.ordering.specs.Theory.Verdict.{means-verdict, told-equal, told-greater, told-not-greater}
 use Rattle.ordering.specs.Theory.Total.{verdict-smaller}
 use Rattle.solving.specs.Line.{greater as exceeding}
 use Rattle.comparing.specs.Contracts.Nodes.{TermAt, resolved}
 use Rattle.comparing.specs.Contracts.Cells.{SettledCells}
 use Rattle.comparing.specs.Contracts.Comparing.{HasTerm, Compares}
-use Rattle.comparing.specs.Theory.Nodes.{within, symbol-at}
+use Rattle.comparing.specs.Theory.Nodes.{within, row-empty, symbol-at}
 use Rattle.comparing.proofs.Resolved.{byte-low, SymbolNode, resolved-node}
 use Rattle.judging.specs.Contracts.Holding.{BindingTestable, ElementTestable, InstanceAt}
 
@@ -27,6 +28,22 @@ module _ {nodes lengths values ready cells : List ℕ} (m : SettledCells nodes l
 
   pub readable : {i : ℕ} {t : Term} → TermAt nodes lengths values i t → i < length nodes
   readable a = omega (arith, within a, m .nodes-length)
+
+  pub measurable : {i : ℕ} {t : Term} → TermAt nodes lengths values i t → i < length lengths
+  measurable a = omega (arith, within a, m .sizes-length)
+
+-- A constant exceeds no term whose symbol is not smaller, and every term whose symbol is greater exceeds it.
+constant-not-greater : {f g : ℕ} {ts : Terms} → f ≤ g → ¬ (app f nil ≻ app g ts)
+constant-not-greater h (L1 p) = elim p [ ]
+constant-not-greater h (L2 i a) = omega arith
+constant-not-greater h (L3 l) = lexicographic-nil-left l
+
+constant-exceeded : {f g : ℕ} (ss : Terms) → g < f → app f ss ≻ app g nil
+constant-exceeded ss h = L2 h none
+
+-- A node with one node's size has no arguments.
+constant-at : {nodes lengths values : List ℕ} {i : ℕ} {t : Term} → SymbolNode nodes lengths values i t → getD lengths i 0 ≡ 1 → t ≡ app (getD nodes i 0) nil
+constant-at {nodes} {i = i} n h = let a = symbol-at (n .denotes) (n .symbol) in a .is ∙ ap (app (getD nodes i 0)) (row-empty (a .row) (omega arith))
 
 -- The node that the instance's gives way to.
 pub instance-node : {nodes lengths values : List ℕ} {ρ : Values} {value : ℕ → Term} {p s : ℕ} → InstanceAt nodes lengths values ρ value p → s ≡ resolved nodes values p
@@ -71,9 +88,27 @@ module _ {nodes lengths values : List ℕ} {ρ : Values} {value : ℕ → Term} 
   pub one-low : t < position-count → position-count ≤ s
   one-low h = elim (x .2) [ inl a ↦ omega arith | inr a ↦ absurd (omega arith) ]
 
+  left-node : SymbolNode nodes lengths values s (value p)
+  left-node = instance-node (x .0) e
+
+  right-node : SymbolNode nodes lengths values t (value q)
+  right-node = instance-node (x .1) f
+
+  pub inequality-fails : getD lengths s 0 ≡ 1 → getD nodes s 0 ≤ getD nodes t 0 → ¬ (value p ≻ value q)
+  inequality-fails l h g =
+      let a = constant-at left-node l in
+      let b = symbol-at (right-node .denotes) (right-node .symbol) .is in
+      constant-not-greater h (rw (a, b) at g)
+
+  pub inequality-told : getD lengths t 0 ≡ 1 → getD nodes t 0 < getD nodes s 0 → value p ≻ value q
+  inequality-told l h =
+      let a = symbol-at (left-node .denotes) (left-node .symbol) in
+      let b = constant-at right-node l in
+      rw (a .is, b) (constant-exceeded (a .arguments) h)
+
   module _ {r : Verdict} (c : Compares nodes lengths values s t r) where
     inequality-verdict : r ≡ verdict (value p) (value q)
-    inequality-verdict = c .is (value p) (value q) (instance-node (x .0) e .denotes) (instance-node (x .1) f .denotes)
+    inequality-verdict = c .is (value p) (value q) (left-node .denotes) (right-node .denotes)
 
     pub inequality-greater : r ≡ greater → value p ≻ value q
     inequality-greater h = told-greater (value p) (value q) inequality-verdict h
@@ -84,7 +119,7 @@ module _ {nodes lengths values : List ℕ} {ρ : Values} {value : ℕ → Term} 
   -- Asked the other way round.
   module _ {r : Verdict} (c : Compares nodes lengths values t s r) where
     other-verdict : r ≡ verdict (value q) (value p)
-    other-verdict = c .is (value q) (value p) (instance-node (x .1) f .denotes) (instance-node (x .0) e .denotes)
+    other-verdict = c .is (value q) (value p) (right-node .denotes) (left-node .denotes)
 
     pub inequality-smaller : r ≡ smaller → value p ≻ value q
     inequality-smaller h = let g = x .3 in verdict-smaller (g .arities) (value q) (value p) (g .second) (g .first) .0 (sym other-verdict ∙ h)

@@ -55,7 +55,8 @@ fn binding_holds(
     true
 }
 
-// "each inequality is true by L1 to L3": the terms at `p` and `q`, of which one is a term of the subject. The comparison asks for that one second.
+// "each inequality is true by L1 to L3": the terms at `p` and `q`, of which one is a term of the subject. The comparison asks for that one second. It is not made where
+// symbols and sizes tell: a constant exceeds no term unless the term's symbol is smaller, and is exceeded by every term whose symbol is greater.
 fn inequality_holds(
     nodes: &[u8],
     sizes: &[u8],
@@ -72,6 +73,16 @@ fn inequality_holds(
 {
     let s = resolve(nodes, values, p);
     let t = resolve(nodes, values, q);
+    if sizes[s] == 1 {
+        if nodes[s] <= nodes[t] {
+            return false;
+        }
+    }
+    if sizes[t] == 1 {
+        if nodes[t] < nodes[s] {
+            return true;
+        }
+    }
     if t < SUBJECT {
         let verdict = exceeds(nodes, sizes, values, ready, cells, t, s);
         let Verdict::Smaller = verdict else {

@@ -11,29 +11,29 @@ use Rattle.applying.proofs.applies.line_holds.Tie as tie
 mul-row : tie.Need-mul-row
 mul-row c = let is = c .before .before .before .before .before .before .before .before .pre .0 .is .rule-is in omega (arith, rule-row is, is .row .inside, is .row .equations-length)
 
-sub-copy-front : tie.Need-sub-copy-front
-sub-copy-front c = let is = c .before .before .before .before .before .before .before .before .pre .0 .is .rule-is in omega (arith, rule-row is, is .row .inside, is .row .equations-length)
+sub-load-row : tie.Need-sub-load-row
+sub-load-row c = let is = c .before .before .before .before .before .before .before .before .pre .0 .is .rule-is in omega (arith, rule-row is, is .row .inside, is .row .equations-length)
 
-part-copy-front-start : tie.Need-part-copy-front-start
-part-copy-front-start c = let is = c .before .before .before .before .before .before .before .before .pre .0 .is .rule-is in omega (arith, rule-row is, is .row .inside, is .row .equations-length)
+part-load-row-start : tie.Need-part-load-row-start
+part-load-row-start c = let is = c .before .before .before .before .before .before .before .before .pre .0 .is .rule-is in omega (arith, rule-row is, is .row .inside, is .row .equations-length)
 
-part-copy-front-end : tie.Need-part-copy-front-end
-part-copy-front-end c = search needs
+part-load-row-end : tie.Need-part-load-row-end
+part-load-row-end c = search needs
 
-copy-front-requires : tie.Need-copy-front-requires
-copy-front-requires c κs = let is = c .before .before .before .before .before .before .before .before .before .before .pre .0 .is in (equations-room (is .rule-is), omega (arith, is .subject-is .nodes-length))
+load-row-requires : tie.Need-load-row-requires
+load-row-requires c κs = let is = c .before .before .before .before .before .before .before .before .before .before .pre .0 .is in (equations-room (is .rule-is), omega (arith, is .subject-is .nodes-length))
 
-sub-copy-front-2 : tie.Need-sub-copy-front-2
-sub-copy-front-2 c = let is = c .before .before .before .before .before .before .before .before .before .before .before .before .before .pre .0 .is .rule-is in omega (arith, rule-row is, is .row .inside, is .row .lengths-length)
+sub-load-row-2 : tie.Need-sub-load-row-2
+sub-load-row-2 c = let is = c .before .before .before .before .before .before .before .before .before .before .before .before .before .pre .0 .is .rule-is in omega (arith, rule-row is, is .row .inside, is .row .lengths-length)
 
-part-copy-front-start-2 : tie.Need-part-copy-front-start-2
-part-copy-front-start-2 c = let is = c .before .before .before .before .before .before .before .before .before .before .before .before .before .pre .0 .is .rule-is in omega (arith, rule-row is, is .row .inside, is .row .lengths-length)
+part-load-row-start-2 : tie.Need-part-load-row-start-2
+part-load-row-start-2 c = let is = c .before .before .before .before .before .before .before .before .before .before .before .before .before .pre .0 .is .rule-is in omega (arith, rule-row is, is .row .inside, is .row .lengths-length)
 
-part-copy-front-end-2 : tie.Need-part-copy-front-end-2
-part-copy-front-end-2 c = search needs
+part-load-row-end-2 : tie.Need-part-load-row-end-2
+part-load-row-end-2 c = search needs
 
-copy-front-requires-2 : tie.Need-copy-front-requires-2
-copy-front-requires-2 c κs = let is = c .before .before .before .before .before .before .before .before .before .before .before .before .before .before .before .pre .0 .is in (lengths-room (is .rule-is), omega (arith, is .subject-is .lengths-length))
+load-row-requires-2 : tie.Need-load-row-requires-2
+load-row-requires-2 c κs = let is = c .before .before .before .before .before .before .before .before .before .before .before .before .before .before .before .pre .0 .is in (lengths-room (is .rule-is), omega (arith, is .subject-is .lengths-length))
 
 forget-rows-requires : tie.Need-forget-rows-requires
 forget-rows-requires c κs = omega (arith, c .before .before .before .before .before .before .before .before .before .before .before .before .before .before .before .before .before .before .before .pre .1 .are .ready-length)
@@ -43,8 +43,8 @@ first-holding-requires c κs =
     let start = c .before .before .before .before .before .before .before .before .before .before .before .before .before .before .before .before .before .before .before .before .before .before .before .before .before .before in
     let has = start .pre .0 in
     let is = has .is in
-    let (n, bytes) = nodes-fronted (is .rule-is) (start .args .nodes .now) (c .before .before .before .before .before .before .before .before .before .before .before .before .before .before .before .copy-front .last .1 .0) (is .subject-is .nodes-length) (c .before .before .before .before .before .before .before .before .before .before .before .before .before .before .before .copy-front .ensures) in
-    let (l, measured) = sizes-fronted (is .rule-is) (start .args .sizes .now) (c .before .before .before .before .before .before .before .before .before .before .copy-front2 .last .1 .0) (is .subject-is .lengths-length) (c .before .before .before .before .before .before .before .before .before .before .copy-front2 .ensures) in (
+    let (n, bytes) = nodes-fronted (is .rule-is) (start .args .nodes .now) (c .before .before .before .before .before .before .before .before .before .before .before .before .before .before .before .load-row .last .1 .0) (is .subject-is .nodes-length) (c .before .before .before .before .before .before .before .before .before .before .before .before .before .before .before .load-row .ensures) in
+    let (l, measured) = sizes-fronted (is .rule-is) (start .args .sizes .now) (c .before .before .before .before .before .before .before .before .before .before .load-row2 .last .1 .0) (is .subject-is .lengths-length) (c .before .before .before .before .before .before .before .before .before .before .load-row2 .ensures) in (
       settled-next n l (start .args .values .now) (start .pre .1) (is .met .values-length) (c .before .before .before .before .before .before .forget-rows .ensures),
       record { assigned = values-of (has .found); value = value (has .equation) (values-of (has .found)); these = is .kept; are = lines-are is n l bytes measured },
     )
@@ -54,8 +54,8 @@ returns c =
     let start = c .before .before .before .before .before .before .before .before .before .before .before .before .before .before .before .before .before .before .before .before .before .before .before .before .before .before .before .before .before .before .before in
     let nodes = start .args .nodes .now in
     let sizes = start .args .sizes .now in
-    let copied = c .before .before .before .before .before .before .before .before .before .before .before .before .before .before .before .before .before .before .before .before .copy-front in
-    let measured = c .before .before .before .before .before .before .before .before .before .before .before .before .before .before .before .copy-front2 in
+    let copied = c .before .before .before .before .before .before .before .before .before .before .before .before .before .before .before .before .before .before .before .before .load-row in
+    let measured = c .before .before .before .before .before .before .before .before .before .before .before .before .before .before .before .load-row2 in
     let held = c .before .before .before .before .first-holding in
     let fronts = nodes-fronted (start .pre .0 .is .rule-is) nodes (copied .last .1 .0) (start .pre .0 .is .subject-is .nodes-length) (copied .ensures) in
     let sized = sizes-fronted (start .pre .0 .is .rule-is) sizes (measured .last .1 .0) (start .pre .0 .is .subject-is .lengths-length) (measured .ensures) in (
@@ -71,14 +71,14 @@ line-holds-spec =
     tie.close
     (tie.spec
     mul-row
-    sub-copy-front
-    part-copy-front-start
-    part-copy-front-end
-    copy-front-requires
-    sub-copy-front-2
-    part-copy-front-start-2
-    part-copy-front-end-2
-    copy-front-requires-2
+    sub-load-row
+    part-load-row-start
+    part-load-row-end
+    load-row-requires
+    sub-load-row-2
+    part-load-row-start-2
+    part-load-row-end-2
+    load-row-requires-2
     forget-rows-requires
     first-holding-requires
     (λ c. search needs)

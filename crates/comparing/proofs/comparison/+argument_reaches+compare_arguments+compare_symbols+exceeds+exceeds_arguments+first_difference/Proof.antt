@@ -23,10 +23,10 @@ use Rattle.comparing.proofs.comparison.+argument_reaches+compare_argume
 use Rattle.comparing.proofs.comparison.+argument_reaches+compare_arguments+compare_symbols+exceeds+exceeds_arguments+first_difference.{statement}
 use Rattle.comparing.proofs.comparison.+argument_reaches+compare_arguments+compare_symbols+exceeds+exceeds_arguments+first_difference.Tie.{close}
 use Measures.{μ-argument-reaches, μ-compare-arguments, μ-compare-symbols, μ-exceeds, μ-exceeds-arguments, μ-first-difference, argument-reaches-at, compare-arguments-at, compare-symbols-at, exceeds-at, exceeds-arguments-at, first-difference-at, argument-reaches-calls, compare-arguments-calls, compare-symbols-calls, exceeds-calls, first-difference-calls}
-use ArgumentReaches.{argument-reaches-Inv-loop, argument-reaches-μ-loop, argument-reaches-loop-holds, argument-reaches-exceeds-requires, argument-reaches-same-length, argument-reaches-same-length-2, argument-reaches-returns, argument-reaches-other-arguments-requires, argument-reaches-loop-less, argument-reaches-loop-again, argument-reaches-same-length-3, argument-reaches-same-length-4, argument-reaches-returns-2}
+use ArgumentReaches.{argument-reaches-Inv-loop, argument-reaches-μ-loop, argument-reaches-shared-slice-read-g, argument-reaches-behind-smaller-requires, argument-reaches-loop-holds, argument-reaches-exceeds-requires, argument-reaches-same-length, argument-reaches-same-length-2, argument-reaches-returns, argument-reaches-other-arguments-requires, argument-reaches-behind-smaller-requires-2, argument-reaches-loop-less, argument-reaches-loop-again, argument-reaches-same-length-3, argument-reaches-same-length-4, argument-reaches-returns-2}
 use CompareArguments.{compare-arguments-first-difference-requires, compare-arguments-argument-reaches-requires, compare-arguments-exceeds-arguments-requires, compare-arguments-returns, compare-arguments-returns-2, compare-arguments-returns-3}
 use CompareSymbols.{compare-symbols-shared-slice-read-f, compare-symbols-shared-slice-read-g, compare-symbols-arguments-of-requires, compare-symbols-argument-reaches-requires, compare-symbols-returns, compare-symbols-arguments-of-requires-2, compare-symbols-exceeds-arguments-requires, compare-symbols-returns-2, compare-symbols-compare-arguments-requires}
-use ExceedsArguments.{exceeds-arguments-Inv-loop, exceeds-arguments-μ-loop, exceeds-arguments-loop-holds, exceeds-arguments-exceeds-requires, exceeds-arguments-same-length, exceeds-arguments-same-length-2, exceeds-arguments-returns, exceeds-arguments-other-arguments-requires, exceeds-arguments-loop-less, exceeds-arguments-loop-again, exceeds-arguments-same-length-3, exceeds-arguments-same-length-4, exceeds-arguments-returns-2}
+use ExceedsArguments.{exceeds-arguments-Inv-loop, exceeds-arguments-μ-loop, exceeds-arguments-shared-slice-read-f, exceeds-arguments-behind-smaller-requires, exceeds-arguments-loop-holds, exceeds-arguments-exceeds-requires, exceeds-arguments-same-length, exceeds-arguments-same-length-2, exceeds-arguments-returns, exceeds-arguments-other-arguments-requires, exceeds-arguments-behind-smaller-requires-2, exceeds-arguments-loop-less, exceeds-arguments-loop-again, exceeds-arguments-same-length-3, exceeds-arguments-same-length-4, exceeds-arguments-returns-2}
 use Exceeds.{exceeds-resolve-requires, exceeds-make-ready-requires, exceeds-mul-cell, exceeds-add-cell, exceeds-slice-read-known, exceeds-returns, exceeds-compare-symbols-requires, exceeds-settle-requires, exceeds-returns-2}
 use FirstDifference.{first-difference-Inv-loop, first-difference-μ-loop, first-difference-arguments-of-requires, first-difference-arguments-of-requires-2, first-difference-loop-holds, first-difference-same-length, first-difference-same-length-2, first-difference-returns, first-difference-exceeds-requires, first-difference-other-arguments-requires, first-difference-other-arguments-requires-2, first-difference-loop-less, first-difference-loop-again, first-difference-same-length-3, first-difference-same-length-4, first-difference-returns-2, first-difference-same-length-5, first-difference-same-length-6, first-difference-returns-3, first-difference-same-length-7, first-difference-same-length-8, first-difference-returns-4}
 
@@ -45,6 +45,8 @@ pub +argument-reaches+compare-arguments+compare-symbols+exceeds+exceeds-argument
     argument-reaches.Post
     argument-reaches-Inv-loop
     argument-reaches-μ-loop
+    (argument-reaches-shared-slice-read-g t)
+    (argument-reaches-behind-smaller-requires t)
     (argument-reaches-loop-holds t)
     (argument-reaches-exceeds-requires t)
     (λ c. search needs)
@@ -52,6 +54,7 @@ pub +argument-reaches+compare-arguments+compare-symbols+exceeds+exceeds-argument
     (argument-reaches-same-length-2 t)
     (argument-reaches-returns t)
     (argument-reaches-other-arguments-requires t)
+    (argument-reaches-behind-smaller-requires-2 t)
     (argument-reaches-loop-less t)
     (argument-reaches-loop-again t)
     (argument-reaches-same-length-3 t)
@@ -120,6 +123,8 @@ pub +argument-reaches+compare-arguments+compare-symbols+exceeds+exceeds-argument
     exceeds-arguments.Post
     exceeds-arguments-Inv-loop
     exceeds-arguments-μ-loop
+    (exceeds-arguments-shared-slice-read-f t)
+    (exceeds-arguments-behind-smaller-requires t)
     (exceeds-arguments-loop-holds t)
     (exceeds-arguments-exceeds-requires t)
     (λ c. search needs)
@@ -127,6 +132,7 @@ pub +argument-reaches+compare-arguments+compare-symbols+exceeds+exceeds-argument
     (exceeds-arguments-same-length-2 t)
     (exceeds-arguments-returns t)
     (exceeds-arguments-other-arguments-requires t)
+    (exceeds-arguments-behind-smaller-requires-2 t)
     (exceeds-arguments-loop-less t)
     (exceeds-arguments-loop-again t)
     (exceeds-arguments-same-length-3 t)

@@ -27,7 +27,7 @@ compare-arguments-exceeds-arguments-requires t c κs =
     let start = at-first-difference .before .before .before .before .before .before .before .before in
     let first-difference = at-first-difference .first-difference in
     let d = first-difference .ensures in
-    (omega (arith, start .pre .0, arguments-weight (d .0 .second)), (d .1, (start .pre .1 .1 .0 .0, (d .0 .second .those, d .0 .second-low))))
+    (omega (arith, start .pre .0, arguments-weight (d .0 .second)), (d .1, (start .pre .1 .1 .0, (d .0 .second .those, d .0 .second-low))))
 
 pub compare-arguments-returns : (t : ℕ) → compare-arguments-lts.Need-returns (compare-arguments-calls t) (compare-arguments-at t) compare-arguments.Post
 compare-arguments-returns t c =

@@ -52,7 +52,7 @@ compare-symbols-exceeds-arguments-requires t c κs =
     let start = c .before .before .before .before .before .before .before .before .before .before .before .before in
     let y = subject-resolves (start .pre .1 .0) (start .pre .1 .1 .1 .0) (start .pre .1 .1 .1 .1) in
     let e = c .before .before .arguments-of2 .ensures in
-    rw e (omega (arith, start .pre .0, y .weight), (start .pre .1 .0, (start .pre .1 .1 .0 .0, (y .arguments, omega (arith, start .pre .1 .1 .1 .1)))))
+    rw e (omega (arith, start .pre .0, y .weight), (start .pre .1 .0, (start .pre .1 .1 .0, (y .arguments, omega (arith, start .pre .1 .1 .1 .1)))))
 
 pub compare-symbols-returns-2 : (t : ℕ) → compare-symbols-lts.Need-returns-2 (compare-symbols-calls t) (compare-symbols-at t) compare-symbols.Post
 compare-symbols-returns-2 t c =

@@ -24,6 +24,7 @@ use Rattle.comparing.proofs.comparison.+argument_reaches+compare_argume
 use Rattle.comparing.proofs.cells.held.Reads as held-reads
 use Rattle.comparing.proofs.cells.make_ready.Reads as make-ready-reads
 use Rattle.comparing.proofs.cells.settle.Reads as settle-reads
+use Rattle.comparing.proofs.comparison.behind_smaller.Reads as behind-smaller-reads
 use Rattle.comparing.proofs.comparison.greater_if.Reads as greater-if-reads
 use Rattle.comparing.proofs.nodes.resolve.Reads as resolve-reads
 use Rattle.terms.proofs.arguments.arguments_of.Reads as arguments-of-reads
@@ -134,7 +135,7 @@ first-difference-below t =
     first-difference.Pre
 
 abbrev pub argument-reaches-calls : ℕ → argument-reaches-lts.Claims
-argument-reaches-calls t = (exceeds-below t, exceeds.Post, other-arguments-reads.Asked, other-arguments-reads.Learnt)
+argument-reaches-calls t = (behind-smaller-reads.Asked, behind-smaller-reads.Learnt, exceeds-below t, exceeds.Post, other-arguments-reads.Asked, other-arguments-reads.Learnt)
 
 abbrev pub compare-arguments-calls : ℕ → compare-arguments-lts.Claims
 compare-arguments-calls t = (first-difference-below t, first-difference.Post, argument-reaches-below t, argument-reaches.Post, greater-if-reads.Asked, greater-if-reads.Learnt, exceeds-arguments-below t, exceeds-arguments.Post)
