@@ -1,12 +1,7 @@
 //! Times of the proved calls beside those of the plain Rust implementation, in one run, on the same sheets.
 //! Each figure is the least of several rounds: other work on the machine can only lengthen a round.
 
-#[cfg(test)]
-mod agree;
-mod calls;
-mod memoised;
-mod runs;
-
+use bench::{calls, memoised, runs};
 use reference::generate::text;
 use reference::rewrite;
 use reference::sheet;
