@@ -7,7 +7,7 @@
  *
  * Each call is lent the whole sheet and reads it afresh. Nothing is kept between calls and nothing is shared between
  * them, nothing is allocated, and no call takes a lock or blocks: any number of threads may call at once, each with
- * buffers of its own; the sheet, which is only read, may be the same.
+ * buffers of its own; the sheet, which is only read, may be the same. A stack of 128 KiB is enough.
  *
  * ONE THING IS TAKEN ON TRUST: the host states true lengths, and lends buffers that overlap neither one another nor
  * the sheet. Whatever else is wrong is refused. Every byte of a buffer may hold anything before a call; a pointer with

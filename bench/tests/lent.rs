@@ -189,3 +189,30 @@ fn vast() {
         }
     }
 }
+
+/// What the header says of the stack: a thread with 128 KiB of it may call.
+#[test]
+fn small_stack() {
+    let mut buffers: Vec<Vec<u8>> = Call::Run(0).least_lengths().iter().map(|&length| vec![0; length]).collect();
+    for sheet in sheets() {
+        let calls = calls(&sheet);
+        let [table, scratch, term, log] = &mut buffers[..] else { unreachable!() };
+        let make = move || {
+            for call in calls {
+                match call {
+                    Call::Check => bench::calls::check(&sheet),
+                    Call::Compare(task) => bench::calls::compare(&sheet, task, scratch),
+                    Call::Solve(equation, direction) => {
+                        bench::calls::solve(&sheet, equation, direction, table, scratch)
+                    }
+                    Call::Judge(task) => bench::calls::judge(&sheet, task, table, scratch),
+                    Call::Run(task) => bench::calls::run(&sheet, task, table, scratch, term, log),
+                };
+            }
+        };
+        std::thread::scope(|scope| {
+            let thread = std::thread::Builder::new().stack_size(128 << 10).spawn_scoped(scope, make);
+            thread.expect("a thread starts").join().expect("the calls return");
+        });
+    }
+}
