@@ -26,3 +26,15 @@ fn listings() {
         both::everything(&sheet);
     }
 }
+
+/// The README goes through the frames of P1 and of its listing, each as it stands in samples/.
+#[test]
+fn first_sheet_in_readme() {
+    let read = |path: &str| fs::read_to_string(root().join(path)).expect("a file");
+    let readme = read("README.md");
+    let (_, section) = readme.split_once("### A first sheet").expect("the section");
+    let (section, _) = section.split_once("\n## ").expect("its end");
+    let rows = section.lines().filter_map(|line| line.strip_prefix("| `")?.split_once('`').map(|(frame, _)| frame));
+    let frames: String = rows.map(|frame| format!("{frame}\n")).collect();
+    assert_eq!(frames, read("samples/p1.sheet") + &read("samples/p1.listing"));
+}
