@@ -1,15 +1,15 @@
-//! The proved calls, as C declares them: a slice is a pointer and a length.
+//! The proved calls, as C declares them (`include/neblinaro.h`): a slice is a pointer and a length.
 
 extern "C" {
-    fn neblinaro_check(sheet: *const u8, sheet_length: usize) -> u64;
-    fn neblinaro_compare(
+    pub fn neblinaro_check(sheet: *const u8, sheet_length: usize) -> u64;
+    pub fn neblinaro_compare(
         sheet: *const u8,
         sheet_length: usize,
         task: u64,
         scratch: *mut u8,
         scratch_length: usize,
     ) -> u64;
-    fn neblinaro_solve(
+    pub fn neblinaro_solve(
         sheet: *const u8,
         sheet_length: usize,
         equation: u64,
@@ -19,7 +19,7 @@ extern "C" {
         scratch: *mut u8,
         scratch_length: usize,
     ) -> u64;
-    fn neblinaro_judge(
+    pub fn neblinaro_judge(
         sheet: *const u8,
         sheet_length: usize,
         task: u64,
@@ -28,7 +28,7 @@ extern "C" {
         scratch: *mut u8,
         scratch_length: usize,
     ) -> u64;
-    fn neblinaro_run(
+    pub fn neblinaro_run(
         sheet: *const u8,
         sheet_length: usize,
         task: u64,

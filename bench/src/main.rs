@@ -1,27 +1,46 @@
-//! Times of the proved calls beside those of the plain Rust implementation, in one run, on the same sheets.
-//! Each figure is the least of several rounds: other work on the machine can only lengthen a round.
+//! One table: the time of each proved call and of the proved program beside plain Rust, in one run, on ordinary sheets and on the
+//! slowest known ones. Each figure is the least of several rounds, which both sides take in turn: other work on the machine can only
+//! lengthen a round.
 
-#[cfg(test)]
-mod agree;
-mod calls;
-mod memoised;
-mod runs;
+mod table;
 
+use bench::{calls, memoised, program, runs};
 use reference::generate::text;
 use reference::rewrite;
 use reference::sheet;
 use reference::special::{compared_arities, hard_pairs, special, WALKS};
 use reference::timing::{time, times};
 use reference::walk::Walker;
+use std::io::{Read, Write};
+use std::path::Path;
+use std::process::{Command, Stdio};
+use std::time::{Duration, Instant};
+use table::{counted, thousands, Pair, Row, Table};
 
-fn main() {
+/// The argument with which this program is plain Rust's: a sheet on standard input, its listing on standard output.
+const PLAIN: &str = "plain";
+
+fn main() -> std::io::Result<()> {
+    if std::env::args().nth(1).as_deref() == Some(PLAIN) {
+        return plain_program();
+    }
     clock();
-    check();
-    compare();
-    solve();
-    judge_and_run();
-    crowded();
-    long_runs();
+    let mut table = Table::default();
+    check(&mut table);
+    compare(&mut table);
+    solve(&mut table);
+    judge(&mut table);
+    run(&mut table);
+    slow_runs(&mut table);
+    programs(&mut table);
+    table.print_worst();
+    Ok(())
+}
+
+fn plain_program() -> std::io::Result<()> {
+    let mut sheet = Vec::new();
+    std::io::stdin().take(reference::limits::SHEET_BYTES as u64 + 1).read_to_end(&mut sheet)?;
+    std::io::stdout().write_all(&reference::listing(&sheet))
 }
 
 /// A chain of dependent multiplications, to tell a slow moment of the machine from slow code.
@@ -30,25 +49,36 @@ fn clock() {
     println!("1,000 dependent multiplications: {ns:.0} ns\n");
 }
 
-/// Check, on every special sheet: proved, plain, and their ratio.
-fn check() {
-    println!("{:44} {:>7} {:>10} {:>10} {:>8} {:>6}", "check", "bytes", "proved ns", "plain ns", "ns/byte", "ratio");
+/// Check, on every special sheet of some length; and a byte of it where all are read.
+fn check(rows: &mut Table) {
     for (name, sheet) in special() {
         if sheet.len() < 1_000 {
             continue;
         }
-        assert_eq!(calls::check(&sheet), reference::check(&sheet), "{name}");
-        let proved = time(|| calls::check(&sheet));
-        let plain = time(|| reference::check(&sheet));
-        let bytes = sheet.len();
-        println!("{name:44} {bytes:7} {proved:10.0} {plain:10.0} {:8.2} {:6.2}", proved / bytes as f64, proved / plain);
+        let number = calls::check(&sheet);
+        assert_eq!(number, reference::check(&sheet), "{name}");
+        let [proved, plain] = times(|case| match case {
+            0 => calls::check(&sheet),
+            _ => reference::check(&sheet),
+        });
+        let [one, plain_one] = [proved, plain].map(|ns| ns / sheet.len() as f64);
+        let work = match number {
+            0 => counted(sheet.len(), "byte"),
+            _ => format!("refusal {}, line {}", number % 256, thousands((number / 256) as usize)),
+        };
+        rows.add(Row {
+            call: "check",
+            sheet: name.to_string(),
+            work,
+            whole: Pair { proved, plain },
+            unit: (number == 0).then_some(("byte", Pair { proved: one, plain: plain_one })),
+        });
     }
 }
 
-/// Compare, on pairs of large terms: the whole call, which reads the sheet and clears scratch; the same work in plain Rust; and the
-/// reference's own call.
-fn compare() {
-    println!("\n{:44} {:>10} {:>10} {:>6} {:>12}", "compare", "proved ns", "plain ns", "ratio", "reference ns");
+/// Compare, on pairs of large terms: the whole call, which reads the sheet and clears scratch, beside the same memoised comparison in plain
+/// Rust, and beside the reference, which decides a pair in another way.
+fn compare(rows: &mut Table) {
     let arities = compared_arities();
     let symbols = [&[1, arities.len() as u8], arities].concat();
     for (name, left, right) in hard_pairs() {
@@ -57,31 +87,34 @@ fn compare() {
         let sheet = text(&[symbols.clone(), equation, [&[5], &left[..], &right].concat()]);
         let mut scratch = vec![0xa5; 57_344];
         let mut plain_scratch = scratch.clone();
-        let proved = calls::compare(&sheet, 0, &mut scratch);
-        assert_eq!(proved, reference::compare(&sheet, 0, &mut plain_scratch), "{name}");
-        assert_eq!(proved, 256 * u64::from(memoised::verdict(&left, &right, arities, &mut plain_scratch)), "{name}");
+        let number = calls::compare(&sheet, 0, &mut scratch);
+        assert_eq!(number, reference::compare(&sheet, 0, &mut plain_scratch), "{name}");
+        assert_eq!(number, 256 * u64::from(memoised::verdict(&left, &right, arities, &mut plain_scratch)), "{name}");
         assert_eq!(scratch, plain_scratch, "{name}");
-        let proved = time(|| calls::compare(&sheet, 0, &mut scratch));
-        let plain = time(|| (reference::check(&sheet), memoised::verdict(&left, &right, arities, &mut plain_scratch)));
-        let other = time(|| reference::compare(&sheet, 0, &mut plain_scratch));
-        println!("{name:44} {proved:10.0} {plain:10.0} {:6.2} {other:12.0}", proved / plain);
+        let [proved, plain, other] = times(|case| match case {
+            0 => calls::compare(&sheet, 0, &mut scratch),
+            1 => reference::check(&sheet) + u64::from(memoised::verdict(&left, &right, arities, &mut plain_scratch)),
+            _ => reference::compare(&sheet, 0, &mut plain_scratch),
+        });
+        for (work, plain) in [("beside the same", plain), ("beside the reference", other)] {
+            let (sheet, work) = (name.to_string(), work.to_string());
+            rows.add(Row { call: "compare", sheet, work, whole: Pair { proved, plain }, unit: None });
+        }
     }
 }
 
 /// Solve, on equations with many turns, lines or elements, in both directions: the whole call, which reads the sheet and clears
 /// scratch; and a turn of its walk alone, by what the call takes beyond that on an equation of the same sheet that takes no turn.
-fn solve() {
-    print!("\n{:30} {:>6} {:>5} {:>10} {:>10} {:>6}", "solve", "turns", "lines", "proved ns", "plain ns", "ratio");
-    println!(" {:>14} {:>14} {:>6}", "proved ns/turn", "plain ns/turn", "ratio");
+fn solve(rows: &mut Table) {
     let mut walker = Walker::new();
     let mut table = vec![0xa5; 22_695];
     let mut scratch = vec![0xa5; 57_344];
     for (name, sheet) in walked() {
         let equation = rewrite::equation(&sheet::read(&sheet).expect("a sheet"), 0);
         for direction in 0..2 {
-            let lines = match walker.walk(&equation, direction) {
-                Ok(_) => walker.lines().len().to_string(),
-                Err(excess) => format!("({})", excess.refusal_number()),
+            let ended = match walker.walk(&equation, direction) {
+                Ok(_) => counted(walker.lines().len(), "line"),
+                Err(excess) => format!("refusal {}", excess.refusal_number()),
             };
             let turns = walker.measure().turns;
             let asked = u64::from(direction);
@@ -91,13 +124,15 @@ fn solve() {
                 2 => calls::solve(&sheet, 1, asked, &mut table, &mut scratch),
                 _ => reference::solve(&sheet, 1, asked, &mut table, &mut scratch),
             });
-            print!("{name:28} {direction} {turns:6} {lines:>5} {proved:10.0} {plain:10.0} {:6.2}", proved / plain);
-            // The difference of two calls does not tell what few turns take.
-            if 100 <= turns {
-                let [proved, plain] = [proved - proved_none, plain - plain_none].map(|ns| ns / f64::from(turns));
-                print!(" {proved:14.1} {plain:14.1} {:6.2}", proved / plain);
-            }
-            println!();
+            let [one, plain_one] = [proved - proved_none, plain - plain_none].map(|ns| ns / f64::from(turns));
+            rows.add(Row {
+                call: "solve",
+                sheet: format!("{name}, {}", ["left > right", "right > left"][usize::from(direction)]),
+                work: format!("{}, {ended}", counted(turns as usize, "turn")),
+                whole: Pair { proved, plain },
+                // The difference of two calls does not tell what few turns take.
+                unit: (100 <= turns).then_some(("turn", Pair { proved: one, plain: plain_one })),
+            });
         }
     }
 }
@@ -144,76 +179,144 @@ fn walked() -> Vec<(&'static str, Vec<u8>)> {
     sheets
 }
 
-/// Judge and run on ordinary sheets, whole calls: proved, plain, and their ratio; and a step of the run.
-fn judge_and_run() {
-    println!(
-        "\n{:34} {:>6} {:>10} {:>10} {:>6} {:>13}",
-        "run, then judge", "steps", "proved ns", "plain ns", "ratio", "proved ns/step"
-    );
-    let mut buffers = [22_695, 57_344, 160, 765].map(|length| vec![0xa5; length]);
-    let [table, scratch, term, log] = &mut buffers;
+/// The lent table, scratch, term and log.
+fn lent() -> [Vec<u8>; 4] {
+    [22_695, 57_344, 160, 765].map(|length| vec![0xa5; length])
+}
+
+/// Judge on ordinary sheets, whole calls.
+fn judge(rows: &mut Table) {
+    let [mut table, mut scratch, ..] = lent();
     for (name, sheet) in runs::ordinary() {
-        let number = calls::run(&sheet, 0, table, scratch, term, log);
-        assert_eq!(number, reference::run(&sheet, 0, table, scratch, term, log), "{name}");
+        let number = calls::judge(&sheet, 1, &mut table, &mut scratch);
+        assert_eq!(number, reference::judge(&sheet, 1, &mut table, &mut scratch), "{name}");
         assert_eq!(number % 256, 0, "{name}");
-        let steps = number / 256 % 65_536;
         let [proved, plain] = times(|case| match case {
-            0 => calls::run(&sheet, 0, table, scratch, term, log),
-            _ => reference::run(&sheet, 0, table, scratch, term, log),
+            0 => calls::judge(&sheet, 1, &mut table, &mut scratch),
+            _ => reference::judge(&sheet, 1, &mut table, &mut scratch),
         });
-        println!(
-            "{name:34} {steps:6} {proved:10.0} {plain:10.0} {:6.2} {:13.0}",
-            proved / plain,
-            proved / steps.max(1) as f64
-        );
-        assert_eq!(calls::judge(&sheet, 1, table, scratch), reference::judge(&sheet, 1, table, scratch), "{name}");
-        let [proved, plain] = times(|case| match case {
-            0 => calls::judge(&sheet, 1, table, scratch),
-            _ => reference::judge(&sheet, 1, table, scratch),
-        });
-        println!("{:34} {:6} {proved:10.0} {plain:10.0} {:6.2}", "", "judge", proved / plain);
+        let work = if number == 0 { "no".to_string() } else { format!("yes, line {}", number >> 24) };
+        rows.add(Row { call: "judge", sheet: name.to_string(), work, whole: Pair { proved, plain }, unit: None });
     }
 }
 
-/// Runs over sixteen equations with many lines each, once: what a call takes.
-fn crowded() {
-    println!("\n{:44} {:>6} {:>8} {:>10} {:>10}", "sixteen equations", "task", "number", "proved ms", "plain ms");
-    let mut buffers = [22_695, 57_344, 160, 765].map(|length| vec![0xa5; length]);
-    let [table, scratch, term, log] = &mut buffers;
-    for (name, sheet) in runs::crowded() {
-        for task in 0..2 {
-            let start = std::time::Instant::now();
-            let number = calls::run(&sheet, task, table, scratch, term, log);
-            let proved = start.elapsed().as_secs_f64();
-            let start = std::time::Instant::now();
-            assert_eq!(number, reference::run(&sheet, task, table, scratch, term, log), "{name}");
-            let plain = start.elapsed().as_secs_f64();
-            println!("{name:44} {task:6} {number:8x} {:10.2} {:10.2}", 1e3 * proved, 1e3 * plain);
-        }
+/// Run on ordinary sheets, whole calls; and a step.
+fn run(rows: &mut Table) {
+    let [mut table, mut scratch, mut term, mut log] = lent();
+    for (name, sheet) in runs::ordinary() {
+        let number = calls::run(&sheet, 0, &mut table, &mut scratch, &mut term, &mut log);
+        assert_eq!(number, reference::run(&sheet, 0, &mut table, &mut scratch, &mut term, &mut log), "{name}");
+        assert_eq!(number % 256, 0, "{name}");
+        let [proved, plain] = times(|case| match case {
+            0 => calls::run(&sheet, 0, &mut table, &mut scratch, &mut term, &mut log),
+            _ => reference::run(&sheet, 0, &mut table, &mut scratch, &mut term, &mut log),
+        });
+        rows.add(run_row(name.to_string(), number, Pair { proved, plain }));
     }
 }
 
-/// Runs that take long, the least of three: what a call takes.
-fn long_runs() {
-    println!("\n{:44} {:>6} {:>10} {:>10} {:>6}", "long runs", "steps", "proved ms", "plain ms", "ratio");
-    let mut buffers = [22_695, 57_344, 160, 765].map(|length| vec![0xa5; length]);
-    let [table, scratch, term, log] = &mut buffers;
-    for (name, sheet) in runs::long() {
-        let number = calls::run(&sheet, 0, table, scratch, term, log);
-        assert_eq!(number, reference::run(&sheet, 0, table, scratch, term, log), "{name}");
-        let steps = number / 256 % 65_536;
-        let mut least = [f64::MAX; 2];
-        for _ in 0..3 {
-            for (case, least) in least.iter_mut().enumerate() {
-                let start = std::time::Instant::now();
-                match case {
-                    0 => calls::run(&sheet, 0, table, scratch, term, log),
-                    _ => reference::run(&sheet, 0, table, scratch, term, log),
-                };
-                *least = least.min(1e3 * start.elapsed().as_secs_f64());
+fn run_row(sheet: String, number: u64, whole: Pair) -> Row {
+    let steps = (number / 256 % 65_536) as usize;
+    let work = match number % 256 {
+        0 => counted(steps, "step"),
+        refusal => format!("refusal {refusal}"),
+    };
+    let one = |ns: f64| ns / steps as f64;
+    let unit = (number.is_multiple_of(256) && 0 < steps)
+        .then(|| ("step", Pair { proved: one(whole.proved), plain: one(whole.plain) }));
+    Row { call: "run", sheet, work, whole, unit }
+}
+
+/// The runs of special sheets, of searched ones, and of sheets with sixteen equations with many lines each: those that take a millisecond
+/// and more.
+fn slow_runs(rows: &mut Table) {
+    let [mut table, mut scratch, mut term, mut log] = lent();
+    let named = special().into_iter().chain(runs::long()).map(|(name, sheet)| (name.to_string(), sheet));
+    for (name, sheet) in named.chain(crowded()) {
+        let tasks = reference::sheet::read(&sheet).map_or(0, |sheet| sheet.tasks().len() as u64);
+        for task in 0..tasks {
+            let number = calls::run(&sheet, task, &mut table, &mut scratch, &mut term, &mut log);
+            let start = Instant::now();
+            calls::run(&sheet, task, &mut table, &mut scratch, &mut term, &mut log);
+            let took = start.elapsed();
+            if took < Duration::from_millis(1) {
+                continue;
             }
+            let plain = reference::run(&sheet, task, &mut table, &mut scratch, &mut term, &mut log);
+            assert_eq!(number, plain, "{name}");
+            let whole = least(rounds(took), |proved| match proved {
+                true => calls::run(&sheet, task, &mut table, &mut scratch, &mut term, &mut log),
+                false => reference::run(&sheet, task, &mut table, &mut scratch, &mut term, &mut log),
+            });
+            rows.add(run_row(format!("{name}, task {task}"), number, whole));
         }
-        let [proved, plain] = least;
-        println!("{name:44} {steps:6} {proved:10.1} {plain:10.1} {:6.2}", proved / plain);
     }
+}
+
+/// The crowded sheets; each has an equation of the special sheet of its name sixteen times.
+fn crowded() -> impl Iterator<Item = (String, Vec<u8>)> {
+    runs::crowded().into_iter().map(|(name, sheet)| (format!("16 × {name}"), sheet))
+}
+
+/// How many rounds are made of work that takes so long: half a second of each side, within reason.
+fn rounds(took: Duration) -> usize {
+    (500_000 / took.as_micros().max(1) as usize).clamp(3, 60)
+}
+
+/// The least of so many rounds of each side, in turn.
+fn least<T>(rounds: usize, mut work: impl FnMut(bool) -> T) -> Pair {
+    let mut round = |proved: bool| {
+        let start = Instant::now();
+        std::hint::black_box(work(proved));
+        start.elapsed().as_nanos() as f64
+    };
+    let mut least = Pair { proved: f64::MAX, plain: f64::MAX };
+    for _ in 0..rounds {
+        least.proved = least.proved.min(round(true));
+        least.plain = least.plain.min(round(false));
+    }
+    least
+}
+
+/// The programs as processes, from their start to their end, with the sheet in a file and the listing thrown away.
+fn programs(rows: &mut Table) {
+    let examiner = program::examiner();
+    let plain = std::env::current_exe().expect("this program");
+    let file = std::env::temp_dir().join(format!("neblinaro-{}.sheet", std::process::id()));
+    for (name, sheet) in listed() {
+        let start = Instant::now();
+        let listing = program::listing(&examiner, &sheet);
+        let took = start.elapsed();
+        assert!(listing == reference::listing(&sheet), "{name}");
+        std::fs::write(&file, &sheet).expect("the sheet is written");
+        let whole = least(rounds(took), |proved| match proved {
+            true => start_to_end(&examiner, &[], &file),
+            false => start_to_end(&plain, &[PLAIN], &file),
+        });
+        let work = format!("{} listed", counted(listing.len(), "byte"));
+        rows.add(Row { call: "program", sheet: name, work, whole, unit: None });
+    }
+    std::fs::remove_file(&file).expect("the sheet's file");
+}
+
+fn start_to_end(program: &Path, arguments: &[&str], sheet: &Path) {
+    let input = std::fs::File::open(sheet).expect("the sheet's file");
+    let status = Command::new(program).args(arguments).stdin(input).stdout(Stdio::null()).status();
+    assert!(status.expect("the program starts").success());
+}
+
+/// Special sheets whose listings are timed, beside P1 and those with the longest listings.
+const LISTED: [&str; 4] =
+    ["longest valid sheet", "all hard comparisons", "sorting of 40 factors", "255 steps under large tables"];
+
+/// The sheets whose listings are timed: P1, ordinary ones, special ones, and the three crowded ones with the longest listings.
+fn listed() -> Vec<(String, Vec<u8>)> {
+    let mut special = special();
+    special.retain(|(name, _)| LISTED.contains(name));
+    let p1 = [("start, P1's listing, end", reference::special::P1.to_vec())];
+    let named = p1.into_iter().chain(runs::ordinary()).chain(special);
+    let mut longest: Vec<(String, Vec<u8>)> = crowded().collect();
+    longest.sort_by_cached_key(|(_, sheet)| std::cmp::Reverse(reference::listing(sheet).len()));
+    longest.truncate(3);
+    named.map(|(name, sheet)| (name.to_string(), sheet)).chain(longest).collect()
 }

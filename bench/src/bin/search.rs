@@ -1,10 +1,7 @@
 //! Climbs from random equations to those whose turns take longest beside plain Rust, and prints the worst that it found, timed again.
 //! Arguments: seconds, first seed.
 
-#[path = "../calls.rs"]
-#[allow(dead_code)]
-mod calls;
-
+use bench::calls;
 use reference::generate::{text, Signature};
 use reference::random::Random;
 use reference::timing::times;

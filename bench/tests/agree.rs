@@ -1,6 +1,6 @@
 //! The proved calls give what the second implementation gives, number and bytes, on generated and on special sheets.
 
-use crate::calls;
+use bench::{calls, runs};
 use reference::generate::sheet;
 use reference::special::special;
 
@@ -169,10 +169,10 @@ fn run() {
 /// Sheets with sixteen equations, in some of which the lines do not fit the table together.
 #[test]
 fn crowded() {
-    let sheets = crate::runs::crowded();
+    let sheets = runs::crowded();
     let beyond = sheets.iter().filter(|(_, sheet)| kept_bytes(sheet).is_some_and(|bytes| TABLE < bytes)).count();
     assert!(0 < beyond, "the lines of every sheet fit the table");
-    for (_, sheet) in crate::runs::ordinary().iter().chain(&sheets) {
+    for (_, sheet) in runs::ordinary().iter().chain(&sheets) {
         for task in tasks(sheet) {
             ran(sheet, task, [TABLE, SCRATCH, TERM, LOG]);
         }
