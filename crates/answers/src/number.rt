@@ -13,6 +13,9 @@ const SECOND: u64 = 65536 * FIRST;
 
 const THIRD: u64 = 65536 * SECOND;
 
+// Frame 01 is line 1, and the equations follow, one a line.
+pub const FIRST_EQUATION_LINE: usize = 2;
+
 // A refusal and its line.
 pub fn refusal_number(why: Refusal, line: usize) -> u64
     requires { ⌜ line ≤ max-text ⌝ }

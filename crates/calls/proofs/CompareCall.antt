@@ -14,7 +14,7 @@ use Rattle.reading.specs.Contracts.Reader.{SheetRead}
 use Rattle.outcomes.specs.Buffer.{refusal-number}
 use Rattle.outcomes.specs.Asked.{find, asked, comparison-task}
 use Rattle.outcomes.specs.Outcome.{compare-answer, compare-call}
-use Rattle.answers.proofs.CompareTask.{outcome, answered}
+use Rattle.comparisons.proofs.CompareTask.{outcome, answered}
 
 module _ (sheet scratch : List ℕ) (task : ℕ) where
   -- The whole call.

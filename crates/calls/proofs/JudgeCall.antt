@@ -15,7 +15,7 @@ use Rattle.reading.specs.declared.read.SheetStatus.the-variants.{Refused as She
 use Rattle.reading.specs.Contracts.Reader.{SheetRead}
 use Rattle.outcomes.specs.Buffer.{refusal-number}
 use Rattle.outcomes.specs.Asked.{find, asked, judgement-task}
-use Rattle.answers.proofs.SolveTask.{outcome}
+use Rattle.solutions.proofs.SolveTask.{outcome}
 use Rattle.outcomes.specs.Outcome.{table-fits, judge-answer, judge-call}
 
 module _ (sheet table scratch : List ℕ) (task : ℕ) where

@@ -16,7 +16,7 @@ use Rattle.reading.specs.Contracts.Reader.{SheetRead}
 use Rattle.outcomes.specs.Buffer.{refusal-number}
 use Rattle.outcomes.specs.Asked.{find, asked, solve-directed}
 use Rattle.outcomes.specs.Outcome.{table-fits, solve-answer, solve-call}
-use Rattle.answers.proofs.SolveTask.{outcome, answered}
+use Rattle.solutions.proofs.SolveTask.{outcome, answered}
 
 module _ (sheet table scratch : List ℕ) (equation direction : ℕ) where
   -- 3. The whole call.

@@ -1,6 +1,6 @@
 // Compare: the verdict of a task of two ground terms.
-use answers::compare::compare_task;
 use answers::number::refusal_number;
+use comparisons::compare::compare_task;
 use format::limits::Limits;
 use format::refusal::Refusal;
 use reading::read::SheetStatus;

@@ -1,10 +1,10 @@
 // Solve: the lines and the turns of one direction of an equation, and its table.
 use answers::number::refusal_number;
-use answers::solve::solve_named;
 use format::limits::Limits;
 use format::refusal::Refusal;
 use reading::read::SheetStatus;
 use reading::read::read_sheet;
+use solutions::solve::solve_named;
 ghost use mathlib.Core.Path.{_≡_};
 ghost use Rattle.outcomes.specs.Outcome.{solve-call};
 

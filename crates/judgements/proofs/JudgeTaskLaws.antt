@@ -39,13 +39,13 @@ use Rattle.outcomes.specs.Outcome.{TableOutcome, table-unsolved, judge-fields, 
 use Rattle.rules.specs.Contracts.Rows.{RowsAre, HasRows}
 use Rattle.searching.proofs.NextLaws.{rule-below}
 use Rattle.answers.proofs.Fill.{filled-behind}
-use Rattle.answers.proofs.SolveTask.{outcome}
-use Rattle.answers.proofs.Stored.{cells-there}
+use Rattle.solutions.proofs.SolveTask.{outcome}
+use Rattle.comparisons.proofs.Stored.{cells-there}
 use Rattle.answers.proofs.Arities.{symbols-room, symbols-taken, arities-taken}
-use Rattle.judgements.specs.declared.judge.Judged.{Judged}
-use Rattle.judgements.specs.declared.judge.Judged.the-variants.{Refused, End}
-use Rattle.judgements.specs.Contracts.Judgement.{JudgeIs, JudgedAs}
-use Rattle.judgements.specs.Contracts.JudgeTask.{JudgementIn, HasJudgement, ValuesIn, HasValues}
+use Rattle.judged.specs.declared.judge.Judged.{Judged}
+use Rattle.judged.specs.declared.judge.Judged.the-variants.{Refused, End}
+use Rattle.judged.specs.Contracts.Judgement.{JudgeIs, JudgedAs}
+use Rattle.judgements.specs.Contracts.JudgeTask.{JudgementIn, HasJudgement, ValuesIn, HasValues, JudgedIn, HasJudged, JudgedNumber}
 
 -- 1. Numbers that fit their fields.
 first-holding-low : (ρ : Values) (value : ℕ → Term) (ls : List Line) → first-holding ρ value ls ≤ length ls
@@ -144,7 +144,56 @@ module _ {sheet : List ℕ} {known : Known} {from end : ℕ} {equations lengths 
       let same = values-hold {r = first-holding (given-values ts) (value e (given-values ts)) (v .kept)} refl in
       omega (arith, h, same, first-holding-low (given-values ts) (value e (given-values ts)) (v .kept), solved-line-count e (v .rule-is .row .limits) d (v .kept) (v .turns) (v .solves))
 
--- 4. What judge earns, by the task.
+-- 4. The number, by what the walks gave.
+pub none-holds : {line n : ℕ} → line ≡ 0 → n ≡ 0 → n ≡ judge-fields line
+unfolding judge-fields fields
+none-holds h e = e ∙ sym (ap judge-fields h)
+
+pub some-holds : (line : ℕ) {n : ℕ} → (line ≡ 0 → ⊥) → n ≡ fields 1 line 0 → n ≡ judge-fields line
+unfolding judge-fields
+some-holds zero h e = absurd (h refl)
+some-holds (suc i) h e = e
+
+module _ {sheet : List ℕ} {known : Known} {from end : ℕ} {equations lengths : List ℕ} {rule : ℕ} {judged : Judged} {table : List ℕ} {es : List Equation} {i : ℕ} {e : Equation} {d : Direction} {ts : Terms}
+    (j : JudgedIn sheet known from end equations lengths rule judged table es i e d ts) where
+  judged-to : {w : Judged} → judged ≡ w → JudgedAs es rule table w
+  judged-to h = subst (JudgedAs es rule table) h (j .walked)
+
+  pub refused-fits : {why : Refusal} {k : ℕ} → judged ≡ Refused why k → k + 2 ≤ max-text
+  unfolding equation-line
+  refused-fits {why} {k} h = omega (arith, refusal-low 0 es (record { refusal = why; line = equation-line k }) (judged-to h), j .few)
+
+  pub refused-told : {why : Refusal} {k n : ℕ} → judged ≡ Refused why k → n ≡ refusal-number why (k + 2) → JudgedNumber judged e d (given-values ts) n
+  unfolding equation-line
+  refused-told {n = n} h x = subst (λ w. JudgedNumber w e d (given-values ts) n) (sym h) x
+
+  module _ {filled : ℕ} (h : judged ≡ End filled) where
+    pub values-there : ValuesIn sheet known from end equations lengths rule table filled i e d ts
+    values-there =
+        let (kept, turns, solves, proper, there) = judged-to h .1 i e d (j .numbered) (j .rule-is .number) in
+        record {
+          rule-is = j .rule-is;
+          kept = kept;
+          turns = turns;
+          solves = solves;
+          proper = proper;
+          there = there;
+          terms-in = j .terms-in;
+          one-each = j .one-each;
+          roomy = j .roomy;
+        }
+
+    pub values-has : HasValues sheet known from end equations lengths rule table filled
+    values-has = record { number = i; equation = e; direction = d; terms = ts; are = values-there }
+
+    module _ {line : ℕ} (holds : (i : ℕ) (e : Equation) (d : Direction) (ts : Terms) → ValuesIn sheet known from end equations lengths rule table filled i e d ts → line ≡ holding-line e d (given-values ts)) where
+      pub line-low : line < field-limit
+      line-low = holding-low values-there (holds i e d ts values-there)
+
+      pub judged-told : {n : ℕ} → n ≡ judge-fields line → JudgedNumber judged e d (given-values ts) n
+      judged-told {n} x = subst (λ w. JudgedNumber w e d (given-values ts) n) (sym h) (x ∙ ap judge-fields (holds i e d ts values-there))
+
+-- 5. What judge earns, by the task.
 module _ (sheet table scratch : List ℕ) (task : ℕ) where
   abbrev pub answered : TableOutcome
   answered = judge-answer table scratch (asked true sheet (judgement-task task))
@@ -188,16 +237,7 @@ module _ (sheet : List ℕ) (known : Known) (task : ℕ) (a : Accepts sheet know
   pub judgement-has : HasJudgement sheet known (k + k + d) (place .from) (place .end)
   judgement-has = record { task = task; is = judgement-found }
 
--- 5. A judgement that is found.
-pub none-holds : {line n : ℕ} → line ≡ 0 → n ≡ 0 → n ≡ judge-fields line
-unfolding judge-fields fields
-none-holds h e = e ∙ sym (ap judge-fields h)
-
-pub some-holds : (line : ℕ) {n : ℕ} → (line ≡ 0 → ⊥) → n ≡ fields 1 line 0 → n ≡ judge-fields line
-unfolding judge-fields
-some-holds zero h e = absurd (h refl)
-some-holds (suc i) h e = e
-
+-- 6. A judgement that is found.
 module _ {sheet : List ℕ} {known : Known} {rule from end task : ℕ} (j : JudgementIn sheet known rule from end task) where
   -- Its sheet, its equation and its values.
   record TaskParts : Type 0 where
@@ -253,6 +293,12 @@ module _ {sheet : List ℕ} {known : Known} {rule from end task : ℕ} (j : Judg
         ∙ ap (λ q. judge-answer table scratch (found (values-in es q (j .direction) (given-values (j .terms))))) (parts .is-equation)
         ∙ ap (judge-walked table scratch (record { equations = es; equation = parts .equation; direction = j .direction; values = given-values (j .terms) })) h
 
+    answer-told : (worked : List ℕ) (judged : Judged) {n : ℕ} → JudgedAs (parts .content .equations) rule worked judged → JudgedNumber judged (parts .equation) (j .direction) (given-values (j .terms)) n
+        → answered sheet table scratch task ≡ outcome n (blanked table) (cleared scratch)
+    unfolding judge-walked table-unsolved
+    answer-told worked (Refused why k) w x = answer-is (some (record { refusal = why; line = equation-line k })) w ∙ ap (λ n. outcome n (blanked table) (cleared scratch)) (sym x)
+    answer-told worked (End filled) w x = answer-is none (w .0) ∙ ap (λ n. outcome n (blanked table) (cleared scratch)) (sym x)
+
   module _ (equations lengths : List ℕ) (rows : (s : Sheet) → read sheet ≡ accepted s → RowsAre equations lengths (known-arities known) (s .equations)) where
     rows-are : RowsAre equations lengths (known-arities known) (parts .content .equations)
     rows-are = rows (parts .content) (parts .reads)
@@ -260,51 +306,23 @@ module _ {sheet : List ℕ} {known : Known} {rule from end task : ℕ} (j : Judg
     pub rows-has : HasRows equations lengths (known .equations)
     rows-has = record { arities = known-arities known; those = parts .content .equations; are = rows-are; counted = parts .counted }
 
-    module _ (worked : List ℕ) (r : Judged) (walked : (arities : List ℕ) (es : List Equation) → RowsAre equations lengths arities es → known .equations ≡ length es → JudgedAs es rule worked r) where
-      judged : JudgedAs (parts .content .equations) rule worked r
-      judged = walked (known-arities known) (parts .content .equations) rows-are (parts .counted)
+    module _ (worked : List ℕ) (judged : Judged) (walked : (arities : List ℕ) (es : List Equation) → RowsAre equations lengths arities es → known .equations ≡ length es → JudgedAs es rule worked judged) where
+      judged-in : JudgedIn sheet known from end equations lengths rule judged worked (parts .content .equations) (j .number) (parts .equation) (j .direction) (j .terms)
+      judged-in = record {
+        few = parts .few-equations;
+        numbered = parts .is-equation;
+        rule-is = record { row = rows-are .row (j .number) (parts .equation) (parts .is-equation); number = j .is-rule };
+        walked = walked (known-arities known) (parts .content .equations) rows-are (parts .counted);
+        terms-in = parts .terms-in;
+        one-each = parts .one-each;
+        roomy = parts .roomy;
+      }
 
-      judged-to : {w : Judged} → r ≡ w → JudgedAs (parts .content .equations) rule worked w
-      judged-to {w} h = subst (JudgedAs (parts .content .equations) rule worked) h judged
+      pub judged-has : HasJudged sheet known from end equations lengths rule judged worked
+      judged-has = record { those = parts .content .equations; number = j .number; equation = parts .equation; direction = j .direction; terms = j .terms; are = judged-in }
 
-      pub refused-fits : {why : Refusal} {k : ℕ} → r ≡ Refused why k → k + 2 ≤ max-text
-      unfolding equation-line
-      refused-fits {why} {k} h = omega (arith, refusal-low 0 (parts .content .equations) (record { refusal = why; line = equation-line k }) (judged-to h), parts .few-equations)
-
-      pub refused-told : (table scratch : List ℕ) {why : Refusal} {k n : ℕ} → r ≡ Refused why k → n ≡ refusal-number why (k + 2)
+      pub judgement-told : (table scratch : List ℕ) {n : ℕ}
+          → ((es : List Equation) (i : ℕ) (e : Equation) (d : Direction) (ts : Terms) → JudgedIn sheet known from end equations lengths rule judged worked es i e d ts → JudgedNumber judged e d (given-values ts) n)
           → answered sheet table scratch task ≡ outcome n (blanked table) (cleared scratch)
-      unfolding judge-walked table-unsolved equation-line
-      refused-told table scratch {why} {k} h e =
-          answer-is table scratch (some (record { refusal = why; line = equation-line k })) (judged-to h) ∙ ap (λ n. outcome n (blanked table) (cleared scratch)) (sym e)
-
-      module _ {filled : ℕ} (h : r ≡ End filled) where
-        values-there : ValuesIn sheet known from end equations lengths rule worked filled (j .number) (parts .equation) (j .direction) (j .terms)
-        values-there =
-            let (kept, turns, solves, proper, there) = judged-to h .1 (j .number) (parts .equation) (j .direction) (parts .is-equation) (j .is-rule) in
-            record {
-              rule-is = record { row = rows-are .row (j .number) (parts .equation) (parts .is-equation); number = j .is-rule };
-              kept = kept;
-              turns = turns;
-              solves = solves;
-              proper = proper;
-              there = there;
-              terms-in = parts .terms-in;
-              one-each = parts .one-each;
-              roomy = parts .roomy;
-            }
-
-        pub values-has : HasValues sheet known from end equations lengths rule worked filled
-        values-has = record { number = j .number; equation = parts .equation; direction = j .direction; terms = j .terms; are = values-there }
-
-        module _ {line : ℕ} (holds : (i : ℕ) (e : Equation) (d : Direction) (ts : Terms) → ValuesIn sheet known from end equations lengths rule worked filled i e d ts → line ≡ holding-line e d (given-values ts)) where
-          line-is : line ≡ holding-line (parts .equation) (j .direction) (given-values (j .terms))
-          line-is = holds (j .number) (parts .equation) (j .direction) (j .terms) values-there
-
-          pub line-low : line < field-limit
-          line-low = holding-low values-there line-is
-
-          pub judged-told : (table scratch : List ℕ) {n : ℕ} → n ≡ judge-fields line → answered sheet table scratch task ≡ outcome n (blanked table) (cleared scratch)
-          unfolding judge-walked
-          judged-told table scratch e =
-              answer-is table scratch none (judged-to h .0) ∙ ap (λ l. outcome (judge-fields l) (blanked table) (cleared scratch)) (sym line-is)
-              ∙ ap (λ n. outcome n (blanked table) (cleared scratch)) (sym e)
+      judgement-told table scratch told =
+          answer-told table scratch worked judged (judged-in .walked) (told (parts .content .equations) (j .number) (parts .equation) (j .direction) (j .terms) judged-in)

@@ -1,4 +1,2 @@
 -- Laws that the proofs of the functions share.
-pub mod ValueLaws
-pub mod JudgeLaws
 pub mod JudgeTaskLaws

@@ -1,3 +1,2 @@
 -- What the contracts of the code cite.
-pub mod Judgement
 pub mod JudgeTask

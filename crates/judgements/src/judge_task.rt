@@ -1,13 +1,13 @@
 // Judge: whether a line of a direction holds at the values of a task, and the first that does.
-use crate::judge::Judged;
-use crate::judge::judge_lines;
-use crate::judge::walk_judged;
 use answers::buffer::fill;
+use answers::number::FIRST_EQUATION_LINE;
 use answers::number::fields_number;
 use answers::number::refusal_number;
-use answers::solve::FIRST_EQUATION_LINE;
 use format::limits::Limits;
 use format::refusal::Refusal;
+use judged::judge::Judged;
+use judged::judge::judge_lines;
+use judged::judge::walk_judged;
 use judging::trimmed::KeptLines;
 use loading::load::load_terms;
 use reading::seek::TaskHead;
@@ -17,6 +17,7 @@ use rules::rows::store_equations;
 use scanning::known::Known;
 ghost use mathlib.Core.Path.{_≡_};
 ghost use mathlib.Core.Bool.{true};
+ghost use mathlib.Core.List.{List};
 ghost use Prim.Native.Nat.{ℕ, _≤_};
 ghost use lib.ListN.{length, drop};
 ghost use Rattle.format.specs.Limits.{table-bytes, scratch-bytes};
@@ -26,7 +27,7 @@ ghost use Rattle.reading.specs.Contracts.Seek.{Accepts};
 ghost use Rattle.outcomes.specs.Asked.{asked, judgement-task};
 ghost use Rattle.outcomes.specs.Outcome.{judge-answer};
 ghost use Rattle.reducing.specs.Test.{holding-line, given-values};
-ghost use Rattle.judgements.specs.Contracts.JudgeTask.{JudgementIn, HasJudgement, ValuesIn, HasValues};
+ghost use Rattle.judgements.specs.Contracts.JudgeTask.{JudgementIn, HasJudgement, ValuesIn, HasValues, JudgedIn, HasJudged, JudgedNumber};
 
 // The first line that holds at the values that the digits from `from` to `end` write, over the kept lines of the judged rule.
 pub fn judge_values(
@@ -73,6 +74,47 @@ pub fn judge_values(
     )
 }
 
+// The number that judge returns: the refusal of a walk, or whether a line holds at the values that the digits from `from` to `end` write, and the first that does.
+fn judge_walked(
+    sheet: &[u8],
+    known: Known,
+    from: usize,
+    end: usize,
+    equations: &[u8],
+    lengths: &[u8],
+    rule: usize,
+    judged: Judged,
+    table: &[u8],
+    scratch: &mut [u8],
+) -> u64
+    requires { ⌜ HasJudged (now sheet) known from end (now equations) (now lengths) rule judged (now table) × (scratch-bytes ≤ length (now scratch)) ⌝ }
+    ensures { λ r. ⌜ ((es : List Equation) (i : ℕ) (e : Equation) (d : Direction) (ts : Terms) → JudgedIn (now (sheet .entry)) known from end (now (equations .entry)) (now (lengths .entry)) rule judged (now (table .entry)) es i e d ts → JudgedNumber judged e d (given-values ts) r) ⌝ }
+    ensures { λ _. ⌜ drop scratch-bytes (now (scratch .exit)) ≡ drop scratch-bytes (now (scratch .entry)) ⌝ }
+{
+    match judged {
+        Judged::Refused(why, equation) => refusal_number(why, equation + FIRST_EQUATION_LINE),
+        Judged::End(filled) => {
+            let line = judge_values(
+                sheet,
+                known,
+                from,
+                end,
+                equations,
+                lengths,
+                rule,
+                table,
+                filled,
+                scratch,
+            );
+            if line == 0 {
+                0
+            } else {
+                fields_number(1, line, 0)
+            }
+        }
+    }
+}
+
 // Judge on a task that is a judgement of rule `rule`.
 fn judge_found(
     sheet: &[u8],
@@ -90,28 +132,18 @@ fn judge_found(
     let mut lengths = [0u8; ROWS];
     store_equations(sheet, known, &mut equations, &mut lengths);
     let judged = walk_judged(&equations, &lengths, known.equations, rule, table, scratch);
-    let number = match judged {
-        Judged::Refused(why, equation) => refusal_number(why, equation + FIRST_EQUATION_LINE),
-        Judged::End(filled) => {
-            let line = judge_values(
-                sheet,
-                known,
-                from,
-                end,
-                &equations,
-                &lengths,
-                rule,
-                table,
-                filled,
-                scratch,
-            );
-            if line == 0 {
-                0
-            } else {
-                fields_number(1, line, 0)
-            }
-        }
-    };
+    let number = judge_walked(
+        sheet,
+        known,
+        from,
+        end,
+        &equations,
+        &lengths,
+        rule,
+        judged,
+        table,
+        scratch,
+    );
     fill(table, Limits::TABLE, Limits::NO_POSITION);
     fill(scratch, Limits::SCRATCH, 0);
     number

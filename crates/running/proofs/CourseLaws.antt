@@ -1,12 +1,11 @@
--- A run: its log, the searches that find its steps, and what holds before each of them.
+-- A run: the definition's, its log, and what holds before each search.
 use Prim.Native.Nat.{ℕ, zero, suc, _+_, _-_, _*_, _/_, _%_, _≤_, _<_}
 use mathlib.Core.Path.{_≡_, refl, sym, ap, subst, _∙_}
 use mathlib.Core.Bool.{Bool, true, false}
 use mathlib.Core.Option.{none, some}
 use mathlib.Core.List.{List, [], _∷_, _++_, append-assoc, append-nil}
 use native.Mathlib.Omega.{arith}
-use lib.ListN.{length, getD, set, take, drop, length-append, length-drop}
-use lib.Seq.{length-take-le, drop-cons, drop-append-add, drop-drop, set-at}
+use lib.ListN.{length, drop, length-append}
 use borrow.Author.Tests.{lt-ltb, le-ltb}
 use Rattle.format.specs.Limits.{max-byte, max-task-nodes, position-count, table-bytes, scratch-bytes}
 use Rattle.format.specs.Buffer.{written}
@@ -20,70 +19,14 @@ use Rattle.reducing.specs.Test.{line-test, line-run}
 use Rattle.reducing.specs.Contracts.Rules.{rule-number}
 use Rattle.reducing.specs.Theory.Runs.{stopped, at-limit, unless-large, below-limit}
 use Rattle.outcomes.specs.Outcome.{log-of}
-use Rattle.lines.specs.Theory.Placed.{set-pair}
 use Rattle.replacing.specs.Contracts.Replacing.{ReplacedAs}
 use Rattle.replacing.specs.declared.part.Replaced.the-variants.{TooLarge}
 use Rattle.searching.specs.Contracts.Searching.{StepAt}
-use Rattle.searching.specs.Contracts.Next.{SearchIs}
-use Rattle.rulewise.specs.Contracts.Rulewise.{AllSolve}
-use Rattle.running.specs.Contracts.Course.{RulesReady, StepIs, RunIs, CourseIs}
-use Rattle.running.proofs.StepLaws.{step-possible}
+use Rattle.stepping.specs.Contracts.Stepping.{RulesReady, StepIs, RunIs}
+use Rattle.stepping.proofs.StepLaws.{step-possible}
+use Rattle.running.specs.Contracts.Course.{CourseIs}
 
--- 1. Three bytes more.
-written-length : (front before : List ℕ) → length (written front before) ≡ length front + length (drop (length front) before)
-unfolding written
-written-length front before = length-append front (drop (length front) before)
-
-three-dropped : (before : List ℕ) (at : ℕ) → at + 3 ≤ length before → drop at before ≡ getD before at 0 ∷ getD before (at + 1) 0 ∷ getD before (at + 2) 0 ∷ drop (at + 3) before
-three-dropped before at h =
-    next at (at + 1) (omega arith) (omega arith)
-    ∙ ap (getD before at 0 ∷_) (next (at + 1) (at + 2) (omega arith) (omega arith)
-    ∙ ap (getD before (at + 1) 0 ∷_) (next (at + 2) (at + 3) (omega arith) (omega arith)))
-  where
-    next : (i j : ℕ) → suc i ≡ j → j ≤ length before → drop i before ≡ getD before i 0 ∷ drop j before
-    next i j e h = drop-cons before i 0 (omega arith) ∙ ap (λ n. getD before i 0 ∷ drop n before) e
-
-pub three-more : (front before log : List ℕ) (at a b c : ℕ) → at + 3 ≤ length log → length front ≡ at → log ≡ written front before
-    → set (set (set log at a) (at + 1) b) (at + 2) c ≡ written (front ++ (a ∷ b ∷ c ∷ [])) before
-unfolding written
-three-more front before log at a b c room l w =
-    let rest = drop (at + 3) before in
-    let x = getD before at 0 in
-    let y = getD before (at + 1) 0 in
-    let z = getD before (at + 2) 0 in
-    let enough : at + 3 ≤ length before = omega (arith, ap length w, written-length front before, length-drop (length front) before) in
-    let split : log ≡ front ++ (x ∷ y ∷ z ∷ rest) = w ∙ ap (front ++_) (ap (λ n. drop n before) l ∙ three-dropped before at enough) in
-    let seam : length (front ++ (a ∷ b ∷ [])) ≡ at + 2 = length-append front (a ∷ b ∷ []) ∙ ap (_+ 2) l in
-    let end : at + 3 ≡ length (front ++ (a ∷ b ∷ c ∷ [])) = omega (arith, length-append front (a ∷ b ∷ c ∷ [])) in
-    ap (λ m. set (set (set m at a) (at + 1) b) (at + 2) c) split
-    ∙ (ap (λ m. set m (at + 2) c) (set-pair front x y a b (z ∷ rest) at l)
-    ∙ (ap (λ m. set m (at + 2) c) (sym (append-assoc front (a ∷ b ∷ []) (z ∷ rest)))
-    ∙ (set-at (front ++ (a ∷ b ∷ [])) z rest c (at + 2) seam
-    ∙ (append-assoc front (a ∷ b ∷ []) (c ∷ rest)
-    ∙ (sym (append-assoc front (a ∷ b ∷ c ∷ []) rest)
-    ∙ ap (λ n. (front ++ (a ∷ b ∷ c ∷ [])) ++ drop n before) end)))))
-
--- 2. What the two searches go by.
-module _ {equations lengths : List ℕ} {rules : ℕ} {bounds next : List ℕ} {fits : Bool} {table nodes sizes : List ℕ} {n : ℕ} {arities : List ℕ} {es : List Equation} {subject : Term}
-    (is : RunIs equations lengths rules bounds next fits table nodes sizes n arities es subject) where
-  ready-as : {b : Bool} → fits ≡ b → RulesReady equations lengths rules bounds next b table arities es
-  ready-as h = subst (λ b. RulesReady equations lengths rules bounds next b table arities es) h (is .ready)
-
-  pub by-positions : fits ≡ true → SearchIs equations lengths rules bounds next table nodes sizes arities es subject
-  by-positions h = record { rules-are = ready-as h .0; next-is = ready-as h .1; subject-is = is .subject-is }
-
-  pub by-rules : fits ≡ false → AllSolve equations lengths rules nodes sizes n arities es subject
-  by-rules h = record { rows = is .rows; counted = is .counted; solve = ready-as h; subject-is = is .subject-is; size-is = is .size-is }
-
--- What stands behind a front that is lent stays.
-pub behind-kept : (m n : ℕ) (part buffer : List ℕ) → length part ≡ length (take m buffer) → m ≤ length buffer → m ≤ n → drop n (part ++ drop m buffer) ≡ drop n buffer
-behind-kept m n part buffer l h k =
-    let d = n - m in
-    let far : n ≡ length part + d = omega (arith, length-take-le m buffer h) in
-    let back : m + d ≡ n = omega arith in
-    ap (λ i. drop i (part ++ drop m buffer)) far ∙ (drop-append-add part (drop m buffer) d ∙ (drop-drop d m buffer ∙ ap (λ i. drop i buffer) back))
-
--- The next search goes by the same rules, and by the same subject in the nodes that a search left.
+-- 1. The next search goes by the same rules, and by the same subject in the nodes that a search left.
 module _ {equations lengths : List ℕ} {rules : ℕ} {bounds next : List ℕ} {fits : Bool} {table nodes sizes : List ℕ} {n : ℕ} {arities : List ℕ} {es : List Equation} {subject : Term}
     (is : RunIs equations lengths rules bounds next fits table nodes sizes n arities es subject) {table′ : List ℕ} where
   ready-kept : (b : Bool) → (b ≡ true → table′ ≡ table) → RulesReady equations lengths rules bounds next b table arities es → RulesReady equations lengths rules bounds next b table′ arities es
@@ -93,7 +36,7 @@ module _ {equations lengths : List ℕ} {rules : ℕ} {bounds next : List ℕ} {
   pub run-kept : {nodes′ sizes′ : List ℕ} {n′ : ℕ} {subject′ : Term} → (fits ≡ true → table′ ≡ table) → SubjectIs nodes′ sizes′ arities subject′ → n′ ≡ size subject′ → RunIs equations lengths rules bounds next fits table′ nodes′ sizes′ n′ arities es subject′
   run-kept h s x = record { rows = is .rows; counted = is .counted; ready = ready-kept fits h (is .ready); subject-is = s; size-is = x }
 
--- 3. The definition's run, by what is found before its first step.
+-- 2. The definition's run, by what is found before its first step.
 module _ (es : List Equation) where
   run-without : (k : ℕ) (t : Term) → step line-test es t ≡ none → line-run es k t ≡ stopped none-found
   unfolding line-run run
@@ -112,7 +55,7 @@ module _ (es : List Equation) where
   unfolding line-run run
   run-goes-on k t s e h = ap (below-limit (λ s. line-run es k (s .result))) e ∙ ap (unless-large s (line-run es k (s .result))) (le-ltb max-task-nodes (size (s .result)) h)
 
--- 4. The log of the steps done, and one more.
+-- 3. The log of the steps done, and one more.
 length-log : (steps : List Step) → length (log-of steps) ≡ 3 * length steps
 unfolding log-of
 length-log [] = refl
@@ -129,7 +72,7 @@ unfolding direction-number
 rule-parts rule i left-right h = (omega arith, omega arith)
 rule-parts rule i right-left h = (omega arith, omega arith)
 
--- 5. What holds before each search.
+-- 4. What holds before each search.
 -- A table that keeps the lines of all rules is as it was, and so is what stands behind the bytes that are lent.
 abbrev pub Kept : Bool → (table scratch table′ scratch′ : List ℕ) → Type 0
 Kept fits table scratch table′ scratch′ = (fits ≡ true → table′ ≡ table) × ((drop table-bytes table′ ≡ drop table-bytes table) × (drop scratch-bytes scratch′ ≡ drop scratch-bytes scratch))
@@ -179,7 +122,7 @@ module _ {equations lengths : List ℕ} {rules : ℕ} {bounds next : List ℕ} {
       whole es subject = let e : limit ≡ limit - 0 = omega arith in subst (λ k. line-run es limit subject ≡ steps-then [] (line-run es k subject)) e refl
 
   module _ {es : List Equation} {subject : Term} {table nodes sizes log : List ℕ} {n steps : ℕ} (h : Halfway equations lengths rules bounds next fits arities limit log₀ es subject table nodes sizes log n steps) where
-    -- 6. The endings.
+    -- 5. The endings.
     ended : {nodes′ sizes′ : List ℕ} (ending : Ending) → line-run es (limit - steps) (h .current) ≡ stopped ending → SubjectIs nodes′ sizes′ arities (h .current)
         → CourseIs es limit subject arities nodes′ sizes′ log₀ log (record { steps = steps; ending = ending; size = n })
     unfolding last-term
@@ -213,7 +156,7 @@ module _ {equations lengths : List ℕ} {rules : ℕ} {bounds next : List ℕ} {
             let left-as-is : SubjectIs nodes″ sizes″ arities (h .current) = subst (λ l. SubjectIs l sizes″ arities (h .current)) (sym a) (subst (λ l. SubjectIs nodes′ l arities (h .current)) (sym b) s) in
             ended result-too-large (ap (λ k. line-run es k (h .current)) more-left ∙ run-too-large es (limit - (steps + 1)) (h .current) (found .this) (found .first) large) left-as-is
 
-    -- 7. A step that is found can be taken and logged.
+    -- 6. A step that is found can be taken and logged.
     module _ {rule node : ℕ} (found : StepAt es (h .current) rule node) where
       pub step-is : {nodes′ sizes′ : List ℕ} → SubjectIs nodes′ sizes′ arities (h .current)
           → StepIs equations lengths rule arities nodes′ sizes′ node n (found .number) (found .equation) (found .direction) (h .current) (found .position) (found .this)

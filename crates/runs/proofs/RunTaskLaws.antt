@@ -1,24 +1,19 @@
--- Laws for the call run: what its code hands on, and what it earns by the task that is found.
+-- Laws for the call run: what it earns, by the walks and by the task that is found.
 use Prim.Native.Nat.{ℕ, suc, _+_, _≤_, _<_}
 use mathlib.Core.Path.{_≡_, refl, sym, ap, subst, _∙_}
-use mathlib.Core.Bool.{Bool, true, false}
+use mathlib.Core.Bool.{true, false}
 use mathlib.Core.Option.{Option, none, some}
-use mathlib.Core.List.{List, [], _∷_, map, append-nil}
-use lib.ListN.{length, take, drop, length-drop}
-use lib.Seq.{take-at, take-take, length-take-le}
+use mathlib.Core.List.{List, [], _∷_, append-nil}
+use lib.ListN.{length, drop}
 use native.Mathlib.Omega.{arith}
-use Rattle.format.specs.Limits.{no-position, max-equations, max-steps, max-task-nodes, position-count, table-bytes, scratch-bytes}
-use Rattle.format.specs.Buffer.{written}
+use Rattle.format.specs.Limits.{no-position, max-equations, max-steps, table-bytes, scratch-bytes}
 use Rattle.format.specs.Lists.{entry}
 use Rattle.format.specs.Theory.Lists.{entry-none, every-entry}
 use Rattle.format.specs.declared.refusal.Refusal.{Refusal}
 use Rattle.format.specs.declared.refusal.Refusal.the-variants.{AbsentArgument as absent-argument}
 use Rattle.terms.specs.Term.{Term, nil, cons, size, Ground}
 use Rattle.terms.specs.Equation.{Equation, left-right, right-left}
-use Rattle.terms.specs.Position.{subterms}
 use Rattle.terms.specs.Prefix.{prefix}
-use Rattle.terms.specs.Contracts.Stored.{PartAt, SubjectIs, AllSymbols}
-use Rattle.terms.specs.Theory.Prefix.{length-prefix}
 use Rattle.sheet.specs.Sheet.{Task, run, judgement, comparison, Sheet}
 use Rattle.sheet.specs.Reading.{accepted, read}
 use Rattle.sheet.specs.Contracts.Valid.{ValidTask}
@@ -29,151 +24,22 @@ use Rattle.reading.specs.declared.seek.TaskFound.{TaskFound}
 use Rattle.reading.specs.declared.seek.TaskHead.the-variants.{Run, Judgement, Comparison}
 use Rattle.reading.specs.Contracts.Seek.{Accepts, TaskIn, TaskAt, Spans, task-terms}
 use Rattle.reading.specs.Theory.Found.{task-asked, is-run, is-judgement, is-comparison}
-use Rattle.loading.specs.Contracts.Loading.{TermsIn, HasTermsIn, Loaded}
+use Rattle.loading.specs.Contracts.Loading.{TermsIn}
 use Rattle.solving.specs.Walk.{Walked, solved, refused, solve}
-use Rattle.reducing.specs.declared.ending.Ending.{Ending}
-use Rattle.reducing.specs.declared.ending.Ending.the-variants.{NoneFound, LimitReached, ResultTooLarge}
-use Rattle.reducing.specs.Run.{ending-number}
-use Rattle.reducing.specs.Test.{line-test, line-run}
-use Rattle.reducing.specs.Theory.Runs.{run-few}
-use Rattle.outcomes.specs.Buffer.{fields, refusal-number, filled, cleared, blanked}
+use Rattle.outcomes.specs.Buffer.{refusal-number, filled, cleared, blanked}
 use Rattle.outcomes.specs.Asked.{found, find, asked, reduction-in, reduction-task, equation-line, WalkRefusal, first-refusal}
 use Rattle.outcomes.specs.Outcome.{RunOutcome, run-done, run-walked, run-answer}
 use Rattle.walking.specs.Contracts.Walking.{memory-bytes}
 use Rattle.rules.specs.declared.walks.Walks.{Walks}
 use Rattle.rules.specs.declared.walks.Walks.the-variants.{Refused, Full, Kept}
 use Rattle.rules.specs.Contracts.Rows.{RowsAre, bound-count}
-use Rattle.rules.specs.Contracts.Walks.{RulesAt, WalksAs}
-use Rattle.searching.specs.Contracts.Next.{NextIs, RulesKept, HasRulesKept}
-use Rattle.running.specs.declared.course.Course.{Course}
-use Rattle.running.specs.Contracts.Course.{RulesReady, RunIs, CourseIs, the-run, last-of}
+use Rattle.rules.specs.Contracts.Walks.{WalksAs}
 use Rattle.answers.proofs.Fill.{filled-behind}
-use Rattle.answers.proofs.Arities.{symbols-room, symbols-taken, arities-taken}
-use Rattle.answers.proofs.SolveTask.{walk-cleared}
-use Rattle.runs.specs.Contracts.RunTask.{LinesReady, RunTermIs, Ran, RanAs, ReductionIn}
+use Rattle.solutions.proofs.SolveTask.{walk-cleared}
+use Rattle.reductions.specs.Contracts.RunTerm.{LinesReady, RunTermIs, Ran}
+use Rattle.runs.specs.Contracts.RunTask.{RanAs, ReductionIn}
 
--- 1. What the run starts from.
-abbrev taken-arities : Known → List ℕ
-taken-arities known = take (known .symbols) (known .arities)
-
-subject-loaded : {arities nodes lengths : List ℕ} {s : Term} {n : ℕ} → Loaded arities nodes lengths (cons s nil) n → SubjectIs nodes lengths arities s
-unfolding prefix subterms size AllSymbols
-subject-loaded {arities} {nodes} {lengths} {s} l =
-    record {
-      nodes-length = l .nodes-length;
-      lengths-length = l .lengths-length;
-      symbols = λ i h. l .symbols i;
-      stored = record {
-        few-symbols = l .few-symbols;
-        ground = l .ground .0;
-        stored = record {
-          bytes = subst (PartAt nodes position-count) (append-nil (prefix s)) (l .bytes);
-          lengths-there = subst (λ p. PartAt lengths position-count (map size p)) (append-nil (subterms s)) (l .lengths-there);
-        };
-        low = omega arith;
-        within = omega (arith, l .few-nodes);
-      };
-    }
-
-loaded-size : {arities nodes lengths : List ℕ} {s : Term} {n : ℕ} → Loaded arities nodes lengths (cons s nil) n → n ≡ size s
-unfolding size
-loaded-size l = omega (arith, l .counted)
-
-module _ {sheet : List ℕ} {known : Known} {from end : ℕ} {equations lengths bounds : List ℕ} {es : List Equation} {subject : Term}
-    (t : RunTermIs sheet known from end equations lengths bounds es subject) where
-  pub term-symbols-room : known .symbols ≤ length (known .arities)
-  term-symbols-room = symbols-room (t .roomy) (t .term-in .few-symbols)
-
-  pub term-symbols-taken : known .symbols ≡ length (taken-arities known)
-  term-symbols-taken = symbols-taken (t .roomy) (t .term-in .few-symbols)
-
-  arities-are : known-arities known ≡ taken-arities known
-  arities-are = arities-taken (t .roomy) (t .term-in .few-symbols)
-
-  abbrev rule-count : ℕ
-  rule-count = known .equations + known .equations
-
-  -- What the code that prepares the table of next rules tells.
-  abbrev NextReady : Bool → (table next : List ℕ) → Type 0
-  NextReady fits table next = fits ≡ true → (arities : List ℕ) (es : List Equation) → RulesKept equations lengths rule-count bounds table arities es → NextIs next rule-count es
-
-  rules-kept : (table : List ℕ) → RulesAt bounds table es → RulesKept equations lengths rule-count bounds table (taken-arities known) es
-  rules-kept table k =
-      record { rows = subst (λ a. RowsAre equations lengths a es) arities-are (t .rows); counted = omega (arith, t .counted); bounds-length = t .bounds-length; kept = k }
-
-  pub rules-have : (fits : Bool) (table : List ℕ) → LinesReady fits bounds table es → fits ≡ true
-      → HasRulesKept equations lengths rule-count bounds table
-  rules-have true table r e = record { arities = taken-arities known; those = es; are = rules-kept table r }
-  rules-have false table r e = let z : _≡_ {A = ℕ} 0 1 = cc in absurd (omega arith)
-
-  rules-ready : (fits : Bool) (table next : List ℕ) → LinesReady fits bounds table es
-      → NextReady fits table next
-      → RulesReady equations lengths rule-count bounds next fits table (taken-arities known) es
-  rules-ready true table next r h = let k = rules-kept table r in (k, h refl (taken-arities known) es k)
-  rules-ready false table next r h = r
-
-  terms-taken : TermsIn sheet (taken-arities known) from end (cons subject nil)
-  terms-taken = subst (λ a. TermsIn sheet a from end (cons subject nil)) arities-are (t .term-in)
-
-  pub terms-have : HasTermsIn sheet (taken-arities known) from end
-  terms-have = record { terms = cons subject nil; are = terms-taken }
-
-  pub run-is : (fits : Bool) (table next nodes sizes : List ℕ) (n : ℕ) → LinesReady fits bounds table es
-      → NextReady fits table next
-      → ((ts : _) → TermsIn sheet (taken-arities known) from end ts → Loaded (taken-arities known) nodes sizes ts n)
-      → RunIs equations lengths rule-count bounds next fits table nodes sizes n (taken-arities known) es subject
-  run-is fits table next nodes sizes n r h load =
-      let l = load (cons subject nil) terms-taken in
-      record {
-        rows = subst (λ a. RowsAre equations lengths a es) arities-are (t .rows);
-        counted = omega (arith, t .counted);
-        ready = rules-ready fits table next r h;
-        subject-is = subject-loaded l;
-        size-is = loaded-size l;
-      }
-
--- 2. What the run gives.
-pub ending-low : (e : Ending) → ending-number e ≤ 2
-unfolding ending-number
-ending-low NoneFound = omega arith
-ending-low LimitReached = omega arith
-ending-low ResultTooLarge = omega arith
-
-module _ {es : List Equation} {k : ℕ} {subject : Term} {arities nodes sizes log log-after : List ℕ} {c : Course}
-    (i : CourseIs es k subject arities nodes sizes log log-after c) where
-  pub course-small : c .size ≤ max-task-nodes
-  course-small = omega (arith, i .size-is, i .last-is .stored .within)
-
-  pub course-few : k ≤ max-steps → c .steps ≤ max-steps
-  unfolding line-run
-  course-few h = omega (arith, i .steps-are, run-few line-test es k subject)
-
-  pub course-front : c .size ≤ length (take max-task-nodes (drop position-count nodes))
-  course-front =
-      let behind : max-task-nodes ≤ length (drop position-count nodes) = omega (arith, length-drop position-count nodes, i .last-is .nodes-length) in
-      omega (arith, course-small, length-take-le max-task-nodes (drop position-count nodes) behind)
-
-  last-bytes : take (c .size) (take max-task-nodes (drop position-count nodes)) ≡ prefix (last-of es k subject)
-  last-bytes =
-      let there = i .last-is .stored .stored .bytes in
-      take-take (c .size) max-task-nodes (drop position-count nodes) course-small
-      ∙ ap (take (c .size)) (there .is)
-      ∙ take-at (prefix (last-of es k subject)) (there .rest) (c .size) (length-prefix (last-of es k subject) ∙ sym (i .size-is))
-
-  pub course-ran : (term term-after : List ℕ) (n r : ℕ) → term-after ≡ written (take (c .size) (take max-task-nodes (drop position-count nodes))) term
-      → n ≡ ending-number (c .ending) → r ≡ fields (c .steps) n (c .size) → Ran es k subject term term-after log log-after r
-  course-ran term term-after n r x y z =
-      record {
-        returned =
-            z
-            ∙ ap (λ s. fields s n (c .size)) (i .steps-are)
-            ∙ ap (λ m. fields (length (the-run es k subject .steps)) m (c .size)) (y ∙ ap ending-number (i .ending-is))
-            ∙ ap (λ m. fields (length (the-run es k subject .steps)) (ending-number (the-run es k subject .ending)) m) (i .size-is);
-        term-is = x ∙ ap (λ bs. written bs term) last-bytes;
-        log-is = i .logged;
-      }
-
--- 3. The walks.
+-- 1. The walks.
 module _ (n : ℕ) (e : Equation) (es : List Equation) where
   abbrev after-second : Walked → Option WalkRefusal
   after-second w = elim w [ refused r ↦ some (record { refusal = r; line = equation-line n }) | solved ls t ↦ first-refusal (suc n) es ]
@@ -226,7 +92,7 @@ pub refused-as : {walks : Walks} (es : List Equation) (k : ℕ) (subject : Term)
 unfolding equation-line
 refused-as es k subject term log {r} e x = subst (λ w. RanAs w es k subject term term log log r) (sym e) (x, refl, refl)
 
--- 4. What run earns.
+-- 2. What run earns.
 abbrev pub outcome : ℕ → (table scratch term log : List ℕ) → RunOutcome
 outcome n table scratch term log = record { returned = n; table = table; scratch = scratch; term = term; log = log }
 
@@ -294,7 +160,7 @@ module _ (sheet table scratch term log : List ℕ) (task : ℕ) where
           let (s, r, y) = i in
           answer-of s r (some (judgement k o ts)) (y ∙ ap some x) ∙ ap (λ n. outcome n table scratch term log) (sym e)
 
--- 5. The task that is a run.
+-- 3. The task that is a run.
 pub reduction-found : (sheet : List ℕ) (task : ℕ) (known : Known) (a : Accepts sheet known) (there : task < known .tasks) (place : TaskFound)
     → ((t : Task) → TaskIn sheet task t → TaskAt sheet t place) → {k : ℕ} → place .head ≡ Run k → ReductionIn sheet known k (place .from) (place .end) task
 reduction-found sheet task known a there place each {k} h =

@@ -1,8 +1,12 @@
 -- The tasks of an accepted sheet that judge answers.
-use Prim.Native.Nat.{ℕ}
+use Prim.Native.Nat.{ℕ, _≤_}
 use mathlib.Core.Path.{_≡_}
+use mathlib.Core.Option.{some}
 use mathlib.Core.List.{List}
-use Rattle.terms.specs.Term.{Terms, count}
+use lib.ListN.{length}
+use Rattle.format.specs.Limits.{max-equations}
+use Rattle.format.specs.Lists.{entry}
+use Rattle.terms.specs.Term.{Terms, count, Values}
 use Rattle.terms.specs.Equation.{Equation, Direction}
 use Rattle.sheet.specs.Sheet.{judgement, equation-width}
 use Rattle.scanning.specs.declared.known.Known.{Known}
@@ -12,7 +16,14 @@ use Rattle.reading.specs.Contracts.Seek.{Accepts, TaskIn, Spans, task-terms}
 use Rattle.loading.specs.Contracts.Loading.{TermsIn}
 use Rattle.solving.specs.Line.{Line}
 use Rattle.solving.specs.Walk.{solved, solve}
+use Rattle.reducing.specs.Test.{holding-line}
 use Rattle.reducing.specs.Contracts.Rules.{rule-number}
+use Rattle.outcomes.specs.Buffer.{refusal-number}
+use Rattle.outcomes.specs.Asked.{equation-line}
+use Rattle.outcomes.specs.Outcome.{judge-fields}
+use Rattle.judged.specs.declared.judge.Judged.{Judged}
+use Rattle.judged.specs.declared.judge.Judged.the-variants.{Refused, End}
+use Rattle.judged.specs.Contracts.Judgement.{JudgedAs}
 use Rattle.rules.specs.Contracts.Rows.{RuleIs}
 use Rattle.rules.specs.Contracts.Lines.{ProperLines, LinesAt}
 
@@ -35,6 +46,30 @@ module _ (sheet : List ℕ) (known : Known) (from end : ℕ) (equations lengths 
     pub direction : Direction
     pub terms : Terms
     pub are : ValuesIn number equation direction terms
+
+-- The values of a judgement, and what the walks of all rules gave.
+module _ (sheet : List ℕ) (known : Known) (from end : ℕ) (equations lengths : List ℕ) (rule : ℕ) (judged : Judged) (table : List ℕ) where
+  pub record JudgedIn (es : List Equation) (i : ℕ) (e : Equation) (d : Direction) (ts : Terms) : Type 0 where
+    pub few : length es ≤ max-equations
+    pub numbered : entry es i ≡ some e
+    pub rule-is : RuleIs equations lengths (known-arities known) rule i e d
+    pub walked : JudgedAs es rule table judged
+    pub terms-in : TermsIn sheet (known-arities known) from end ts
+    pub one-each : count ts ≡ equation-width e
+    pub roomy : Roomy known
+
+  pub record HasJudged : Type 0 where
+    pub those : List Equation
+    pub number : ℕ
+    pub equation : Equation
+    pub direction : Direction
+    pub terms : Terms
+    pub are : JudgedIn those number equation direction terms
+
+-- The number that is returned: the refusal of a walk, or "1 or 0, first holding line counted from 1 or 0".
+abbrev pub JudgedNumber : Judged → Equation → Direction → Values → (r : ℕ) → Type 0
+JudgedNumber (Refused why number) e d ρ r = r ≡ refusal-number why (equation-line number)
+JudgedNumber (End filled) e d ρ r = r ≡ judge-fields (holding-line e d ρ)
 
 -- Task `task` is a judgement of this rule, and the digits from `from` to `end` write its values.
 module _ (sheet : List ℕ) (known : Known) (rule from end : ℕ) where

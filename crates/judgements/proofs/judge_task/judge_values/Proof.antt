@@ -3,7 +3,7 @@ use mathlib.Core.Path.{refl, sym}
 use Rattle.format.specs.Limits.{node-count}
 use Rattle.scanning.specs.Contracts.Scan.{known-arities}
 use Rattle.comparing.specs.Theory.Cells.{symbols-zero}
-use Rattle.answers.proofs.Stored.{cells-there}
+use Rattle.comparisons.proofs.Stored.{cells-there}
 use borrow.Author.Needs.{needs}
 use Rattle.judgements.proofs.JudgeTaskLaws.{cells-behind, values-room, values-symbols, values-taken, values-judged, values-hold}
 use Rattle.judgements.proofs.judge_task.judge_values.Statement.{statement}

@@ -1,0 +1,111 @@
+-- Laws for the call compare: what it earns, by the task that is found.
+use Prim.Native.Nat.{ℕ, _≤_, _<_}
+use mathlib.Core.Path.{_≡_, sym, ap, subst, _∙_}
+use mathlib.Core.Bool.{true}
+use mathlib.Core.Option.{Option, none, some}
+use mathlib.Core.List.{List}
+use lib.ListN.{length}
+use native.Mathlib.Omega.{arith}
+use Rattle.format.specs.declared.refusal.Refusal.the-variants.{AbsentArgument as absent-argument}
+use Rattle.format.specs.Lists.{entry}
+use Rattle.format.specs.Theory.Lists.{entry-none, every-entry}
+use Rattle.terms.specs.Term.{Term, Ground}
+use Rattle.ordering.specs.declared.verdict.Verdict.{Verdict}
+use Rattle.ordering.specs.Verdict.{verdict, verdict-number}
+use Rattle.scanning.specs.declared.known.Known.{Known}
+use Rattle.reading.specs.declared.seek.TaskFound.{TaskFound}
+use Rattle.reading.specs.declared.seek.TaskHead.the-variants.{Run, Judgement, Comparison}
+use Rattle.sheet.specs.Sheet.{Task, run, judgement, comparison, Sheet}
+use Rattle.sheet.specs.Reading.{accepted, read}
+use Rattle.scanning.specs.Contracts.Scan.{known-arities}
+use Rattle.scanning.specs.Contracts.Known.{Roomy}
+use Rattle.reading.specs.Contracts.Seek.{Accepts, TaskIn, TaskAt, task-terms}
+use Rattle.sheet.specs.Contracts.Valid.{ValidTask}
+use Rattle.sheet.specs.Theory.Accepted.{accepted-valid}
+use Rattle.reading.specs.Theory.Found.{task-asked, is-run, is-judgement, is-comparison}
+use Rattle.outcomes.specs.Buffer.{fields, refusal-number, cleared}
+use Rattle.outcomes.specs.Asked.{found, find, asked, comparison-in, comparison-task}
+use Rattle.outcomes.specs.Outcome.{CompareOutcome, compare-answer}
+use Rattle.comparisons.specs.Contracts.Comparison.{PairIs, HasPair}
+
+abbrev pub outcome : ℕ → List ℕ → CompareOutcome
+outcome n scratch = record { returned = n; scratch = scratch }
+
+module _ (sheet scratch : List ℕ) (task : ℕ) where
+  abbrev pub answered : CompareOutcome
+  answered = compare-answer scratch (asked true sheet (comparison-task task))
+
+  answer-of : (s : Sheet) → read sheet ≡ accepted s → (o : Option Task) → entry (s .tasks) task ≡ o → answered ≡ compare-answer scratch (found (comparison-in o))
+  unfolding asked find comparison-task
+  answer-of s r o h = ap (λ x. compare-answer scratch (find (comparison-task task) x)) r ∙ ap (λ o. compare-answer scratch (found (comparison-in o))) h
+
+  module _ (known : Known) (a : Accepts sheet known) where
+    pub task-absent : known .tasks ≤ task → {n : ℕ} → n ≡ refusal-number absent-argument 0 → answered ≡ outcome n scratch
+    unfolding compare-answer found comparison-in
+    task-absent h e = let (s, r, g) = a in answer-of s r none (entry-none (s .tasks) task (omega (arith, g .tasks-are))) ∙ ap (λ n. outcome n scratch) (sym e)
+
+    module _ (there : task < known .tasks) (place : TaskFound) (each : (t : Task) → TaskIn sheet task t → TaskAt sheet t place) where
+      pub run-there : {k n : ℕ} → place .head ≡ Run k → n ≡ refusal-number absent-argument 0 → answered ≡ outcome n scratch
+      unfolding compare-answer found comparison-in
+      run-there {k} h e =
+          let (t, i) = task-asked sheet known task a there in
+          let (u, x) = is-run t (sym (each t i .0) ∙ h) in
+          let (s, r, y) = i in
+          answer-of s r (some (run k u)) (y ∙ ap some x) ∙ ap (λ n. outcome n scratch) (sym e)
+
+      pub judgement-there : {k d n : ℕ} → place .head ≡ Judgement k d → n ≡ refusal-number absent-argument 0 → answered ≡ outcome n scratch
+      unfolding compare-answer found comparison-in
+      judgement-there {k} h e =
+          let (t, i) = task-asked sheet known task a there in
+          let (o, ts, x, z) = is-judgement t (sym (each t i .0) ∙ h) in
+          let (s, r, y) = i in
+          answer-of s r (some (judgement k o ts)) (y ∙ ap some x) ∙ ap (λ n. outcome n scratch) (sym e)
+
+      -- The two terms of a comparison.
+      pub record PairFound : Type 0 where
+        pub first : Term
+        pub second : Term
+        pub is-task : TaskIn sheet task (comparison first second)
+        pub pair : PairIs sheet (known-arities known) (place .from) (place .end) first second
+
+      pub pair-found : place .head ≡ Comparison → PairFound
+      unfolding task-terms
+      pair-found h =
+          let (t, i) = task-asked sheet known task a there in
+          let (u, v, x) = is-comparison t (sym (each t i .0) ∙ h) in
+          let j : TaskIn sheet task (comparison u v) = subst (TaskIn sheet task) x i in
+          let (s, r, y) = j in
+          let (s′, r′, g) = a in
+          let e : accepted s′ ≡ accepted s = sym r′ ∙ r in
+          let d : s′ ≡ s = cc in
+          let arities = g .arities-are ∙ ap (λ s. s .arities) d in
+          let valid : ValidTask (s .arities) (s .equations) (comparison u v) = every-entry (ValidTask (s .arities) (s .equations)) (s .tasks) task (accepted-valid sheet s r .0 .tasks) y in
+          record {
+            first = u;
+            second = v;
+            is-task = j;
+            pair = record {
+              spans = each (comparison u v) j .1;
+              first-ground = subst (λ arities. Ground arities u) (sym arities) (valid .0);
+              second-ground = subst (λ arities. Ground arities v) (sym arities) (valid .1);
+              few-nodes = valid .2;
+              few-symbols = omega (arith, ap length (g .arities-are), g .valid .symbols .few-symbols);
+            };
+          }
+
+      pub pair-has : place .head ≡ Comparison → HasPair sheet (known-arities known) (place .from) (place .end)
+      pair-has h = let f = pair-found h in record { first = f .first; second = f .second; is = f .pair }
+
+      pub comparison-there : (h : place .head ≡ Comparison) (w : Verdict) (after : List ℕ) {n r : ℕ}
+          → ((s t : Term) → PairIs sheet (known-arities known) (place .from) (place .end) s t → w ≡ verdict s t) → r ≡ verdict-number w → n ≡ fields r 0 0
+          → after ≡ cleared scratch → answered ≡ outcome n after
+      unfolding compare-answer found comparison-in
+      comparison-there h w after {n} v x e c =
+          let f = pair-found h in
+          let (s, y, z) = f .is-task in
+          let told : fields (verdict-number (verdict (f .first) (f .second))) 0 0 ≡ n =
+          ap (λ v. fields (verdict-number v) 0 0) (sym (v (f .first) (f .second) (f .pair))) ∙ ap (λ r. fields r 0 0) (sym x) ∙ sym e in
+          answer-of s y (some (comparison (f .first) (f .second))) z ∙ ap (λ n. outcome n (cleared scratch)) told ∙ ap (outcome n) (sym c)
+
+    pub known-roomy : Roomy known
+    known-roomy = let (s, r, g) = a in g .roomy

@@ -1,0 +1,2 @@
+pub mod CompareTask
+pub mod Stored

@@ -1,0 +1,2 @@
+// One step of a run: sought, taken and logged.
+pub mod step;
