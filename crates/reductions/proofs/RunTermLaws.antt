@@ -30,7 +30,7 @@ use Rattle.stepping.specs.Contracts.Stepping.{RulesReady, RunIs}
 use Rattle.running.specs.declared.course.Course.{Course}
 use Rattle.running.specs.Contracts.Course.{CourseIs, the-run, last-of}
 use Rattle.answers.proofs.Arities.{symbols-room, symbols-taken, arities-taken}
-use Rattle.reductions.specs.Contracts.RunTerm.{LinesReady, RunTermIs, Ran}
+use Rattle.reductions.specs.Contracts.RunTerm.{LinesReady, RunTermIs, RunCourse, Ran}
 
 -- 1. What the run starts from.
 abbrev taken-arities : Known → List ℕ
@@ -140,15 +140,25 @@ module _ {es : List Equation} {k : ℕ} {subject : Term} {arities nodes sizes lo
       ∙ ap (take (c .size)) (there .is)
       ∙ take-at (prefix (last-of es k subject)) (there .rest) (c .size) (length-prefix (last-of es k subject) ∙ sym (i .size-is))
 
-  pub course-ran : (term term-after : List ℕ) (n r : ℕ) → term-after ≡ written (take (c .size) (take max-task-nodes (drop position-count nodes))) term
-      → n ≡ ending-number (c .ending) → r ≡ fields (c .steps) n (c .size) → Ran es k subject term term-after log log-after r
-  course-ran term term-after n r x y z =
-      record {
-        returned =
-            z
-            ∙ ap (λ s. fields s n (c .size)) (i .steps-are)
-            ∙ ap (λ m. fields (length (the-run es k subject .steps)) m (c .size)) (y ∙ ap ending-number (i .ending-is))
-            ∙ ap (λ m. fields (length (the-run es k subject .steps)) (ending-number (the-run es k subject .ending)) m) (i .size-is);
-        term-is = x ∙ ap (λ bs. written bs term) last-bytes;
-        log-is = i .logged;
-      }
+  pub course-ran : (term term-after : List ℕ) → term-after ≡ written (take (c .size) (take max-task-nodes (drop position-count nodes))) term → RunCourse es k subject term term-after log log-after c
+  course-ran term term-after x = record {
+    steps-are = i .steps-are;
+    few-steps = course-few;
+    ending-is = i .ending-is;
+    size-is = i .size-is;
+    small = course-small;
+    term-is = x ∙ ap (λ bs. written bs term) last-bytes;
+    log-is = i .logged;
+  }
+
+pub number-ran : {es : List Equation} {k : ℕ} {subject : Term} {term term-after log log-after : List ℕ} {c : Course} (n r : ℕ) → RunCourse es k subject term term-after log log-after c
+    → n ≡ ending-number (c .ending) → r ≡ fields (c .steps) n (c .size) → Ran es k subject term term-after log log-after r
+number-ran {es} {k} {subject} {c = c} n r i y z = record {
+  returned =
+      z
+      ∙ ap (λ s. fields s n (c .size)) (i .steps-are)
+      ∙ ap (λ m. fields (length (the-run es k subject .steps)) m (c .size)) (y ∙ ap ending-number (i .ending-is))
+      ∙ ap (λ m. fields (length (the-run es k subject .steps)) (ending-number (the-run es k subject .ending)) m) (i .size-is);
+  term-is = i .term-is;
+  log-is = i .log-is;
+}
