@@ -73,7 +73,13 @@ fn compare_stored(nodes: &[u8], sizes: &[u8], scratch: &mut [u8], second: usize)
 }
 
 // The verdict of the two terms that the digits from `from` to `end` write.
-pub fn compare_terms(sheet: &[u8], known: Known, from: usize, end: usize, scratch: &mut [u8]) -> Verdict
+pub fn compare_terms(
+    sheet: &[u8],
+    known: Known,
+    from: usize,
+    end: usize,
+    scratch: &mut [u8],
+) -> Verdict
     requires { ⌜ HasPair (now sheet) (known-arities known) from end × Roomy known × (scratch-bytes ≤ length (now scratch)) ⌝ }
     ensures { λ r. ⌜ ((s t : Term) → PairIs (now (sheet .entry)) (known-arities known) from end s t → r ≡ verdict s t) ⌝ }
     ensures { λ _. ⌜ now (scratch .exit) ≡ cleared (now (scratch .entry)) ⌝ }

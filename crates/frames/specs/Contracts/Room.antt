@@ -1,6 +1,6 @@
 -- The most bytes that a frame takes when it is printed: two digits for each of its bytes, and LF.
 use Prim.Native.Nat.{ℕ, _+_, _*_}
-use Rattle.format.specs.Limits.{variable-count, max-side-nodes, max-task-nodes, max-elements}
+use Rattle.format.specs.Limits.{variable-count, max-side-nodes, max-task-nodes, max-steps, max-elements}
 
 abbrev pub frame-room : ℕ → ℕ
 frame-room n = 2 * n + 1
@@ -25,6 +25,10 @@ step-room = frame-room 4
 
 abbrev pub run-room : ℕ
 run-room = frame-room (3 + max-task-nodes)
+
+-- All frames of a task: a run's are the longest.
+abbrev pub task-room : ℕ
+task-room = step-room * max-steps + run-room
 
 -- The digits of a term of an equation, of all bindings, and of all elements; the frame of a line has three bytes more.
 abbrev pub term-room : ℕ
