@@ -88,6 +88,9 @@ module _ (input : List ℕ) (known : Known) (a : Accepts input known) (equations
     walked : WalksAs (a .0 .equations) bounds table walks
     walked = let (s, r, k) = a in w (known-arities known) (s .equations) (rows s r) (k .equations-are)
 
+    its-walks : {answer : Walks} → walks ≡ answer → WalksAs (a .0 .equations) bounds table answer
+    its-walks e = subst (WalksAs (a .0 .equations) bounds table) e walked
+
     pub equation-low : {why : Refusal} {number : ℕ} → walks ≡ Refused why number → number < max-equations
     unfolding equation-line
     equation-low {why} {number} e = let (s, r, k) = a in let x = refused-low 0 (s .equations) why (number + 2) (subst (WalksAs (s .equations) bounds table) e walked) in omega (arith, rows s r .few)
@@ -99,42 +102,36 @@ abbrev opening-piece : Known → Bool → Listed
 opening-piece known fits = record { cursor = record { place = Table 0; known = known; fits = fits }; bytes = 0 }
 
 module _ {input equations lengths bounds table scratch out : List ℕ} where
-  abbrev Opened : Listed → Type 0
-  Opened r = Progress input Start equations lengths bounds table scratch out r
-
   -- A refusal is printed, and nothing is left.
   refused-opens : {r : Listed} (why : Refusal) (line : ℕ) {before : List ℕ} {bytes : ℕ} (known : Known) → r ≡ refusal-piece known bytes → refusal-room ≤ length before
-      → rest input Start ≡ printed (refusal-frame why line ∷ []) ++ rest input End → Appended before 0 (printed (refusal-frame why line ∷ [])) out bytes → Opened r
+      → rest input Start ≡ printed (refusal-frame why line ∷ []) ++ rest input End → Appended before 0 (printed (refusal-frame why line ∷ [])) out bytes → Progress input Start equations lengths bounds table scratch out r
   unfolding refusal-frame two-bytes
   refused-opens why line known e h x a =
-      subst Opened (sym e) (record { gives = gives-text x a (omega (arith, a .ends, a .same-length, length-printed-one (refusal-frame why line))) (omega arith); stands = at-end })
+      subst (Progress input Start equations lengths bounds table scratch out) (sym e) (record { gives = gives-text x a (omega (arith, a .ends, a .same-length, length-printed-one (refusal-frame why line))) (omega arith); stands = at-end })
 
   pub sheet-refused : {r : Listed} {known : Known} (status : SheetStatus) {why : Refusal} {line : ℕ} {before : List ℕ} {bytes : ℕ} → r ≡ refusal-piece known bytes → SheetRead input known status
-      → status ≡ Refused-at why line → refusal-room ≤ length before → Appended before 0 (printed (refusal-frame why line ∷ [])) out bytes → Opened r
+      → status ≡ Refused-at why line → refusal-room ≤ length before → Appended before 0 (printed (refusal-frame why line ∷ [])) out bytes → Progress input Start equations lengths bounds table scratch out r
   sheet-refused {known = known} status {why} {line} x h e k a = refused-opens why line known x k (start-refused input why line (subst (SheetRead input known) e h .0)) a
 
   module _ {known : Known} (a : Accepts input known) (rows : RowsOf input known equations lengths) (walks : Walks) (w : WalksOf known equations lengths bounds table walks) where
-    its-walks : {answer : Walks} → walks ≡ answer → WalksAs (a .0 .equations) bounds table answer
-    its-walks e = subst (WalksAs (a .0 .equations) bounds table) e (walked input known a equations lengths rows bounds table walks w)
-
     pub walk-refused : {r : Listed} {why : Refusal} {number : ℕ} {before : List ℕ} {bytes : ℕ} → r ≡ refusal-piece known bytes → walks ≡ Refused why number → refusal-room ≤ length before
-        → Appended before 0 (printed (refusal-frame why (number + 2) ∷ [])) out bytes → Opened r
+        → Appended before 0 (printed (refusal-frame why (number + 2) ∷ [])) out bytes → Progress input Start equations lengths bounds table scratch out r
     unfolding equation-line
     walk-refused {why = why} {number} x e h y =
         let (s, r, k) = a in
-        refused-opens why (number + 2) known x h (start-unsolved input s r (record { refusal = why; line = number + 2 }) (its-walks e)) y
+        refused-opens why (number + 2) known x h (start-unsolved input s r (record { refusal = why; line = number + 2 }) (its-walks input known a equations lengths rows bounds table walks w e)) y
 
     all-opened : {r : Listed} (fits : Bool) → r ≡ opening-piece known fits → length bounds ≡ bound-count → first-refusal 0 (a .0 .equations) ≡ none → EverySolves (a .0 .equations)
-        → LinesReady fits bounds table (a .0 .equations) → Opened r
+        → LinesReady fits bounds table (a .0 .equations) → Progress input Start equations lengths bounds table scratch out r
     all-opened fits x b n e l =
         let (s, r, k) = a in
-        subst Opened (sym x) (record {
+        subst (Progress input Start equations lengths bounds table scratch out) (sym x) (record {
           gives = gives-nothing out (start-left input s r n) (omega arith);
           stands = under-way s (record { reads = r; knows = k; every = e; rows = rows s r; bounds-length = b; lines = l }) (omega arith);
         })
 
-    pub full-opened : {r : Listed} → r ≡ opening-piece known false → length bounds ≡ bound-count → walks ≡ Full → Opened r
-    full-opened x b e = let y = its-walks e in all-opened false x b (y .0) (y .1) (y .1)
+    pub full-opened : {r : Listed} → r ≡ opening-piece known false → length bounds ≡ bound-count → walks ≡ Full → Progress input Start equations lengths bounds table scratch out r
+    full-opened x b e = let y = its-walks input known a equations lengths rows bounds table walks w e in all-opened false x b (y .0) (y .1) (y .1)
 
-    pub kept-opened : {r : Listed} → r ≡ opening-piece known true → length bounds ≡ bound-count → walks ≡ Kept → Opened r
-    kept-opened x b e = let y = its-walks e in all-opened true x b (y .0) (y .1) (y .2)
+    pub kept-opened : {r : Listed} → r ≡ opening-piece known true → length bounds ≡ bound-count → walks ≡ Kept → Progress input Start equations lengths bounds table scratch out r
+    kept-opened x b e = let y = its-walks input known a equations lengths rows bounds table walks w e in all-opened true x b (y .0) (y .1) (y .2)
