@@ -67,7 +67,7 @@ log-more [] s = refl
 log-more (x ∷ steps) s = ap (λ l. x .equation ∷ direction-number (x .direction) ∷ x .position ∷ l) (log-more steps s)
 
 -- "direction 00 before 01": the rule's number says its equation and its direction.
-rule-parts : (rule i : ℕ) (d : Direction) → rule ≡ rule-number i d → (rule / 2 ≡ i) × (rule % 2 ≡ direction-number d)
+pub rule-parts : (rule i : ℕ) (d : Direction) → rule ≡ rule-number i d → (rule / 2 ≡ i) × (rule % 2 ≡ direction-number d)
 unfolding direction-number
 rule-parts rule i left-right h = (omega arith, omega arith)
 rule-parts rule i right-left h = (omega arith, omega arith)
