@@ -22,6 +22,16 @@ ghost use Rattle.printing.specs.Contracts.Appended.{Appended};
 ghost use Rattle.frames.specs.Contracts.Room.{term-room, bindings-room, elements-room, line-room};
 ghost use Rattle.frames.specs.Contracts.Line.{HasTerm, LineRecord, HasLineRecord};
 
+// The most bytes that the frame of a line takes: two digits for each of its bytes, and LF.
+pub const LINE_ROOM: usize = 2
+    * (3 + Limits::VARIABLES * (1 + Limits::SIDE_NODES) + Limits::ELEMENTS * 2 * Limits::SIDE_NODES)
+    + 1;
+
+// The number is the one of the definitions.
+pub fn stated()
+    ensures { λ _. do ⌜ (← ⟦LINE_ROOM⟧ .entry) ≡ line-room ⌝ }
+{}
+
 // The term at position `p` of the equation.
 fn put_term(nodes: &[u8], sizes: &[u8], p: usize, out: &mut [u8], at: usize) -> usize
     requires { ⌜ HasTerm (now nodes) (now sizes) p × (at + term-room ≤ length (now out)) ⌝ }

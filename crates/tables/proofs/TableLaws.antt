@@ -4,8 +4,10 @@ use mathlib.Core.Path.{_≡_, refl, sym, ap, ap₂, subst, _∙_}
 use mathlib.Core.Option.{some}
 use mathlib.Core.List.{List, [], _∷_, _++_, map}
 use native.Mathlib.Omega.{arith}
+use native.Mathlib.Decide.{ℕ-discrete}
 use native.Mathlib.Nat.{min-le-right}
-use lib.ListN.{length, getD, take, drop, length-map, length-take}
+use lib.ListN.{length, getD, take, drop, length-map, length-take, length-drop}
+use lib.Seq.{take-suc, getD-drop}
 use Rattle.format.specs.Limits.{max-equations, max-lines, max-turns, record-bytes}
 use Rattle.format.specs.declared.refusal.Refusal.{Refusal}
 use Rattle.format.specs.Lists.{entry}
@@ -28,15 +30,15 @@ use Rattle.rules.proofs.WalkLaws.{RuleOf, rule-of, rule-low, rule-in}
 use Rattle.running.proofs.CourseLaws.{rule-parts}
 use Rattle.listing.specs.Listing.{table-kind, printed, two-bytes, table-frames, line-frame}
 use Rattle.printing.specs.Contracts.Appended.{Appended}
-use Rattle.printing.specs.Theory.Printed.{length-printed-one}
-use Rattle.printing.specs.Theory.Appended.{appended-text}
-use Rattle.frames.specs.Contracts.Room.{table-room}
+use Rattle.printing.specs.Theory.Printed.{printed-append, length-printed-one}
+use Rattle.printing.specs.Theory.Appended.{appended-none, appended-join, appended-text}
+use Rattle.frames.specs.Contracts.Room.{table-room, line-room}
 use Rattle.frames.specs.Contracts.Line.{LineRecord, HasLineRecord}
 use Rattle.cursor.specs.declared.place.Place.the-variants.{Line as LinePlace}
 use Rattle.cursor.specs.Contracts.Rest.{rule-frames}
 use Rattle.cursor.specs.Contracts.Stands.{LinesThere}
 use Rattle.cursor.specs.Theory.Rest.{rule-frames-are}
-use Rattle.tables.specs.Contracts.Table.{TableGiven, HasLine}
+use Rattle.tables.specs.Contracts.Table.{TableGiven, HasLine, LinesGiven}
 use Rattle.tables.proofs.RecordLaws.{LineAt, line-at, record-there}
 
 -- What the walk of a rule ensures.
@@ -167,8 +169,76 @@ module _ {equations lengths : List ℕ} {rule k : ℕ} {scratch arities : List �
     pub line-has : HasLineRecord (take (k * record-bytes + record-bytes - k * record-bytes) (drop (k * record-bytes) scratch)) (take many (drop (row-start rule) equations)) (take many (drop (row-start rule) lengths))
     line-has = record { equation = of-line .equation; bindings = it .bindings; elements = it .elements; this = line-record }
 
-    pub line-printed : {before after : List ℕ} {bytes : ℕ}
+    pub line-printed : {before after : List ℕ} {at bytes : ℕ}
         → ((e : Equation) (θ : Bindings) (els : List Element) → LineRecord (take (k * record-bytes + record-bytes - k * record-bytes) (drop (k * record-bytes) scratch)) (take many (drop (row-start rule) equations)) (take many (drop (row-start rule) lengths)) e θ els
-        → Appended before 0 (printed (line-frame e (line θ els) ∷ [])) after bytes)
-        → Appended before 0 (printed (getD (rule-frames 0 es rule) (suc k) [] ∷ [])) after bytes
+        → Appended before at (printed (line-frame e (line θ els) ∷ [])) after bytes)
+        → Appended before at (printed (getD (rule-frames 0 es rule) (suc k) [] ∷ [])) after bytes
     line-printed p = appended-text (ap (λ f. printed (f ∷ [])) (sym frame-is)) (p (of-line .equation) (it .bindings) (it .elements) line-record)
+
+  frames-many : suc lines ≤ length (rule-frames 0 es rule)
+  unfolding table-frames
+  frames-many =
+      let (ls, turns, x, y, z) = its-walk in
+      let fs = ap (rule-frames 0 es) (of-line .is) ∙ (rule-frames-are es (of-line .number) (of-line .direction) (of-line .numbered) ∙ ap (table-frames (of-line .number) (of-line .equation) (of-line .direction)) x) in
+      omega (arith, ap length fs, length-map ls (line-frame (of-line .equation)))
+
+-- 3. The lines from `first` to line `k` are printed.
+module _ (equations lengths : List ℕ) (rule first lines : ℕ) (scratch before : List ℕ) where
+  pub record LinesPassed (out : List ℕ) (at k : ℕ) : Type 0 where
+    pub from-first : first ≤ k
+    pub not-more : k ≤ lines
+    pub at-first : k ≡ first → at ≡ 0
+    pub same-length : length out ≡ length before
+    pub within : at ≤ length before
+    pub so-far : (arities : List ℕ) (es : List Equation) → RowsAre equations lengths arities es → LinesThere es rule lines scratch
+        → Appended before 0 (printed (take (k - first) (drop (suc first) (rule-frames 0 es rule)))) out at
+
+pub no-line-passed : (equations lengths : List ℕ) (rule first lines : ℕ) (scratch before : List ℕ) → first < lines → LinesPassed equations lengths rule first lines scratch before before 0 first
+unfolding printed
+no-line-passed equations lengths rule first lines scratch before h = record {
+  from-first = omega arith;
+  not-more = omega arith;
+  at-first = λ e. refl;
+  same-length = refl;
+  within = omega arith;
+  so-far = λ arities es rows there.
+      let z : first - first ≡ 0 = omega arith in
+      appended-text (ap (λ n. printed (take n (drop (suc first) (rule-frames 0 es rule)))) (sym z)) (appended-none before 0);
+}
+
+module _ {equations lengths : List ℕ} {rule first lines : ℕ} {scratch before out : List ℕ} {at k : ℕ} (p : LinesPassed equations lengths rule first lines scratch before out at k) where
+  pub line-passed : {after : List ℕ} {end : ℕ} → k < lines → at + line-room ≤ length out → end ≤ at + line-room → length after ≡ length out
+      → ((arities : List ℕ) (es : List Equation) (lines : ℕ) → RowsAre equations lengths arities es → LinesThere es rule lines scratch → k < lines
+      → Appended out at (printed (getD (rule-frames 0 es rule) (suc k) [] ∷ [])) after end)
+      → LinesPassed equations lengths rule first lines scratch before after end (k + 1)
+  line-passed {after} {end} h room low same x = record {
+    from-first = omega (arith, p .from-first);
+    not-more = omega arith;
+    at-first = λ e. absurd (omega (arith, p .from-first));
+    same-length = same ∙ p .same-length;
+    within = omega (arith, p .same-length);
+    so-far = next;
+  }
+    where
+      next : (arities : List ℕ) (es : List Equation) → RowsAre equations lengths arities es → LinesThere es rule lines scratch
+          → Appended before 0 (printed (take (k + 1 - first) (drop (suc first) (rule-frames 0 es rule)))) after end
+      next arities es rows there =
+          let fs = rule-frames 0 es rule in
+          let rest = drop (suc first) fs in
+          let n = k - first in
+          let m : k + 1 - first ≡ suc n = omega (arith, p .from-first) in
+          let far : suc first + n ≡ suc k = omega (arith, p .from-first) in
+          let many : n < length rest = omega (arith, length-drop (suc first) fs, frames-many rows there h, p .from-first) in
+          let this : getD rest n [] ≡ getD fs (suc k) [] = getD-drop (suc first) fs n [] ∙ ap (λ j. getD fs j []) far in
+          let text : printed (take n rest) ++ printed (getD fs (suc k) [] ∷ []) ≡ printed (take (k + 1 - first) rest) =
+          sym (printed-append (take n rest) (getD fs (suc k) [] ∷ []))
+          ∙ ap printed (ap (λ f. take n rest ++ (f ∷ [])) (sym this) ∙ (sym (take-suc rest n [] many) ∙ ap (λ j. take j rest) (sym m))) in
+          appended-text text (appended-join (printed (take n rest)) (printed (getD fs (suc k) [] ∷ [])) (p .so-far arities es rows there) (x arities es lines rows there h))
+
+  -- There is room for the first line.
+  pub begun : line-room ≤ length before → length out < at + line-room → first < k
+  begun room full = elim (ℕ-discrete k first) [ yes e ↦ absurd (omega (arith, p .at-first e, p .same-length)) | no n ↦ omega (arith, p .from-first) ]
+
+  pub lines-given : first < k → (arities : List ℕ) (es : List Equation) → RowsAre equations lengths arities es → LinesThere es rule lines scratch
+      → LinesGiven es rule first lines before out (record { line = k; bytes = at })
+  lines-given h arities es rows there = record { some = h; not-more = p .not-more; appended = p .so-far arities es rows there; within = omega (arith, p .within, p .same-length) }
