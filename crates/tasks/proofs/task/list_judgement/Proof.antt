@@ -1,0 +1,54 @@
+-- `list_judgement` walks its rule, keeps its lines and prints the first that holds.
+use mathlib.Core.Path.{ap, sym}
+use mathlib.Core.List.{[], _∷_}
+use native.Mathlib.Omega.{arith}
+use borrow.Author.Needs.{needs}
+use Rattle.listing.specs.Listing.{printed, judgement-frame}
+use Rattle.printing.specs.Theory.Appended.{appended-text}
+use Rattle.judgements.proofs.JudgeTaskLaws.{holding-few}
+use Rattle.tasks.proofs.JudgementLaws.{judged-rule, never-refused, records-has, never-full, values-kept}
+use Rattle.tasks.proofs.task.list_judgement.Statement.{statement}
+use Rattle.tasks.proofs.task.list_judgement.Tie as tie
+
+walk-rule-requires : tie.Need-walk-rule-requires
+walk-rule-requires c κs = let start = c .before .before .before .before .before .before .before in (judged-rule (start .pre .0 .are), omega (arith, start .pre .1))
+
+returns : tie.Need-returns
+returns c = let start = c .before .before .before .before .before .before .before .before .before .before .before .before in let has = start .pre .0 in let walk = c .before .before .before .before .walk-rule in λ i e d ts at. absurd (never-refused at (walk .ensures .0) (c .enum-told2 .given .1))
+
+keep-lines-requires : tie.Need-keep-lines-requires
+keep-lines-requires c κs = let start = c .before .before .before .before .before .before .before .before .before .before .before .before .before .before in let has = start .pre .0 in let walk = c .before .before .before .before .before .before .walk-rule in (records-has (has .are) (walk .ensures .0) (c .before .before .enum-told .given .1), omega arith, start .pre .1 .0)
+
+returns-2 : tie.Need-returns-2
+returns-2 c = let start = c .before .before .before .before .before .before .before .before .before .before .before .before .before .before .before .before .before .before .before in let has = start .pre .0 in let walk = c .before .before .before .before .before .before .before .before .before .before .before .walk-rule in let lines = c .before .before .before .before .keep-lines in λ i e d ts at. absurd (never-full at (walk .ensures .0) (c .before .before .before .before .before .before .before .enum-told .given .1) (start .args .lines .now) (start .pre .1 .0) (lines .last .1 .1 .0) (lines .result) (lines .ensures) (c .enum-told3 .given .1))
+
+judge-values-requires : tie.Need-judge-values-requires
+judge-values-requires c κs = let start = c .before .before .before .before .before .before .before .before .before .before .before .before .before .before .before .before .before .before .before .before .before .before in let has = start .pre .0 in let walk = c .before .before .before .before .before .before .before .before .before .before .before .before .before .before .walk-rule in let lines = c .before .before .before .before .before .before .before .keep-lines in let kept = c .before .before .before .kept .given .1 in let solved = c .before .before .before .before .before .before .before .before .before .before .enum-told .given .1 in (record { number = has .number; equation = has .equation; direction = has .direction; terms = has .terms; are = values-kept (has .are) (walk .ensures .0) solved (start .args .lines .now) (start .pre .1 .0) (lines .last .1 .1 .0) (lines .result) (lines .ensures) kept }, omega (arith, c .before .before .before .before .before .before .before .before .before .before .before .before .before .scratch .given, start .pre .1))
+
+put-judgement-requires : tie.Need-put-judgement-requires
+put-judgement-requires c κs = let start = c .before .before .before .before .before .before .before .before .before .before .before .before .before .before .before .before .before .before .before .before .before .before .before .before .before .before in let has = start .pre .0 in let walk = c .before .before .before .before .before .before .before .before .before .before .before .before .before .before .before .before .before .before .walk-rule in let lines = c .before .before .before .before .before .before .before .before .before .before .before .keep-lines in let kept = c .before .before .before .before .before .before .before .kept .given .1 in let solved = c .before .before .before .before .before .before .before .before .before .before .before .before .before .before .enum-told .given .1 in let values = values-kept (has .are) (walk .ensures .0) solved (start .args .lines .now) (start .pre .1 .0) (lines .last .1 .1 .0) (lines .result) (lines .ensures) kept in (holding-few values (c .before .before .before .judge-values .ensures .0 (has .number) (has .equation) (has .direction) (has .terms) values), omega (arith, start .pre .1))
+
+returns-3 : tie.Need-returns-3
+returns-3 c = let start = c .before .before .before .before .before .before .before .before .before .before .before .before .before .before .before .before .before .before .before .before .before .before .before .before .before .before .before .before .before in let has = start .pre .0 in let walk = c .before .before .before .before .before .before .before .before .before .before .before .before .before .before .before .before .before .before .before .before .before .walk-rule in let lines = c .before .before .before .before .before .before .before .before .before .before .before .before .before .before .keep-lines in let kept = c .before .before .before .before .before .before .before .before .before .before .kept .given .1 in let solved = c .before .before .before .before .before .before .before .before .before .before .before .before .before .before .before .before .before .enum-told .given .1 in λ i e d ts at. appended-text (ap (λ n. printed (judgement-frame n ∷ [])) (c .before .before .before .before .before .before .judge-values .ensures .0 i e d ts (values-kept at (walk .ensures .0) solved (start .args .lines .now) (start .pre .1 .0) (lines .last .1 .1 .0) (lines .result) (lines .ensures) kept))) (c .before .before .put-judgement .ensures)
+
+pub list-judgement-spec : {M : Type 1} → statement M
+list-judgement-spec =
+    tie.close
+    (tie.spec
+    walk-rule-requires
+    (λ c. search needs)
+    (λ c. search needs)
+    (λ c. search needs)
+    returns
+    keep-lines-requires
+    (λ c. search needs)
+    (λ c. search needs)
+    (λ c. search needs)
+    (λ c. search needs)
+    returns-2
+    judge-values-requires
+    put-judgement-requires
+    (λ c. search needs)
+    (λ c. search needs)
+    (λ c. search needs)
+    returns-3)
