@@ -56,7 +56,7 @@ module _ (es : List Equation) where
   run-goes-on k t s e h = ap (below-limit (λ s. line-run es k (s .result))) e ∙ ap (unless-large s (line-run es k (s .result))) (le-ltb max-task-nodes (size (s .result)) h)
 
 -- 3. The log of the steps done, and one more.
-length-log : (steps : List Step) → length (log-of steps) ≡ 3 * length steps
+pub length-log : (steps : List Step) → length (log-of steps) ≡ 3 * length steps
 unfolding log-of
 length-log [] = refl
 length-log (s ∷ steps) = let x = length-log steps in omega arith
