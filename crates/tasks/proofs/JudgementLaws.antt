@@ -21,7 +21,7 @@ use Rattle.judging.specs.Contracts.Trimmed.{RecordsAre, HasRecords, KeptAs}
 use Rattle.rules.specs.Contracts.Rows.{RuleIs, HasRuleIn}
 use Rattle.rules.proofs.KeepLaws.{leaves-refused, records-there}
 use Rattle.judged.proofs.JudgeLaws.{front-fits, front-kept}
-use Rattle.judgements.specs.Contracts.JudgeTask.{ValuesIn}
+use Rattle.judgements.specs.Contracts.JudgeTask.{ValuesIn, HasValues}
 use Rattle.tasks.specs.Contracts.Task.{JudgementAt}
 
 module _ {sheet : List ℕ} {known : Known} {from end : ℕ} {equations lengths : List ℕ} {rule i : ℕ} {e : Equation} {d : Direction} {ts : Terms}
@@ -58,3 +58,6 @@ module _ {sheet : List ℕ} {known : Known} {from end : ℕ} {equations lengths 
               one-each = j .one-each;
               roomy = j .roomy;
             }
+
+        pub values-has : {filled : ℕ} → kept ≡ End filled → HasValues sheet known from end equations lengths rule table′ filled
+        values-has x = record { number = i; equation = e; direction = d; terms = ts; are = values-kept x }

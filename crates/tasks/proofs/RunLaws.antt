@@ -1,9 +1,8 @@
 -- The frames of a run, printed from its course.
-use Prim.Native.Nat.{ℕ, _+_, _*_, _≤_}
+use Prim.Native.Nat.{ℕ, _*_, _≤_}
 use mathlib.Core.Path.{_≡_, refl, sym, ap, subst, _∙_}
 use mathlib.Core.Bool.{Bool, true, false}
 use mathlib.Core.List.{List, [], _∷_, _++_, map}
-use native.Mathlib.Omega.{arith}
 use lib.ListN.{length, take, drop}
 use lib.Seq.{take-at}
 use Rattle.format.specs.Limits.{max-steps}
@@ -14,7 +13,6 @@ use Rattle.terms.specs.Theory.Prefix.{length-prefix}
 use Rattle.terms.specs.Equation.{Equation}
 use Rattle.sheet.specs.Sheet.{run}
 use Rattle.reducing.specs.Run.{Step, ending-number}
-use Rattle.reducing.specs.Test.{EverySolves}
 use Rattle.outcomes.specs.Outcome.{log-of}
 use Rattle.running.specs.declared.course.Course.{Course}
 use Rattle.running.specs.Contracts.Course.{the-run, last-of}

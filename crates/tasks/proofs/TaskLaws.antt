@@ -5,13 +5,13 @@ use mathlib.Core.Bool.{Bool}
 use mathlib.Core.Option.{some}
 use mathlib.Core.List.{List, [], _∷_, append-nil}
 use native.Mathlib.Omega.{arith}
-use lib.ListN.{length, take, length-take}
+use lib.ListN.{length, length-take}
 use Rattle.format.specs.Limits.{max-symbols, max-equations, max-steps}
 use Rattle.format.specs.Lists.{entry}
 use Rattle.format.specs.Theory.Lists.{entry-found, every-entry}
 use Rattle.terms.specs.Term.{Term, Terms, size, Ground, Grounds}
 use Rattle.terms.specs.Prefix.{prefix}
-use Rattle.terms.specs.Equation.{Equation, Direction, direction-number}
+use Rattle.terms.specs.Equation.{Equation, Direction}
 use Rattle.ordering.specs.Verdict.{verdict, verdict-number}
 use Rattle.ordering.specs.declared.verdict.Verdict.{Verdict}
 use Rattle.sheet.specs.Sheet.{Task, run, judgement, comparison, Sheet}
@@ -183,5 +183,5 @@ module _ {sheet : List ℕ} {known : Known} {equations lengths bounds : List ℕ
         pub rule-low : k + k + d < 2 * max-equations
         rule-low = let (o, ts, y, e, is, at) = found-judgement (h .ready) (this .1) x in omega (arith, at .rule-is .number, rule-below (h .content .equations) k o is, h .ready .rows .few)
 
-      pub pair-has : place .head ≡ Comparison → HasPair sheet (known-arities known) (place .from) (place .end)
-      pair-has x = let (u, v, e, is) = found-comparison (h .ready) (this .1) x in record { first = u; second = v; is = is }
+      pub comparison-has : place .head ≡ Comparison → HasPair sheet (known-arities known) (place .from) (place .end)
+      comparison-has x = let (u, v, e, is) = found-comparison (h .ready) (this .1) x in record { first = u; second = v; is = is }

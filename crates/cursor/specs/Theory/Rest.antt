@@ -1,11 +1,11 @@
 -- The laws of what is still to be printed.
-use Prim.Native.Nat.{ℕ, zero, suc, _+_, _*_, _≤_, _<_}
+use Prim.Native.Nat.{ℕ, zero, suc, _+_, _-_, _*_, _≤_, _<_}
 use mathlib.Core.Path.{_≡_, refl, sym, ap, ap₂, subst, _∙_}
 use mathlib.Core.Option.{none, some}
 use mathlib.Core.List.{List, [], _∷_, _++_, map, flatMap, append-assoc, append-nil}
 use native.Mathlib.Omega.{arith}
-use lib.ListN.{length, getD, take, drop, length-map, drop-of-length-le}
-use lib.Seq.{drop-cons}
+use lib.ListN.{length, take, drop, take-append-drop, drop-of-length-le}
+use lib.Seq.{drop-drop}
 use Rattle.format.specs.declared.refusal.Refusal.{Refusal}
 use Rattle.format.specs.Lists.{entry}
 use Rattle.terms.specs.Equation.{Equation, Direction, left-right, right-left, direction-number}
@@ -86,12 +86,16 @@ module _ (s : Sheet) where
       ap (_++ tasks) (frames-next 0 es rule h ∙ ap (_++ behind) x)
       ∙ ap (first ∷_) (append-assoc ls behind tasks ∙ ap (λ l. drop 1 l ++ (behind ++ tasks)) (sym x))
 
-  pub line-left : (rule line lines : ℕ) → suc line < length (rule-frames 0 (s .equations) rule)
-      → left-frames s (Line rule line lines) ≡ getD (rule-frames 0 (s .equations) rule) (suc line) [] ∷ left-frames s (Line rule (suc line) lines)
+  pub some-lines-left : (rule first line lines : ℕ) → first ≤ line
+      → left-frames s (Line rule first lines) ≡ take (line - first) (drop (suc first) (rule-frames 0 (s .equations) rule)) ++ left-frames s (Line rule line lines)
   unfolding left-frames
-  line-left rule line lines h =
+  some-lines-left rule first line lines h =
       let fs = rule-frames 0 (s .equations) rule in
-      ap (_++ (frames-from 0 (s .equations) (suc rule) ++ tasks-from s 0 0)) (drop-cons fs (suc line) [] h)
+      let behind = frames-from 0 (s .equations) (suc rule) ++ tasks-from s 0 0 in
+      let n = line - first in
+      let far : suc first + n ≡ suc line = omega arith in
+      ap (_++ behind) (sym (take-append-drop n (drop (suc first) fs)) ∙ ap (take n (drop (suc first) fs) ++_) (drop-drop n (suc first) fs ∙ ap (λ k. drop k fs) far))
+      ∙ append-assoc (take n (drop (suc first) fs)) (drop (suc line) fs) behind
 
   pub lines-left : (rule line lines : ℕ) → length (rule-frames 0 (s .equations) rule) ≤ suc line → left-frames s (Line rule line lines) ≡ left-frames s (Table (suc rule))
   unfolding left-frames

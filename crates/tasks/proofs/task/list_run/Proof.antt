@@ -1,68 +1,68 @@
+-- `list_run` prints the frames of a run from its course.
+use mathlib.Core.Path.{sym}
+use native.Mathlib.Omega.{arith}
+use lib.Seq.{length-take-le}
 use borrow.Author.Needs.{needs}
+use Rattle.tasks.proofs.RunLaws.{lines-stay, run-given}
 use Rattle.tasks.proofs.task.list_run.Statement.{statement}
 use Rattle.tasks.proofs.task.list_run.Tie as tie
-use Rattle.tasks.proofs.task.list_run.Reads as reads
-use Rattle.tasks.proofs.task.list_run.Lts as lts
-use Rattle.frames.proofs.steps.put_run.Reads as put-run-reads
-use Rattle.frames.proofs.steps.put_steps.Reads as put-steps-reads
-use Rattle.reductions.proofs.run_term.run_course.Reads as run-course-reads
 
--- src/task.rt:105:9
-run-course-requires : tie.Need-run-course-requires
-run-course-requires c κs = search needs
-
--- src/task.rt:120:9
 put-steps-requires : tie.Need-put-steps-requires
-put-steps-requires c κs = search needs
+put-steps-requires c κs =
+    let course = c .before .before .before .before .before .before .before .before .before .before in
+    let start = course .before .before .before .before .before .before .before .before .before .before .before .before .before .before in
+    let has = start .pre .0 .0 in
+    let run = course .run-course .ensures .0 (has .those) (has .subject) (has .is) (has .ready) in
+    let few = run .few-steps (start .pre .0 .1) in
+    (few, omega (arith, few, c .before .before .before .log .given, start .pre .1), omega (arith, few, start .pre .1))
 
--- src/task.rt:123:47
 slice-reshare-prefix-put-run : tie.Need-slice-reshare-prefix-put-run
-slice-reshare-prefix-put-run c = search needs
+slice-reshare-prefix-put-run c =
+    let course = c .before .before .before .before .before .before .before .before .before .before .before .before .before in
+    let start = course .before .before .before .before .before .before .before .before .before .before .before .before .before .before in
+    let has = start .pre .0 .0 in
+    let run = course .run-course .ensures .0 (has .those) (has .subject) (has .is) (has .ready) in
+    omega (arith, run .small, c .before .before .before .before .before .before .before .before .term .given, start .pre .1)
 
--- src/task.rt:123:47
 slice-aggregate-put-run : tie.Need-slice-aggregate-put-run
-slice-aggregate-put-run c = search needs
+slice-aggregate-put-run c =
+    let course = c .before .before .before .before .before .before .before .before .before .before .before .before .before .before in
+    let start = course .before .before .before .before .before .before .before .before .before .before .before .before .before .before in
+    let has = start .pre .0 .0 in
+    let run = course .run-course .ensures .0 (has .those) (has .subject) (has .is) (has .ready) in
+    sym (length-take-le (course .run-course .result .size) (course .run-course .last .1 .1 .1 .1 .1 .1 .1 .1 .1 .1 .1 .0) (omega (arith, run .small, c .before .before .before .before .before .before .before .before .before .term .given, start .pre .1)))
 
--- src/task.rt:123:9
 put-run-requires : tie.Need-put-run-requires
-put-run-requires c κs = search needs
+put-run-requires c κs =
+    let course = c .before .before .before .before .before .before .before .before .before .before .before .before .before .before .before in
+    let start = course .before .before .before .before .before .before .before .before .before .before .before .before .before .before in
+    let has = start .pre .0 .0 in
+    let run = course .run-course .ensures .0 (has .those) (has .subject) (has .is) (has .ready) in
+    let few = run .few-steps (start .pre .0 .1) in
+    let size = length-take-le (course .run-course .result .size) (course .run-course .last .1 .1 .1 .1 .1 .1 .1 .1 .1 .1 .1 .0) (omega (arith, run .small, c .before .before .before .before .before .before .before .before .before .before .term .given, start .pre .1)) in
+    (few, omega (arith, run .small, size), omega (arith, few, c .before .before .before .before .put-steps .ensures .1, c .before .before .before .out .given, start .pre .1))
 
--- src/task.rt:84:1
-same-length : tie.Need-same-length
-same-length c = search needs
-
--- src/task.rt:84:1
-same-length-2 : tie.Need-same-length-2
-same-length-2 c = search needs
-
--- src/task.rt:84:1
-same-length-3 : tie.Need-same-length-3
-same-length-3 c = search needs
-
--- src/task.rt:84:1
-same-length-4 : tie.Need-same-length-4
-same-length-4 c = search needs
-
--- src/task.rt:84:1
-same-length-5 : tie.Need-same-length-5
-same-length-5 c = search needs
-
--- src/task.rt:84:1
 returns : tie.Need-returns
-returns c = search needs
+returns c =
+    let steps = c .before .before .before .before .before .before .before in
+    let course = steps .before .before .before .before .before .before .before .before .before .before .before in
+    let start = course .before .before .before .before .before .before .before .before .before .before .before .before .before .before in (
+      λ es subject is ready. run-given (course .run-course .ensures .0 es subject is ready) (start .pre .0 .1) (steps .put-steps .ensures .0) (c .before .before .put-run .ensures),
+      λ es every ready. lines-stay (start .args .fits) (start .args .bounds .now) es (course .run-course .ensures .1 .0) ready,
+    )
 
 pub list-run-spec : {M : Type 1} → statement M
 list-run-spec =
     tie.close
     (tie.spec
-    run-course-requires
+    (λ c κs. search needs)
     put-steps-requires
     slice-reshare-prefix-put-run
     slice-aggregate-put-run
     put-run-requires
-    same-length
-    same-length-2
-    same-length-3
-    same-length-4
-    same-length-5
+    (λ c. search needs)
+    (λ c. search needs)
+    (λ c. search needs)
+    (λ c. search needs)
+    (λ c. search needs)
     returns)

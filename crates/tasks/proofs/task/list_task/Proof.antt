@@ -1,130 +1,98 @@
+-- `list_task` prints a task by its head.
+use native.Mathlib.Omega.{arith}
 use borrow.Author.Needs.{needs}
+use Rattle.tasks.proofs.TaskLaws.{task-accepted, task-low, run-has, judgement-has, rule-low, comparison-has, run-printed, judgement-printed, comparison-printed}
 use Rattle.tasks.proofs.task.list_task.Statement.{statement}
 use Rattle.tasks.proofs.task.list_task.Tie as tie
-use Rattle.tasks.proofs.task.list_task.Reads as reads
-use Rattle.tasks.proofs.task.list_task.Lts as lts
-use Rattle.comparisons.proofs.compare.compare_terms.Reads as compare-terms-reads
-use Rattle.frames.proofs.fixed.put_comparison.Reads as put-comparison-reads
-use Rattle.reading.proofs.seek.find_task.Reads as find-task-reads
-use Rattle.tasks.proofs.task.list_judgement.Reads as list-judgement-reads
-use Rattle.tasks.proofs.task.list_run.Reads as list-run-reads
 
--- src/task.rt:151:9
 find-task-requires : tie.Need-find-task-requires
-find-task-requires c κs = search needs
+find-task-requires c κs = let has = c .before .before .before .before .before .before .before .before .before .before .pre .0 in (task-accepted has, task-low has)
 
--- src/task.rt:154:23
-enum-known-head : tie.Need-enum-known-head
-enum-known-head c = search needs
-
--- src/task.rt:154:33
 list-run-requires : tie.Need-list-run-requires
-list-run-requires c κs = search needs
+list-run-requires c κs =
+    let place = c .before .before .before .before .before .before .before .before in
+    let start = place .before .before .before .before .before .before .before .before .before .before .before in
+    let found = place .find-task in
+    (run-has (start .args .task) (found .result) (found .ensures) (start .pre .0) (c .before .before .before .before .before .before .head .given .1), (start .pre .1 .0, start .pre .1 .2, start .pre .1 .3, start .pre .1 .4, start .pre .1 .5))
 
--- src/task.rt:170:29
-enum-known-head-2 : tie.Need-enum-known-head-2
-enum-known-head-2 c = search needs
-
--- src/task.rt:174:17
 add-list-judgement : tie.Need-add-list-judgement
-add-list-judgement c = search needs
+add-list-judgement c =
+    let place = c .before .before .before in
+    let start = place .before .before .before .before .before .before .before .before .before .before .before in
+    let found = place .find-task in
+    omega (arith, rule-low (start .args .task) (found .result) (found .ensures) (start .pre .0) (c .before .head2 .given .1))
 
--- src/task.rt:174:17
 add-list-judgement-2 : tie.Need-add-list-judgement-2
-add-list-judgement-2 c = search needs
+add-list-judgement-2 c =
+    let place = c .before .before .before in
+    let start = place .before .before .before .before .before .before .before .before .before .before .before in
+    let found = place .find-task in
+    omega (arith, rule-low (start .args .task) (found .result) (found .ensures) (start .pre .0) (c .before .head2 .given .1))
 
--- src/task.rt:171:17
 list-judgement-requires : tie.Need-list-judgement-requires
-list-judgement-requires c κs = search needs
+list-judgement-requires c κs =
+    let place = c .before .before .before .before .before .before in
+    let start = place .before .before .before .before .before .before .before .before .before .before .before in
+    let found = place .find-task in
+    (judgement-has (start .args .task) (found .result) (found .ensures) (start .pre .0) (c .before .before .before .before .head2 .given .1), (start .pre .1 .1, start .pre .1 .2, omega (arith, start .pre .1)))
 
--- src/task.rt:189:78
-enum-told : tie.Need-enum-told
-enum-told c = search needs
-
--- src/task.rt:189:17
 compare-terms-requires : tie.Need-compare-terms-requires
-compare-terms-requires c κs = search needs
+compare-terms-requires c κs =
+    let place = c .before .before .before in
+    let start = place .before .before .before .before .before .before .before .before .before .before .before in
+    let found = place .find-task in
+    let has = start .pre .0 in
+    (comparison-has (start .args .task) (found .result) (found .ensures) has (c .before .enum-told .given .1), has .ready .knows .roomy, start .pre .1 .2)
 
--- src/task.rt:190:17
 put-comparison-requires : tie.Need-put-comparison-requires
-put-comparison-requires c κs = search needs
+put-comparison-requires c κs = omega (arith, c .before .before .before .before .before .before .before .before .before .before .before .before .before .before .before .before .before .before .pre .1)
 
--- src/task.rt:131:1
-same-length : tie.Need-same-length
-same-length c = search needs
-
--- src/task.rt:131:1
-same-length-2 : tie.Need-same-length-2
-same-length-2 c = search needs
-
--- src/task.rt:131:1
-same-length-3 : tie.Need-same-length-3
-same-length-3 c = search needs
-
--- src/task.rt:131:1
-same-length-4 : tie.Need-same-length-4
-same-length-4 c = search needs
-
--- src/task.rt:131:1
-same-length-5 : tie.Need-same-length-5
-same-length-5 c = search needs
-
--- src/task.rt:131:1
 returns : tie.Need-returns
-returns c = search needs
+returns c =
+    let place = c .before .before .before .before .before .before .before .before .before .before .before .before .before .before .before .before .before .before .before in
+    let start = place .before .before .before .before .before .before .before .before .before .before .before in
+    let found = place .find-task in
+    let listed = c .before .before .before .before .before .before .before .before .before .before .list-run in
+    (λ s t ready x. run-printed (start .args .task) (found .result) (found .ensures) ready x (c .before .before .before .before .before .before .before .before .before .before .before .before .before .before .before .before .before .head .given .1) (listed .ensures .0), listed .ensures .1)
 
--- src/task.rt:131:1
-same-length-6 : tie.Need-same-length-6
-same-length-6 c = search needs
-
--- src/task.rt:131:1
-same-length-7 : tie.Need-same-length-7
-same-length-7 c = search needs
-
--- src/task.rt:131:1
-same-length-8 : tie.Need-same-length-8
-same-length-8 c = search needs
-
--- src/task.rt:131:1
 returns-2 : tie.Need-returns-2
-returns-2 c = search needs
+returns-2 c =
+    let place = c .before .before .before .before .before .before .before .before .before .before .before .before .before in
+    let start = place .before .before .before .before .before .before .before .before .before .before .before in
+    let found = place .find-task in
+    (λ s t ready x. judgement-printed (start .args .task) (found .result) (found .ensures) ready x (c .before .before .before .before .before .before .before .before .before .before .before .head2 .given .1) (c .before .before .before .before .before .before .list-judgement .ensures), λ es every ready. ready)
 
--- src/task.rt:131:1
-same-length-9 : tie.Need-same-length-9
-same-length-9 c = search needs
-
--- src/task.rt:131:1
-same-length-10 : tie.Need-same-length-10
-same-length-10 c = search needs
-
--- src/task.rt:131:1
 returns-3 : tie.Need-returns-3
-returns-3 c = search needs
+returns-3 c =
+    let place = c .before .before .before .before .before .before .before .before .before .before in
+    let start = place .before .before .before .before .before .before .before .before .before .before .before in
+    let found = place .find-task in
+    (λ s t ready x. comparison-printed (start .args .task) (found .result) (found .ensures) ready x (c .before .before .before .before .before .before .before .before .enum-told .given .1) (c .before .before .before .before .before .before .compare-terms .ensures .0) (c .before .before .put-comparison .ensures), λ es every ready. ready)
 
 pub list-task-spec : {M : Type 1} → statement M
 list-task-spec =
     tie.close
     (tie.spec
     find-task-requires
-    enum-known-head
+    (λ c. search needs)
     list-run-requires
-    enum-known-head-2
+    (λ c. search needs)
     add-list-judgement
     add-list-judgement-2
     list-judgement-requires
-    enum-told
+    (λ c. search needs)
     compare-terms-requires
     put-comparison-requires
-    same-length
-    same-length-2
-    same-length-3
-    same-length-4
-    same-length-5
+    (λ c. search needs)
+    (λ c. search needs)
+    (λ c. search needs)
+    (λ c. search needs)
+    (λ c. search needs)
     returns
-    same-length-6
-    same-length-7
-    same-length-8
+    (λ c. search needs)
+    (λ c. search needs)
+    (λ c. search needs)
     returns-2
-    same-length-9
-    same-length-10
+    (λ c. search needs)
+    (λ c. search needs)
     returns-3)
