@@ -53,7 +53,13 @@ fn compare_stored(nodes: &[u8], sizes: &[u8], scratch: &mut [u8]) -> Verdict
 }
 
 // The verdict of the two terms that the digits from `from` to `end` write.
-fn compare_terms(sheet: &[u8], known: Known, from: usize, end: usize, scratch: &mut [u8]) -> Verdict
+pub fn compare_terms(
+    sheet: &[u8],
+    known: Known,
+    from: usize,
+    end: usize,
+    scratch: &mut [u8],
+) -> Verdict
     requires { ⌜ ((s : Term) × (t : Term) × PairIn (now sheet) (known-arities known) from end s t) ⌝ }
     requires { ⌜ Roomy known × (scratch-bytes ≤ length (now scratch)) ⌝ }
     ensures { λ r. ⌜ ((s t : Term) → PairIn (now (sheet .entry)) (known-arities known) from end s t → r ≡ verdict s t) ⌝ }

@@ -11,6 +11,7 @@ use Rattle.format.specs.Limits.{table-bytes}
 use Rattle.format.specs.Lists.{entry}
 use Rattle.format.specs.declared.refusal.Refusal.{Refusal}
 use Rattle.terms.specs.Equation.{Equation, Direction}
+use Rattle.terms.specs.Contracts.Limits.{WithinLimits}
 use Rattle.solving.specs.Line.{Line}
 use Rattle.solving.specs.Walk.{solved, solve, Solves}
 use Rattle.walking.specs.Contracts.Walking.{memory-bytes}
@@ -46,11 +47,27 @@ front-lines ls {end} before {after} room x y z = record {
   there = ap (take end) z ∙ take-at (trimmed-lines ls) (drop (0 + length (trimmed-lines ls)) before) end (omega (arith, x));
 }
 
--- 2. From rule to rule.
+abbrev walk-solves : {e : Equation} {d : Direction} {memory : List ℕ} {told : Reported} → Leaves (solve e d) memory told → told .ending ≡ Solved → Solves e d
+walk-solves {e} {d} {memory} {told} l x =
+    let ends = subst (λ x. LeavesEnd (solve e d) memory x (told .lines) (told .turns)) x (l .ends) in
+    record { table = ends .0; turns = told .turns; walked = ends .1 }
+
 -- The rule's walk solves, and its lines are kept from the front of the table to `end`.
-abbrev KeptTo : (table : List ℕ) (end : ℕ) → Equation → Direction → Type 0
+abbrev pub KeptTo : (table : List ℕ) (end : ℕ) → Equation → Direction → Type 0
 KeptTo table end e d = (ls : List Line) × (turns : ℕ) × (solve e d ≡ solved ls turns) × ProperLines e ls × LinesAt table (record { from = 0; end = end }) ls
 
+module _ {e : Equation} (w : WithinLimits e) (d : Direction) {memory : List ℕ} {told : Reported} (l : Leaves (solve e d) memory told) (solves : told .ending ≡ Solved)
+    (table : List ℕ) (room : table-bytes ≤ length table) (table′ : List ℕ) (kept : Kept) (keeps : (ls : List Line) → RecordsAre memory (told .lines) ls → KeptAs ls 0 table table′ kept) where
+  pub front-fits : kept ≡ Full → ⊥
+  front-fits x = omega (arith, full-kept w d l solves 0 table table′ kept keeps x .1)
+
+  pub front-kept : {last : ℕ} → kept ≡ End last → KeptTo table′ last e d
+  front-kept ended =
+      let walked = walk-solves l solves in
+      let (x, y, z) = subst (KeptAs (walked .table) 0 table table′) ended (keeps (walked .table) (records-there w d l solves)) in
+      (walked .table, walked .turns, walked .walked, walked-proper w d (walked .walked), front-lines (walked .table) table room x y z)
+
+-- 2. From rule to rule.
 pub record JudgedSoFar (es : List Equation) (judged : ℕ) (table : List ℕ) (end rule : ℕ) : Type 0 where
   pub solve-below : SolvedBefore es rule
   pub kept : (i : ℕ) (e : Equation) (d : Direction) → entry es i ≡ some e → judged ≡ rule-number i d → judged < rule → KeptTo table end e d
@@ -71,11 +88,6 @@ judging-start equations lengths count judged table scratch = record {
   scratch-behind = refl;
   so-far = λ arities es rows c. record { solve-below = λ j q f x h. absurd (omega arith); kept = λ i e d x y h. absurd (omega arith) };
 }
-
-abbrev walk-solves : {e : Equation} {d : Direction} {memory : List ℕ} {told : Reported} → Leaves (solve e d) memory told → told .ending ≡ Solved → Solves e d
-walk-solves {e} {d} {memory} {told} l x =
-    let ends = subst (λ x. LeavesEnd (solve e d) memory x (told .lines) (told .turns)) x (l .ends) in
-    record { table = ends .0; turns = told .turns; walked = ends .1 }
 
 module _ {equations lengths : List ℕ} {count judged : ℕ} {table₀ scratch₀ table scratch : List ℕ} {end rule : ℕ} (k : Judging equations lengths count judged table₀ scratch₀ table scratch end rule) where
   pub judging-done : count + count ≤ rule → (arities : List ℕ) (es : List Equation) → RowsAre equations lengths arities es → count ≡ length es → JudgedAs es judged table (Ended end)
@@ -126,26 +138,20 @@ module _ {equations lengths : List ℕ} {count judged : ℕ} {table₀ scratch�
         -- The lines of the judged rule are kept.
         module _ (room : table-bytes ≤ length table₀) (this : rule ≡ judged) (table′ : List ℕ) (kept : Kept)
             (keeps : (ls : List Line) → RecordsAre after (told .lines) ls → KeptAs ls 0 table table′ kept) where
+          table-room : table-bytes ≤ length table
+          table-room = omega (arith, k .table-length)
+
           pub never-full : kept ≡ Full → ⊥
           never-full x =
               let r = rule-there has there in
-              let l = leaves (r .arities) (r .number) (r .equation) (r .direction) (r .is) in
-              omega (arith, full-kept (r .is .row .limits) (r .direction) l solves 0 table table′ kept keeps x .1)
+              front-fits (r .is .row .limits) (r .direction) (leaves (r .arities) (r .number) (r .equation) (r .direction) (r .is)) solves table table-room table′ kept keeps x
 
           module _ {last : ℕ} (ended : kept ≡ End last) where
             kept-lines : (ls : List Line) → RecordsAre after (told .lines) ls → (last ≡ 0 + length (trimmed-lines ls)) × (last ≤ table-bytes) × (table′ ≡ placed 0 (trimmed-lines ls) table)
             kept-lines ls r = subst (KeptAs ls 0 table table′) ended (keeps ls r)
 
-            table-room : table-bytes ≤ length table
-            table-room = omega (arith, k .table-length)
-
             kept-rule : {arities : List ℕ} {i : ℕ} {e : Equation} {d : Direction} → RuleIs equations lengths arities rule i e d → KeptTo table′ last e d
-            kept-rule {arities} {i} {e} {d} is =
-                let l = leaves arities i e d is in
-                let w = is .row .limits in
-                let walked = walk-solves l solves in
-                let (x, y, z) = kept-lines (walked .table) (records-there w d l solves) in
-                (walked .table, walked .turns, walked .walked, walked-proper w d (walked .walked), front-lines (walked .table) table table-room x y z)
+            kept-rule {arities} {i} {e} {d} is = front-kept (is .row .limits) d (leaves arities i e d is) solves table table-room table′ kept keeps ended
 
             pub judging-kept : Judging equations lengths count judged table₀ scratch₀ table′ after last (rule + 1)
             judging-kept =

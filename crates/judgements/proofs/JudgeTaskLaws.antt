@@ -6,7 +6,7 @@ use mathlib.Core.Option.{Option, none, some}
 use mathlib.Core.List.{List, [], _∷_}
 use lib.ListN.{length, take, drop}
 use native.Mathlib.Omega.{arith}
-use Rattle.format.specs.Limits.{no-position, max-text, max-equations, table-bytes, scratch-bytes}
+use Rattle.format.specs.Limits.{no-position, max-text, max-equations, max-lines, table-bytes, scratch-bytes}
 use Rattle.format.specs.Lists.{entry}
 use Rattle.format.specs.declared.refusal.Refusal.{Refusal}
 use Rattle.format.specs.declared.refusal.Refusal.the-variants.{AbsentArgument as absent-argument}
@@ -93,10 +93,13 @@ module _ {sheet : List ℕ} {known : Known} {from end : ℕ} {equations lengths 
   unfolding holding-line holding-in
   values-hold h = h ∙ sym (ap (holding-in e (given-values ts)) (v .solves))
 
-  pub holding-low : {r : ℕ} → r ≡ holding-line e d (given-values ts) → r < field-limit
-  holding-low h =
+  pub holding-few : {r : ℕ} → r ≡ holding-line e d (given-values ts) → r ≤ max-lines
+  holding-few h =
       let same = values-hold {r = first-holding (given-values ts) (value e (given-values ts)) (v .kept)} refl in
       omega (arith, h, same, first-holding-low (given-values ts) (value e (given-values ts)) (v .kept), solved-line-count e (v .rule-is .row .limits) d (v .kept) (v .turns) (v .solves))
+
+  holding-low : {r : ℕ} → r ≡ holding-line e d (given-values ts) → r < field-limit
+  holding-low h = omega (arith, holding-few h)
 
 -- 4. The number, by what the walks gave.
 pub none-holds : {line n : ℕ} → line ≡ 0 → n ≡ 0 → n ≡ judge-fields line

@@ -22,6 +22,31 @@ use Rattle.reducing.specs.Run.{Step, Run, ending-number, last-term}
 use Rattle.reducing.specs.Test.{holding-line, line-run, given-values}
 use Rattle.outcomes.specs.Asked.{WalkRefusal, first-refusal}
 
+-- The first byte of each frame that is printed.
+abbrev pub table-kind : ℕ
+table-kind = 0x11
+
+abbrev pub line-kind : ℕ
+line-kind = 0x12
+
+abbrev pub run-kind : ℕ
+run-kind = 0x13
+
+abbrev pub step-kind : ℕ
+step-kind = 0x14
+
+abbrev pub judgement-kind : ℕ
+judgement-kind = 0x15
+
+abbrev pub comparison-kind : ℕ
+comparison-kind = 0x16
+
+abbrev pub total-kind : ℕ
+total-kind = 0x1f
+
+abbrev pub refusal-kind : ℕ
+refusal-kind = 0xff
+
 -- "prints frames in the sheet's digits, LF after each"
 unfoldable pub digit-byte : ℕ → ℕ
 digit-byte n = elim (ltb n 10) [ true ↦ 0x30 + n | false ↦ 0x57 + n ]
@@ -43,7 +68,7 @@ two-bytes n = n / 256 ∷ n % 256 ∷ []
 -- "Refused (8 to 10 included): only 'ff', number, line in two bytes."
 unfoldable pub refusal-frame : Refusal → (line : ℕ) → List ℕ
 unfolding two-bytes
-refusal-frame r n = 0xff ∷ number r ∷ two-bytes n
+refusal-frame r n = refusal-kind ∷ number r ∷ two-bytes n
 
 -- "each variable with its term", "bindings by ascending variable, terms as in the equation": the slots of the variables from `v` upward.
 unfoldable pub binding-count : Bindings → ℕ
@@ -66,12 +91,12 @@ element-terms e (greater p q) = prefix (term-at e p) ++ prefix (term-at e q)
 -- "per line '12', binding count, each variable with its term, element count, each left and right term"
 unfoldable pub line-frame : Equation → Line → List ℕ
 unfolding binding-count binding-terms element-terms flatMap
-line-frame e (line θ es) = 0x12 ∷ binding-count θ ∷ binding-terms e 0 θ ++ length es ∷ flatMap (element-terms e) es
+line-frame e (line θ es) = line-kind ∷ binding-count θ ∷ binding-terms e 0 θ ++ length es ∷ flatMap (element-terms e) es
 
 -- "for each equation and direction '11', equation, direction, lines, turns (two bytes, high first), then per line '12'"
 unfoldable pub table-frames : (n : ℕ) → Equation → Direction → Walked → List (List ℕ)
 unfolding direction-number two-bytes line-frame
-table-frames n e d (solved ls t) = (0x11 ∷ n ∷ direction-number d ∷ length ls ∷ two-bytes t) ∷ map (line-frame e) ls
+table-frames n e d (solved ls t) = (table-kind ∷ n ∷ direction-number d ∷ length ls ∷ two-bytes t) ∷ map (line-frame e) ls
 -- Not met: a sheet is listed where every walk solves.
 table-frames n e d (refused r) = []
 
@@ -83,16 +108,16 @@ equation-frames n (e ∷ es) = table-frames n e left-right (solve e left-right) 
 -- "run, each step '14', equation, direction, position, then '13', ending, steps, term"
 unfoldable pub step-frame : Step → List ℕ
 unfolding direction-number
-step-frame s = 0x14 ∷ s .equation ∷ direction-number (s .direction) ∷ s .position ∷ []
+step-frame s = step-kind ∷ s .equation ∷ direction-number (s .direction) ∷ s .position ∷ []
 
 unfoldable pub run-frames : (subject : Term) → Run → List (List ℕ)
 unfolding step-frame ending-number prefix last-term
-run-frames subject r = map step-frame (r .steps) ++ (0x13 ∷ ending-number (r .ending) ∷ length (r .steps) ∷ prefix (last-term subject (r .steps))) ∷ []
+run-frames subject r = map step-frame (r .steps) ++ (run-kind ∷ ending-number (r .ending) ∷ length (r .steps) ∷ prefix (last-term subject (r .steps))) ∷ []
 
 -- "judgement, '15', yes 01 or no 00, holding line or 00"
 unfoldable pub judgement-frame : (holding : ℕ) → List ℕ
-judgement-frame zero = 0x15 ∷ 0 ∷ 0 ∷ []
-judgement-frame (suc i) = 0x15 ∷ 1 ∷ suc i ∷ []
+judgement-frame zero = judgement-kind ∷ 0 ∷ 0 ∷ []
+judgement-frame (suc i) = judgement-kind ∷ 1 ∷ suc i ∷ []
 
 unfoldable pub holding : Option Equation → Direction → Values → ℕ
 unfolding holding-line
@@ -105,7 +130,7 @@ unfoldable pub task-frames : List Equation → Task → List (List ℕ)
 unfolding run-frames line-run judgement-frame holding given-values entry verdict verdict-number
 task-frames es (run k s) = run-frames s (line-run es k s)
 task-frames es (judgement n d ts) = judgement-frame (holding (entry es n) d (given-values ts)) ∷ []
-task-frames es (comparison s t) = (0x16 ∷ verdict-number (verdict s t) ∷ []) ∷ []
+task-frames es (comparison s t) = (comparison-kind ∷ verdict-number (verdict s t) ∷ []) ∷ []
 
 -- "steps of all runs"
 unfoldable pub steps-taken : List Equation → List Task → ℕ
@@ -118,7 +143,7 @@ steps-taken es (comparison s t ∷ ts) = steps-taken es ts
 -- "Last '1f', steps of all runs in two bytes."
 unfoldable pub sheet-frames : Sheet → List (List ℕ)
 unfolding equation-frames task-frames steps-taken two-bytes flatMap
-sheet-frames s = equation-frames 0 (s .equations) ++ flatMap (task-frames (s .equations)) (s .tasks) ++ (0x1f ∷ two-bytes (steps-taken (s .equations) (s .tasks))) ∷ []
+sheet-frames s = equation-frames 0 (s .equations) ++ flatMap (task-frames (s .equations)) (s .tasks) ++ (total-kind ∷ two-bytes (steps-taken (s .equations) (s .tasks))) ∷ []
 
 unfoldable pub walked-frames : Sheet → Option WalkRefusal → List (List ℕ)
 unfolding refusal-frame sheet-frames

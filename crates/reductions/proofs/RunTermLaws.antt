@@ -17,8 +17,6 @@ use Rattle.terms.specs.Theory.Prefix.{length-prefix}
 use Rattle.scanning.specs.declared.known.Known.{Known}
 use Rattle.scanning.specs.Contracts.Scan.{known-arities}
 use Rattle.loading.specs.Contracts.Loading.{TermsIn, HasTermsIn, Loaded}
-use Rattle.reducing.specs.declared.ending.Ending.{Ending}
-use Rattle.reducing.specs.declared.ending.Ending.the-variants.{NoneFound, LimitReached, ResultTooLarge}
 use Rattle.reducing.specs.Run.{ending-number}
 use Rattle.reducing.specs.Test.{line-test, line-run}
 use Rattle.reducing.specs.Theory.Runs.{run-few}
@@ -30,7 +28,7 @@ use Rattle.seeking.specs.Contracts.Seeking.{RulesReady, RunIs}
 use Rattle.running.specs.declared.course.Course.{Course}
 use Rattle.running.specs.Contracts.Course.{CourseIs, the-run, last-of}
 use Rattle.scanning.specs.Theory.Arities.{symbols-room, symbols-taken, arities-taken}
-use Rattle.reductions.specs.Contracts.RunTerm.{LinesReady, RunTermIs, Ran}
+use Rattle.reductions.specs.Contracts.RunTerm.{LinesReady, RunTermIs, RunCourse, Ran}
 
 -- 1. What the run starts from.
 abbrev taken-arities : Known → List ℕ
@@ -113,12 +111,6 @@ module _ {sheet : List ℕ} {known : Known} {from end : ℕ} {equations lengths 
       }
 
 -- 2. What the run gives.
-pub ending-low : (e : Ending) → ending-number e ≤ 2
-unfolding ending-number
-ending-low NoneFound = omega arith
-ending-low LimitReached = omega arith
-ending-low ResultTooLarge = omega arith
-
 module _ {es : List Equation} {k : ℕ} {subject : Term} {arities nodes sizes log log-after : List ℕ} {c : Course}
     (i : CourseIs es k subject arities nodes sizes log log-after c) where
   pub course-small : c .size ≤ max-task-nodes
@@ -140,15 +132,25 @@ module _ {es : List Equation} {k : ℕ} {subject : Term} {arities nodes sizes lo
       ∙ ap (take (c .size)) (there .is)
       ∙ take-at (prefix (last-of es k subject)) (there .rest) (c .size) (length-prefix (last-of es k subject) ∙ sym (i .size-is))
 
-  pub course-ran : (term term-after : List ℕ) (n r : ℕ) → term-after ≡ written (take (c .size) (take max-task-nodes (drop position-count nodes))) term
-      → n ≡ ending-number (c .ending) → r ≡ fields (c .steps) n (c .size) → Ran es k subject term term-after log log-after r
-  course-ran term term-after n r x y z =
-      record {
-        returned =
-            z
-            ∙ ap (λ s. fields s n (c .size)) (i .steps-are)
-            ∙ ap (λ m. fields (length (the-run es k subject .steps)) m (c .size)) (y ∙ ap ending-number (i .ending-is))
-            ∙ ap (λ m. fields (length (the-run es k subject .steps)) (ending-number (the-run es k subject .ending)) m) (i .size-is);
-        term-is = x ∙ ap (λ bs. written bs term) last-bytes;
-        log-is = i .logged;
-      }
+  pub course-ran : (term term-after : List ℕ) → term-after ≡ written (take (c .size) (take max-task-nodes (drop position-count nodes))) term → RunCourse es k subject term term-after log log-after c
+  course-ran term term-after x = record {
+    steps-are = i .steps-are;
+    few-steps = course-few;
+    ending-is = i .ending-is;
+    size-is = i .size-is;
+    small = course-small;
+    term-is = x ∙ ap (λ bs. written bs term) last-bytes;
+    log-is = i .logged;
+  }
+
+pub number-ran : {es : List Equation} {k : ℕ} {subject : Term} {term term-after log log-after : List ℕ} {c : Course} (n r : ℕ) → RunCourse es k subject term term-after log log-after c
+    → n ≡ ending-number (c .ending) → r ≡ fields (c .steps) n (c .size) → Ran es k subject term term-after log log-after r
+number-ran {es} {k} {subject} {c = c} n r i y z = record {
+  returned =
+      z
+      ∙ ap (λ s. fields s n (c .size)) (i .steps-are)
+      ∙ ap (λ m. fields (length (the-run es k subject .steps)) m (c .size)) (y ∙ ap ending-number (i .ending-is))
+      ∙ ap (λ m. fields (length (the-run es k subject .steps)) (ending-number (the-run es k subject .ending)) m) (i .size-is);
+  term-is = i .term-is;
+  log-is = i .log-is;
+}

@@ -5,6 +5,7 @@ use format::copy::copy_front;
 use format::limits::Limits;
 use loading::load::load_terms;
 use reducing::ending::number_of_ending;
+use running::course::Course;
 use running::course::run_steps;
 use scanning::known::Known;
 use searching::next::NEXT;
@@ -18,7 +19,7 @@ ghost use Rattle.format.specs.Limits.{max-steps, table-bytes, scratch-bytes, te
 ghost use Rattle.terms.specs.Term.{Term};
 ghost use Rattle.terms.specs.Equation.{Equation};
 ghost use Rattle.searching.specs.Contracts.Next.{next-bytes, NextIs, RulesKept, HasRulesKept};
-ghost use Rattle.reductions.specs.Contracts.RunTerm.{LinesReady, RunTermIs, HasRunTerm, Ran};
+ghost use Rattle.reductions.specs.Contracts.RunTerm.{LinesReady, RunTermIs, HasRunTerm, RunCourse, Ran};
 
 // The table of next rules, where the search goes by positions.
 fn prepare_next(
@@ -39,8 +40,8 @@ fn prepare_next(
     }
 }
 
-// The run of the term that the digits from `from` to `end` write, over rules that all solve: the number that is returned, the last term and the log.
-pub fn run_term(
+// The run of the term that the digits from `from` to `end` write, over rules that all solve: its steps and ending, the last term and the log. Lines that are kept stay.
+pub fn run_course(
     sheet: &[u8],
     known: Known,
     limit: usize,
@@ -54,10 +55,11 @@ pub fn run_term(
     scratch: &mut [u8],
     term: &mut [u8],
     log: &mut [u8],
-) -> u64
+) -> Course
     requires { ⌜ HasRunTerm (now sheet) known from end (now equations) (now lengths) (now bounds) fits (now table) × (limit ≤ max-steps) ⌝ }
     requires { ⌜ (table-bytes ≤ length (now table)) × (scratch-bytes ≤ length (now scratch)) × (term-bytes ≤ length (now term)) × (log-bytes ≤ length (now log)) ⌝ }
-    ensures { λ r. ⌜ ((es : List Equation) (subject : Term) → RunTermIs (now (sheet .entry)) known from end (now (equations .entry)) (now (lengths .entry)) (now (bounds .entry)) es subject → LinesReady fits (now (bounds .entry)) (now (table .entry)) es → Ran es limit subject (now (term .entry)) (now (term .exit)) (now (log .entry)) (now (log .exit)) r) ⌝ }
+    ensures { λ r. ⌜ ((es : List Equation) (subject : Term) → RunTermIs (now (sheet .entry)) known from end (now (equations .entry)) (now (lengths .entry)) (now (bounds .entry)) es subject → LinesReady fits (now (bounds .entry)) (now (table .entry)) es → RunCourse es limit subject (now (term .entry)) (now (term .exit)) (now (log .entry)) (now (log .exit)) r) ⌝ }
+    ensures { λ _. ⌜ (fits ≡ true → now (table .exit) ≡ now (table .entry)) ⌝ }
     ensures { λ _. ⌜ drop table-bytes (now (table .exit)) ≡ drop table-bytes (now (table .entry)) ⌝ }
     ensures { λ _. ⌜ drop scratch-bytes (now (scratch .exit)) ≡ drop scratch-bytes (now (scratch .entry)) ⌝ }
 {
@@ -92,6 +94,46 @@ pub fn run_term(
         n,
     );
     copy_front(&nodes[SUBJECT..], term, course.size);
+    course
+}
+
+// The same, and the number that run returns.
+pub fn run_term(
+    sheet: &[u8],
+    known: Known,
+    limit: usize,
+    from: usize,
+    end: usize,
+    equations: &[u8],
+    lengths: &[u8],
+    bounds: &[usize],
+    fits: bool,
+    table: &mut [u8],
+    scratch: &mut [u8],
+    term: &mut [u8],
+    log: &mut [u8],
+) -> u64
+    requires { ⌜ HasRunTerm (now sheet) known from end (now equations) (now lengths) (now bounds) fits (now table) × (limit ≤ max-steps) ⌝ }
+    requires { ⌜ (table-bytes ≤ length (now table)) × (scratch-bytes ≤ length (now scratch)) × (term-bytes ≤ length (now term)) × (log-bytes ≤ length (now log)) ⌝ }
+    ensures { λ r. ⌜ ((es : List Equation) (subject : Term) → RunTermIs (now (sheet .entry)) known from end (now (equations .entry)) (now (lengths .entry)) (now (bounds .entry)) es subject → LinesReady fits (now (bounds .entry)) (now (table .entry)) es → Ran es limit subject (now (term .entry)) (now (term .exit)) (now (log .entry)) (now (log .exit)) r) ⌝ }
+    ensures { λ _. ⌜ drop table-bytes (now (table .exit)) ≡ drop table-bytes (now (table .entry)) ⌝ }
+    ensures { λ _. ⌜ drop scratch-bytes (now (scratch .exit)) ≡ drop scratch-bytes (now (scratch .entry)) ⌝ }
+{
+    let course = run_course(
+        sheet,
+        known,
+        limit,
+        from,
+        end,
+        equations,
+        lengths,
+        bounds,
+        fits,
+        table,
+        scratch,
+        term,
+        log,
+    );
     let ending = course.ending;
     fields_number(course.steps, number_of_ending(ending), course.size)
 }

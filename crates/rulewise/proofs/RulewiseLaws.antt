@@ -258,7 +258,7 @@ module _ (equations lengths : List ℕ) (rules : ℕ) (nodes₀ sizes₀ : List 
     };
   }
 
-entry-solves : (es : List Equation) (i : ℕ) (e : Equation) (d : Direction) → EverySolves es → entry es i ≡ some e → Solves e d
+pub entry-solves : (es : List Equation) (i : ℕ) (e : Equation) (d : Direction) → EverySolves es → entry es i ≡ some e → Solves e d
 unfolding entry
 entry-solves [] i e d s x = let z : _≡_ {A = ℕ} 0 1 = cc in absurd (omega arith)
 entry-solves (q ∷ qs) zero e d s x = let w : q ≡ e = cc in subst (λ f. Solves f d) w (s .0 d)

@@ -57,7 +57,7 @@ module _ (es : List Equation) where
   run-goes-on k t s e h = ap (below-limit (λ s. line-run es k (s .result))) e ∙ ap (unless-large s (line-run es k (s .result))) (le-ltb max-task-nodes (size (s .result)) h)
 
 -- 3. The log of the steps done, and one more.
-length-log : (steps : List Step) → length (log-of steps) ≡ 3 * length steps
+pub length-log : (steps : List Step) → length (log-of steps) ≡ 3 * length steps
 unfolding log-of
 length-log [] = refl
 length-log (s ∷ steps) = let x = length-log steps in omega arith
@@ -68,7 +68,7 @@ log-more [] s = refl
 log-more (x ∷ steps) s = ap (λ l. x .equation ∷ direction-number (x .direction) ∷ x .position ∷ l) (log-more steps s)
 
 -- "direction 00 before 01": the rule's number says its equation and its direction.
-rule-parts : (rule i : ℕ) (d : Direction) → rule ≡ rule-number i d → (rule / 2 ≡ i) × (rule % 2 ≡ direction-number d)
+pub rule-parts : (rule i : ℕ) (d : Direction) → rule ≡ rule-number i d → (rule / 2 ≡ i) × (rule % 2 ≡ direction-number d)
 unfolding direction-number
 rule-parts rule i left-right h = (omega arith, omega arith)
 rule-parts rule i right-left h = (omega arith, omega arith)

@@ -14,8 +14,14 @@ use Rattle.terms.specs.Term.{Term, size, Values, inst}
 use Rattle.terms.specs.Position.{subterms, replace}
 use Rattle.terms.specs.Equation.{Equation, Direction, left-right, right-left, source, target}
 use Rattle.reducing.specs.Match.{no-match, match, values-of, usable}
-use Rattle.reducing.specs.Run.{Step, Ending, none-found, limit-reached, result-too-large, Run, after-step, try, try-equations, try-positions, step, run, last-term}
+use Rattle.reducing.specs.Run.{Step, Ending, none-found, limit-reached, result-too-large, ending-number, Run, after-step, try, try-equations, try-positions, step, run, last-term}
 use Rattle.reducing.specs.Theory.Step.{or-else, Taken, step-taken}
+
+pub ending-low : (e : Ending) → ending-number e ≤ 2
+unfolding ending-number
+ending-low none-found = omega arith
+ending-low limit-reached = omega arith
+ending-low result-too-large = omega arith
 
 -- The run from a term by its next step, if there is one: where all steps are done, and where there are more, with the run after each.
 abbrev pub stopped : Ending → Run

@@ -1,9 +1,10 @@
 -- The run of a task's term: what it starts from, and what it gives.
-use Prim.Native.Nat.{ℕ}
+use Prim.Native.Nat.{ℕ, _≤_}
 use mathlib.Core.Path.{_≡_}
 use mathlib.Core.Bool.{Bool, true, false}
 use mathlib.Core.List.{List}
 use lib.ListN.{length}
+use Rattle.format.specs.Limits.{max-task-nodes, max-steps}
 use Rattle.format.specs.Buffer.{written}
 use Rattle.terms.specs.Term.{Term, nil, cons, size}
 use Rattle.terms.specs.Prefix.{prefix}
@@ -18,6 +19,7 @@ use Rattle.outcomes.specs.Buffer.{fields}
 use Rattle.outcomes.specs.Outcome.{log-of}
 use Rattle.rules.specs.Contracts.Rows.{RowsAre, bound-count}
 use Rattle.rules.specs.Contracts.Walks.{RulesAt}
+use Rattle.running.specs.declared.course.Course.{Course}
 use Rattle.running.specs.Contracts.Course.{the-run, last-of}
 
 -- All rules solve; where their lines fit the table together they are kept there.
@@ -39,6 +41,16 @@ module _ (sheet : List ℕ) (known : Known) (from end : ℕ) (equations lengths 
     pub subject : Term
     pub is : RunTermIs those subject
     pub ready : LinesReady fits bounds table those
+
+-- The steps, the ending and the last term are those of the definition; "term and log hold the result first, the rest unchanged".
+pub record RunCourse (es : List Equation) (k : ℕ) (subject : Term) (term term-after log log-after : List ℕ) (c : Course) : Type 0 where
+  pub steps-are : c .steps ≡ length (the-run es k subject .steps)
+  pub few-steps : k ≤ max-steps → c .steps ≤ max-steps
+  pub ending-is : c .ending ≡ the-run es k subject .ending
+  pub size-is : c .size ≡ size (last-of es k subject)
+  pub small : c .size ≤ max-task-nodes
+  pub term-is : term-after ≡ written (prefix (last-of es k subject)) term
+  pub log-is : log-after ≡ written (log-of (the-run es k subject .steps)) log
 
 -- "steps, ending, bytes of the term"; "term and log hold the result first, the rest unchanged".
 pub record Ran (es : List Equation) (k : ℕ) (subject : Term) (term term-after log log-after : List ℕ) (r : ℕ) : Type 0 where

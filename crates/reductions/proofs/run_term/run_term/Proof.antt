@@ -1,95 +1,28 @@
--- `run_term` is the run of a term over rules that all solve.
-use mathlib.Core.Path.{refl}
+-- `run_term` makes the number of the run.
 use native.Mathlib.Omega.{arith}
-use Rattle.format.specs.Limits.{node-count}
-use Rattle.comparing.specs.Theory.Cells.{symbols-zero}
-use Rattle.reductions.proofs.RunTermLaws.{term-symbols-room, term-symbols-taken, rules-have, terms-have, run-is, ending-low, course-small, course-few, course-front, course-ran}
+use Rattle.reducing.specs.Theory.Runs.{ending-low}
+use Rattle.reductions.proofs.RunTermLaws.{number-ran}
 use borrow.Author.Needs.{needs}
 use Rattle.reductions.proofs.run_term.run_term.Statement.{statement}
 use Rattle.reductions.proofs.run_term.run_term.Tie as tie
 
-prepare-next-requires : tie.Need-prepare-next-requires
-prepare-next-requires c κs =
-    let start = c .before .before .before .before .before .before .before .before .before .before .before in
-    (λ e. rules-have (start .pre .0 .0 .is) (start .args .fits) (start .args .table .now) (start .pre .0 .0 .ready) e, refl)
-
-array-share-prefix-arities : tie.Need-array-share-prefix-arities
-array-share-prefix-arities c = term-symbols-room (c .before .before .before .before .before .before .before .before .before .before .before .before .before .before .pre .0 .0 .is)
-
-slice-aggregate-load-terms : tie.Need-slice-aggregate-load-terms
-slice-aggregate-load-terms c = term-symbols-taken (c .before .before .before .before .before .before .before .before .before .before .before .before .before .before .before .pre .0 .0 .is)
-
-load-terms-requires : tie.Need-load-terms-requires
-load-terms-requires c κs = (terms-have (c .before .before .before .before .before .before .before .before .before .before .before .before .before .before .before .before .before .pre .0 .0 .is), (refl, refl, symbols-zero node-count))
-
-array-share-prefix-arities-2 : tie.Need-array-share-prefix-arities-2
-array-share-prefix-arities-2 c = term-symbols-room (c .before .before .before .before .before .before .before .before .before .before .before .before .before .before .before .before .before .before .before .before .pre .0 .0 .is)
-
-slice-aggregate-run-steps : tie.Need-slice-aggregate-run-steps
-slice-aggregate-run-steps c = term-symbols-taken (c .before .before .before .before .before .before .before .before .before .before .before .before .before .before .before .before .before .before .before .before .before .pre .0 .0 .is)
-
-run-steps-requires : tie.Need-run-steps-requires
-run-steps-requires c κs =
-    let start = c .before .before .before .before .before .before .before .before .before .before .before .before .before .before .before .before .before .before .before .before .before .before .before .before .before .before .before in
-    let has = start .pre .0 .0 in
-    let loaded = c .before .before .before .before .before .before .before .before .before .load-terms in
-    let prepared = c .before .before .before .before .before .before .before .before .before .before .before .before .before .before .before .prepare-next in
-    ((has .those, has .subject, run-is (has .is) (start .args .fits) (start .args .table .now) (prepared .last .1 .1 .1 .1 .1 .1 .0) (loaded .last .1 .1 .1 .1 .0) (loaded .last .1 .1 .1 .1 .1 .0) (loaded .result) (has .ready) (prepared .ensures) (loaded .ensures)), (start .pre .1 .0, start .pre .1 .1, start .pre .1 .3, start .pre .0 .1))
-
-copy-front-requires : tie.Need-copy-front-requires
-copy-front-requires c κs =
-    let start = c .before .before .before .before .before .before .before .before .before .before .before .before .before .before .before .before .before .before .before .before .before .before .before .before .before .before .before .before .before .before .before .before .before .before .before .before .before .before .before in
-    let has = start .pre .0 .0 in
-    let loaded = c .before .before .before .before .before .before .before .before .before .before .before .before .before .before .before .before .before .before .before .before .before .load-terms in
-    let prepared = c .before .before .before .before .before .before .before .before .before .before .before .before .before .before .before .before .before .before .before .before .before .before .before .before .before .before .before .prepare-next in
-    let ran = c .before .before .before .before .before .before .before .before .before .before .before .run-steps in
-    let course = ran .ensures .0 (has .those) (has .subject) (run-is (has .is) (start .args .fits) (start .args .table .now) (prepared .last .1 .1 .1 .1 .1 .1 .0) (loaded .last .1 .1 .1 .1 .0) (loaded .last .1 .1 .1 .1 .1 .0) (loaded .result) (has .ready) (prepared .ensures) (loaded .ensures)) in
-    (course-front course, omega (arith, course-small course, start .pre .1 .2))
-
 fields-number-requires : tie.Need-fields-number-requires
-fields-number-requires c κs =
-    let start = c .before .before .before .before .before .before .before .before .before .before .before .before .before .before .before .before .before .before .before .before .before .before .before .before .before .before .before .before .before .before .before .before .before .before .before .before .before .before .before .before .before .before .before in
+fields-number-requires c κs = let start = c .before .before .before .before .before .before .before .before .before .before .before .before .before .before .before .before .before .before .before .before .before .before in
     let has = start .pre .0 .0 in
-    let loaded = c .before .before .before .before .before .before .before .before .before .before .before .before .before .before .before .before .before .before .before .before .before .before .before .before .before .load-terms in
-    let prepared = c .before .before .before .before .before .before .before .before .before .before .before .before .before .before .before .before .before .before .before .before .before .before .before .before .before .before .before .before .before .before .before .prepare-next in
-    let ran = c .before .before .before .before .before .before .before .before .before .before .before .before .before .before .before .run-steps in
-    let course = ran .ensures .0 (has .those) (has .subject) (run-is (has .is) (start .args .fits) (start .args .table .now) (prepared .last .1 .1 .1 .1 .1 .1 .0) (loaded .last .1 .1 .1 .1 .0) (loaded .last .1 .1 .1 .1 .1 .0) (loaded .result) (has .ready) (prepared .ensures) (loaded .ensures)) in
-    let told = c .number-of-ending in
-    (omega (arith, course-few course (start .pre .0 .1)), omega (arith, told .ensures, ending-low (ran .result .ending)), omega (arith, course-small course))
+    let ran = c .before .before .before .before .before .before .before .before .before .run-course in
+    let course = ran .ensures .0 (has .those) (has .subject) (has .is) (has .ready) in
+    (omega (arith, course .few-steps (start .pre .0 .1)), omega (arith, c .number-of-ending .ensures, ending-low (ran .result .ending)), omega (arith, course .small))
 
 returns : tie.Need-returns
-returns c =
-    let start = c .before .before .before .before .before .before .before .before .before .before .before .before .before .before .before .before .before .before .before .before .before .before .before .before .before .before .before .before .before .before .before .before .before .before .before .before .before .before .before .before .before .before .before .before in
-    let loaded = c .before .before .before .before .before .before .before .before .before .before .before .before .before .before .before .before .before .before .before .before .before .before .before .before .before .before .load-terms in
-    let prepared = c .before .before .before .before .before .before .before .before .before .before .before .before .before .before .before .before .before .before .before .before .before .before .before .before .before .before .before .before .before .before .before .before .prepare-next in
-    let ran = c .before .before .before .before .before .before .before .before .before .before .before .before .before .before .before .before .run-steps in
-    let copied = c .before .before .before .before .copy-front in (
-      λ es subject is ready. course-ran (ran .ensures .0 es subject (run-is is (start .args .fits) (start .args .table .now) (prepared .last .1 .1 .1 .1 .1 .1 .0) (loaded .last .1 .1 .1 .1 .0) (loaded .last .1 .1 .1 .1 .1 .0) (loaded .result) ready (prepared .ensures) (loaded .ensures))) (start .args .term .now) (copied .last .1 .0) (c .before .number-of-ending .result) (c .fields-number .result) (copied .ensures) (c .before .number-of-ending .ensures) (c .fields-number .ensures),
-      (ran .ensures .1 .1 .0, ran .ensures .1 .1 .1),
-    )
+returns c = let ran = c .before .before .before .before .before .before .before .before .before .before .run-course in
+    let told = c .before .number-of-ending in
+    (λ es subject is ready. number-ran (told .result) (c .fields-number .result) (ran .ensures .0 es subject is ready) (told .ensures) (c .fields-number .ensures), (ran .ensures .1 .1 .0, ran .ensures .1 .1 .1))
 
 pub run-term-spec : {M : Type 1} → statement M
 run-term-spec =
     tie.close
     (tie.spec
-    (λ c. search needs)
-    (λ c. search needs)
-    prepare-next-requires
-    array-share-prefix-arities
-    slice-aggregate-load-terms
-    (λ c. search needs)
-    (λ c. search needs)
-    load-terms-requires
-    array-share-prefix-arities-2
-    slice-aggregate-run-steps
-    (λ c. search needs)
-    (λ c. search needs)
-    (λ c. search needs)
-    run-steps-requires
-    (λ c. search needs)
-    (λ c. search needs)
-    (λ c. search needs)
-    copy-front-requires
+    (λ c κs. search needs)
     (λ c κs. search needs)
     fields-number-requires
     (λ c. search needs)

@@ -1,0 +1,4 @@
+-- Laws.
+pub mod Rest
+pub mod Pieces
+pub mod Gives

@@ -1,0 +1,2 @@
+// How far the listing has come.
+pub mod place;

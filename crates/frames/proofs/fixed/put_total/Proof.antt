@@ -1,0 +1,20 @@
+-- `put_total` prints the steps of all runs.
+use borrow.Author.Needs.{needs}
+use Rattle.listing.specs.Listing.{two-bytes}
+use Rattle.frames.proofs.fixed.put_total.Statement.{statement}
+use Rattle.frames.proofs.fixed.put_total.Tie as tie
+
+returns : tie.Need-returns
+unfolding two-bytes
+returns c = c .before .before .put-frame .ensures
+
+pub put-total-spec : {M : Type 1} → statement M
+put-total-spec =
+    tie.close
+    (tie.spec
+    (λ c. search needs)
+    (λ c. search needs)
+    (λ c. search needs)
+    (λ c κs. search needs)
+    (λ c. search needs)
+    returns)

@@ -1,0 +1,83 @@
+// Frames of a fixed number of bytes. Each is appended to what stands first in a buffer: `at` bytes stand there before, and the number that is given stands there after.
+use format::refusal::Refusal;
+use format::refusal::number_of;
+use ordering::verdict::Verdict;
+use ordering::verdict::number_of_verdict;
+use printing::digits::put_frame;
+use printing::kinds::PrintedKind;
+ghost use mathlib.Core.List.{[], _∷_};
+ghost use Prim.Native.Nat.{_+_, _*_, _/_, _%_, _≤_, _<_};
+ghost use lib.ListN.{length};
+ghost use Rattle.format.specs.Limits.{max-text, max-equations, max-lines, max-turns, max-tasks, max-steps};
+ghost use Rattle.ordering.specs.Verdict.{verdict-number};
+ghost use Rattle.listing.specs.Listing.{printed, two-bytes, refusal-frame, table-kind, judgement-frame, comparison-kind, total-kind};
+ghost use Rattle.printing.specs.Contracts.Appended.{Appended};
+ghost use Rattle.frames.specs.Contracts.Room.{refusal-room, table-room, judgement-room, comparison-room, total-room};
+
+// "two bytes, high first": a number is that and a rest.
+const BYTE: usize = 256;
+
+// "only 'ff', number, line in two bytes"
+pub fn put_refusal(why: Refusal, line: usize, out: &mut [u8], at: usize) -> usize
+    requires { ⌜ (line ≤ max-text) × (at + refusal-room ≤ length (now out)) ⌝ }
+    ensures { λ r. ⌜ Appended (now (out .entry)) at (printed (refusal-frame why line ∷ [])) (now (out .exit)) r ⌝ }
+{
+    let frame = [
+        PrintedKind::REFUSAL,
+        number_of(why) as u8,
+        (line / BYTE) as u8,
+        (line % BYTE) as u8,
+    ];
+    put_frame(&frame, out, at)
+}
+
+// "for each equation and direction '11', equation, direction, lines, turns (two bytes, high first)"
+pub fn put_table(rule: usize, lines: usize, turns: usize, out: &mut [u8], at: usize) -> usize
+    requires { ⌜ (rule < 2 * max-equations) × (lines ≤ max-lines) × (turns ≤ max-turns) × (at + table-room ≤ length (now out)) ⌝ }
+    ensures { λ r. ⌜ Appended (now (out .entry)) at (printed ((table-kind ∷ rule / 2 ∷ rule % 2 ∷ lines ∷ two-bytes turns) ∷ [])) (now (out .exit)) r ⌝ }
+{
+    let frame = [
+        PrintedKind::TABLE,
+        (rule / 2) as u8,
+        (rule % 2) as u8,
+        lines as u8,
+        (turns / BYTE) as u8,
+        (turns % BYTE) as u8,
+    ];
+    put_frame(&frame, out, at)
+}
+
+// "judgement, '15', yes 01 or no 00, holding line or 00"
+pub fn put_judgement(holding: usize, out: &mut [u8], at: usize) -> usize
+    requires { ⌜ (holding ≤ max-lines) × (at + judgement-room ≤ length (now out)) ⌝ }
+    ensures { λ r. ⌜ Appended (now (out .entry)) at (printed (judgement-frame holding ∷ [])) (now (out .exit)) r ⌝ }
+{
+    if holding == 0 {
+        let no = [PrintedKind::JUDGEMENT, 0, 0];
+        return put_frame(&no, out, at);
+    }
+    let yes = [PrintedKind::JUDGEMENT, 1, holding as u8];
+    put_frame(&yes, out, at)
+}
+
+// "comparison, '16', 00 smaller, 01 equal, 02 greater"
+pub fn put_comparison(verdict: Verdict, out: &mut [u8], at: usize) -> usize
+    requires { ⌜ at + comparison-room ≤ length (now out) ⌝ }
+    ensures { λ r. ⌜ Appended (now (out .entry)) at (printed ((comparison-kind ∷ verdict-number verdict ∷ []) ∷ [])) (now (out .exit)) r ⌝ }
+{
+    let frame = [PrintedKind::COMPARISON, number_of_verdict(verdict)];
+    put_frame(&frame, out, at)
+}
+
+// "Last '1f', steps of all runs in two bytes."
+pub fn put_total(steps: usize, out: &mut [u8], at: usize) -> usize
+    requires { ⌜ (steps ≤ max-tasks * max-steps) × (at + total-room ≤ length (now out)) ⌝ }
+    ensures { λ r. ⌜ Appended (now (out .entry)) at (printed ((total-kind ∷ two-bytes steps) ∷ [])) (now (out .exit)) r ⌝ }
+{
+    let frame = [
+        PrintedKind::TOTAL,
+        (steps / BYTE) as u8,
+        (steps % BYTE) as u8,
+    ];
+    put_frame(&frame, out, at)
+}

@@ -1,0 +1,4 @@
+// The frames that the program prints.
+pub mod fixed;
+pub mod line;
+pub mod steps;

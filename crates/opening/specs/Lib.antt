@@ -1,0 +1,1 @@
+-- This crate's contracts cite those of `cursor`.

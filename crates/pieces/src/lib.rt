@@ -1,0 +1,3 @@
+// The listing, piece by piece.
+pub mod next;
+pub mod step;

@@ -1,0 +1,18 @@
+-- `put_frame` appends bytes and LF.
+use mathlib.Core.Path.{_∙_}
+use borrow.Author.Needs.{needs}
+use Rattle.printing.proofs.Digit.{frame-room, frame-ended}
+use Rattle.printing.proofs.digits.put_frame.Statement.{statement}
+use Rattle.printing.proofs.digits.put_frame.Tie as tie
+
+put-feed-requires : tie.Need-put-feed-requires
+put-feed-requires c κs = frame-room (c .before .before .before .before .before .before .before .args .bytes .now) (c .before .before .before .before .before .before .before .pre) (c .before .before .before .put-bytes .ensures)
+
+same-length : tie.Need-same-length
+same-length c = c .before .before .put-feed .ensures .same-length ∙ c .before .before .before .before .before .before .put-bytes .ensures .same-length
+
+returns : tie.Need-returns
+returns c = frame-ended (c .before .before .before .before .before .before .before .before .before .before .args .bytes .now) (c .before .before .before .before .before .before .put-bytes .ensures) (c .before .before .put-feed .ensures)
+
+pub put-frame-spec : {M : Type 1} → statement M
+put-frame-spec = tie.close (tie.spec (λ c κs. search needs) put-feed-requires same-length returns)

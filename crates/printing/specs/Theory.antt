@@ -1,0 +1,3 @@
+-- Laws.
+pub mod Printed
+pub mod Appended

@@ -1,0 +1,3 @@
+// Frames in the sheet's digits.
+pub mod digits;
+pub mod kinds;

@@ -1,0 +1,3 @@
+-- Laws that the proofs of the functions share.
+pub mod TableLaws
+pub mod RecordLaws

@@ -1,0 +1,2 @@
+// The tasks of the listing: what each prints.
+pub mod task;

@@ -1,0 +1,197 @@
+// The frames of a task: a run's, a judgement's or a comparison's.
+use comparisons::compare::compare_terms;
+use frames::fixed::put_comparison;
+use frames::fixed::put_judgement;
+use frames::steps::put_run;
+use frames::steps::put_steps;
+use judgements::judge_task::judge_values;
+use judging::trimmed::Kept;
+use judging::trimmed::keep_lines;
+use reading::seek::TaskHead;
+use reading::seek::find_task;
+use reductions::run_term::run_course;
+use rules::keep::walk_rule;
+use scanning::known::Known;
+use solver::positions::WalkEnd;
+ghost use mathlib.Core.Path.{_≡_};
+ghost use mathlib.Core.Option.{some};
+ghost use mathlib.Core.List.{List, [], _∷_};
+ghost use Prim.Native.Nat.{ℕ, _≤_};
+ghost use lib.ListN.{length};
+ghost use Rattle.format.specs.Limits.{max-steps, table-bytes, scratch-bytes, term-bytes, log-bytes};
+ghost use Rattle.format.specs.Lists.{entry};
+ghost use Rattle.terms.specs.Term.{Term, Terms};
+ghost use Rattle.terms.specs.Equation.{Equation, Direction};
+ghost use Rattle.sheet.specs.Sheet.{Task, Sheet, run};
+ghost use Rattle.reducing.specs.Test.{EverySolves, holding-line, given-values};
+ghost use Rattle.listing.specs.Listing.{printed, judgement-frame};
+ghost use Rattle.printing.specs.Contracts.Appended.{Appended};
+ghost use Rattle.frames.specs.Contracts.Room.{judgement-room, task-room};
+ghost use Rattle.reductions.specs.Contracts.RunTerm.{LinesReady, RunTermIs, HasRunTerm};
+ghost use Rattle.cursor.specs.Contracts.Stands.{Ready};
+ghost use Rattle.tasks.specs.Contracts.Task.{TaskGiven, HasTask, JudgementAt, HasJudgementAt};
+
+// The bytes that stand in the buffer, and the steps of a run.
+pub struct TaskListed {
+    pub bytes: usize,
+    pub steps: usize,
+}
+
+// "judgement, '15', yes 01 or no 00, holding line or 00": walks its own rule, and keeps its lines.
+fn list_judgement(
+    sheet: &[u8],
+    known: Known,
+    rule: usize,
+    from: usize,
+    end: usize,
+    equations: &[u8],
+    lengths: &[u8],
+    lines: &mut [u8],
+    scratch: &mut [u8],
+    out: &mut [u8],
+) -> usize
+    requires { ⌜ HasJudgementAt (now sheet) known from end (now equations) (now lengths) rule ⌝ }
+    requires { ⌜ (table-bytes ≤ length (now lines)) × (scratch-bytes ≤ length (now scratch)) × (judgement-room ≤ length (now out)) ⌝ }
+    ensures { λ r. ⌜ ((i : ℕ) (e : Equation) (d : Direction) (ts : Terms) → JudgementAt (now (sheet .entry)) known from end (now (equations .entry)) (now (lengths .entry)) rule i e d ts → Appended (now (out .entry)) 0 (printed (judgement-frame (holding-line e d (given-values ts)) ∷ [])) (now (out .exit)) r) ⌝ }
+{
+    let walked = walk_rule(equations, lengths, rule, scratch);
+    let ending = walked.ending;
+    // Not met: every direction of a sheet that is listed solves.
+    let WalkEnd::Solved = ending else {
+        return 0;
+    };
+    let kept = keep_lines(scratch, walked.lines, lines, 0);
+    // Not met: the table has room for the lines of one rule.
+    let Kept::End(filled) = kept else {
+        return 0;
+    };
+    let holding = judge_values(
+        sheet,
+        known,
+        from,
+        end,
+        equations,
+        lengths,
+        rule,
+        lines,
+        filled,
+        scratch,
+    );
+    put_judgement(holding, out, 0)
+}
+
+// "run, each step '14', equation, direction, position, then '13', ending, steps, term".
+fn list_run(
+    sheet: &[u8],
+    known: Known,
+    limit: usize,
+    from: usize,
+    end: usize,
+    equations: &[u8],
+    lengths: &[u8],
+    bounds: &[usize],
+    fits: bool,
+    table: &mut [u8],
+    scratch: &mut [u8],
+    term: &mut [u8],
+    log: &mut [u8],
+    out: &mut [u8],
+) -> TaskListed
+    requires { ⌜ HasRunTerm (now sheet) known from end (now equations) (now lengths) (now bounds) fits (now table) × (limit ≤ max-steps) ⌝ }
+    requires { ⌜ (table-bytes ≤ length (now table)) × (scratch-bytes ≤ length (now scratch)) × (term-bytes ≤ length (now term)) × (log-bytes ≤ length (now log)) × (task-room ≤ length (now out)) ⌝ }
+    ensures { λ r. ⌜ ((es : List Equation) (subject : Term) → RunTermIs (now (sheet .entry)) known from end (now (equations .entry)) (now (lengths .entry)) (now (bounds .entry)) es subject → LinesReady fits (now (bounds .entry)) (now (table .entry)) es → TaskGiven es (run limit subject) (now (out .entry)) (now (out .exit)) r) ⌝ }
+    ensures { λ _. ⌜ ((es : List Equation) → EverySolves es → LinesReady fits (now (bounds .entry)) (now (table .entry)) es → LinesReady fits (now (bounds .entry)) (now (table .exit)) es) ⌝ }
+{
+    let course = run_course(
+        sheet,
+        known,
+        limit,
+        from,
+        end,
+        equations,
+        lengths,
+        bounds,
+        fits,
+        table,
+        scratch,
+        term,
+        log,
+    );
+    let behind = put_steps(log, course.steps, out, 0);
+    let ending = course.ending;
+    let size = course.size;
+    let bytes = put_run(ending, course.steps, &term[..size], out, behind);
+    TaskListed {
+        bytes: bytes,
+        steps: course.steps,
+    }
+}
+
+// Task `task`.
+pub fn list_task(
+    sheet: &[u8],
+    known: Known,
+    task: usize,
+    equations: &[u8],
+    lengths: &[u8],
+    bounds: &[usize],
+    fits: bool,
+    table: &mut [u8],
+    lines: &mut [u8],
+    scratch: &mut [u8],
+    term: &mut [u8],
+    log: &mut [u8],
+    out: &mut [u8],
+) -> TaskListed
+    requires { ⌜ HasTask (now sheet) known task (now equations) (now lengths) (now bounds) fits (now table) ⌝ }
+    requires { ⌜ (table-bytes ≤ length (now table)) × (table-bytes ≤ length (now lines)) × (scratch-bytes ≤ length (now scratch)) × (term-bytes ≤ length (now term)) × (log-bytes ≤ length (now log)) × (task-room ≤ length (now out)) ⌝ }
+    ensures { λ r. ⌜ ((s : Sheet) (t : Task) → Ready (now (sheet .entry)) known fits (now (equations .entry)) (now (lengths .entry)) (now (bounds .entry)) (now (table .entry)) s → entry (s .tasks) task ≡ some t → TaskGiven (s .equations) t (now (out .entry)) (now (out .exit)) r) ⌝ }
+    ensures { λ _. ⌜ ((es : List Equation) → EverySolves es → LinesReady fits (now (bounds .entry)) (now (table .entry)) es → LinesReady fits (now (bounds .entry)) (now (table .exit)) es) ⌝ }
+{
+    let found = find_task(sheet, known, task);
+    let head = found.head;
+    match head {
+        TaskHead::Run(limit) => list_run(
+            sheet,
+            known,
+            limit,
+            found.from,
+            found.end,
+            equations,
+            lengths,
+            bounds,
+            fits,
+            table,
+            scratch,
+            term,
+            log,
+            out,
+        ),
+        TaskHead::Judgement(e, d) => {
+            let bytes = list_judgement(
+                sheet,
+                known,
+                e + e + d,
+                found.from,
+                found.end,
+                equations,
+                lengths,
+                lines,
+                scratch,
+                out,
+            );
+            TaskListed {
+                bytes: bytes,
+                steps: 0,
+            }
+        }
+        TaskHead::Comparison => {
+            let verdict = compare_terms(sheet, known, found.from, found.end, scratch);
+            let bytes = put_comparison(verdict, out, 0);
+            TaskListed {
+                bytes: bytes,
+                steps: 0,
+            }
+        }
+    }
+}
