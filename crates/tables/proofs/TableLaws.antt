@@ -174,12 +174,14 @@ module _ {equations lengths : List ℕ} {rule k : ℕ} {scratch arities : List �
         → Appended before at (printed (getD (rule-frames 0 es rule) (suc k) [] ∷ [])) after bytes
     line-printed p = appended-text (ap (λ f. printed (f ∷ [])) (sym frame-is)) (p (of-line .equation) (it .bindings) (it .elements) line-record)
 
-  frames-many : suc lines ≤ length (rule-frames 0 es rule)
-  unfolding table-frames
-  frames-many =
-      let (ls, turns, x, y, z) = its-walk in
-      let fs = ap (rule-frames 0 es) (of-line .is) ∙ (rule-frames-are es (of-line .number) (of-line .direction) (of-line .numbered) ∙ ap (table-frames (of-line .number) (of-line .equation) (of-line .direction)) x) in
-      omega (arith, ap length fs, length-map ls (line-frame (of-line .equation)))
+-- A frame for the table, and one for each line.
+pub frames-count : {es : List Equation} {rule lines : ℕ} {scratch : List ℕ} → LinesThere es rule lines scratch → length (rule-frames 0 es rule) ≡ suc lines
+unfolding table-frames
+frames-count {es} {rule} l =
+    let o = rule-of es rule (l .low) in
+    let (ls, turns, x, y, z) = l .there (o .number) (o .equation) (o .direction) (o .numbered) (o .is) in
+    let fs = ap (rule-frames 0 es) (o .is) ∙ (rule-frames-are es (o .number) (o .direction) (o .numbered) ∙ ap (table-frames (o .number) (o .equation) (o .direction)) x) in
+    ap length fs ∙ omega (arith, length-map ls (line-frame (o .equation)))
 
 -- 3. The lines from `first` to line `k` are printed.
 module _ (equations lengths : List ℕ) (rule first lines : ℕ) (scratch before : List ℕ) where
@@ -227,7 +229,7 @@ module _ {equations lengths : List ℕ} {rule first lines : ℕ} {scratch before
           let n = k - first in
           let m : k + 1 - first ≡ suc n = omega (arith, p .from-first) in
           let far : suc first + n ≡ suc k = omega (arith, p .from-first) in
-          let many : n < length rest = omega (arith, length-drop (suc first) fs, frames-many rows there h, p .from-first) in
+          let many : n < length rest = omega (arith, length-drop (suc first) fs, frames-count there, p .from-first) in
           let this : getD rest n [] ≡ getD fs (suc k) [] = getD-drop (suc first) fs n [] ∙ ap (λ j. getD fs j []) far in
           let text : printed (take n rest) ++ printed (getD fs (suc k) [] ∷ []) ≡ printed (take (k + 1 - first) rest) =
           sym (printed-append (take n rest) (getD fs (suc k) [] ∷ []))

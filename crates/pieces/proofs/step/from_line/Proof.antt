@@ -1,47 +1,24 @@
+-- `from_line` prints lines, or goes on to the next table.
+use native.Mathlib.Omega.{arith}
 use borrow.Author.Needs.{needs}
+use Rattle.pieces.proofs.PlaceLaws.{few-equations, lines-done, some-lines-done}
 use Rattle.pieces.proofs.step.from_line.Statement.{statement}
 use Rattle.pieces.proofs.step.from_line.Tie as tie
-use Rattle.pieces.proofs.step.from_line.Reads as reads
-use Rattle.pieces.proofs.step.from_line.Lts as lts
-use Rattle.pieces.proofs.step.moved.Reads as moved-reads
-use Rattle.tables.proofs.table.list_lines.Reads as list-lines-reads
 
--- src/step.rt:74:48
-add-t13 : tie.Need-add-t13
-add-t13 c = search needs
-
--- src/step.rt:74:9
-moved-requires : tie.Need-moved-requires
-moved-requires c κs = search needs
-
--- src/step.rt:74:9
 returns : tie.Need-returns
-returns c = search needs
+returns c = λ bounds table s r at. lines-done r _ _ _ (c .moved .ensures) (c .before .if1 .taken) (at .0)
 
--- src/step.rt:76:9
-list-lines-requires : tie.Need-list-lines-requires
-list-lines-requires c κs = search needs
-
--- src/step.rt:77:5
-moved-requires-2 : tie.Need-moved-requires-2
-moved-requires-2 c κs = search needs
-
--- src/step.rt:57:1
-same-length : tie.Need-same-length
-same-length c = search needs
-
--- src/step.rt:57:1
 returns-2 : tie.Need-returns-2
-returns-2 c = search needs
+returns-2 c = λ bounds table s r at. let listed = c .before .before .before .list-lines in some-lines-done r _ _ _ (listed .result) (c .moved2 .ensures) (at .0) (listed .ensures _ (s .equations) (r .rows) (at .0))
 
 pub from-line-spec : {M : Type 1} → statement M
 from-line-spec =
     tie.close
     (tie.spec
-    add-t13
-    moved-requires
+    (λ c. search needs)
+    (λ c κs. search needs)
     returns
-    list-lines-requires
-    moved-requires-2
-    same-length
+    (λ c κs. search needs)
+    (λ c κs. search needs)
+    (λ c. search needs)
     returns-2)

@@ -1,52 +1,38 @@
+-- `from_table` prints the first frame of a table, or goes on to the tasks.
+use native.Mathlib.Omega.{arith}
 use borrow.Author.Needs.{needs}
+use Rattle.rules.proofs.WalkLaws.{rule-there}
+use Rattle.pieces.proofs.PlaceLaws.{few-equations, equations-counted, its-rows, below, table-low, tables-done, table-done}
 use Rattle.pieces.proofs.step.from_table.Statement.{statement}
 use Rattle.pieces.proofs.step.from_table.Tie as tie
-use Rattle.pieces.proofs.step.from_table.Reads as reads
-use Rattle.pieces.proofs.step.from_table.Lts as lts
-use Rattle.pieces.proofs.step.moved.Reads as moved-reads
-use Rattle.tables.proofs.table.list_table.Reads as list-table-reads
 
--- src/step.rt:48:16
 add-if1 : tie.Need-add-if1
-add-if1 c = search needs
+add-if1 c = let h = c .before .before .before .before .before .before .pre .0 in omega (arith, equations-counted (h .ready), few-equations (h .ready))
 
--- src/step.rt:49:9
-moved-requires : tie.Need-moved-requires
-moved-requires c κs = search needs
-
--- src/step.rt:49:9
 returns : tie.Need-returns
-returns c = search needs
+returns c = λ bounds table s r at. tables-done r _ (c .moved .ensures) (c .before .if1 .taken)
 
--- src/step.rt:51:9
 list-table-requires : tie.Need-list-table-requires
-list-table-requires c κs = search needs
+list-table-requires c κs = let start = c .before .before .before .before .before .before .before .before .before in
+    let h = start .pre .0 in
+    let other = c .before .before .if1 .left in
+    (rule-there (its-rows (h .ready)) (below (h .at) (equations-counted (h .ready)) other), omega (arith, start .pre .1 .0), omega (arith, start .pre .1 .1))
 
--- src/step.rt:53:5
-moved-requires-2 : tie.Need-moved-requires-2
-moved-requires-2 c κs = search needs
-
--- src/step.rt:34:1
-same-length : tie.Need-same-length
-same-length c = search needs
-
--- src/step.rt:34:1
-same-length-2 : tie.Need-same-length-2
-same-length-2 c = search needs
-
--- src/step.rt:34:1
 returns-2 : tie.Need-returns-2
-returns-2 c = search needs
+returns-2 c = λ bounds table s r at.
+    let listed = c .before .before .before .before .before .list-table in
+    let low = table-low at (equations-counted r) (c .before .before .before .before .before .before .before .before .if1 .left) in
+    table-done r _ (listed .result) (c .moved2 .ensures) low (listed .ensures _ (s .equations) (r .rows) (r .every) low)
 
 pub from-table-spec : {M : Type 1} → statement M
 from-table-spec =
     tie.close
     (tie.spec
     add-if1
-    moved-requires
+    (λ c κs. search needs)
     returns
     list-table-requires
-    moved-requires-2
-    same-length
-    same-length-2
+    (λ c κs. search needs)
+    (λ c. search needs)
+    (λ c. search needs)
     returns-2)

@@ -1,88 +1,47 @@
+-- `from_task` prints a task, or the last frame.
+use native.Mathlib.Omega.{arith}
 use borrow.Author.Needs.{needs}
+use Rattle.pieces.proofs.PlaceLaws.{few-tasks, steps-few, total-done, task-low, steps-low, task-done}
 use Rattle.pieces.proofs.step.from_task.Statement.{statement}
 use Rattle.pieces.proofs.step.from_task.Tie as tie
-use Rattle.pieces.proofs.step.from_task.Reads as reads
-use Rattle.pieces.proofs.step.from_task.Lts as lts
-use Rattle.frames.proofs.fixed.put_total.Reads as put-total-reads
-use Rattle.pieces.proofs.step.moved.Reads as moved-reads
-use Rattle.tasks.proofs.task.list_task.Reads as list-task-reads
 
--- src/step.rt:107:13
-put-total-requires : tie.Need-put-total-requires
-put-total-requires c κs = search needs
-
--- src/step.rt:108:9
-moved-requires : tie.Need-moved-requires
-moved-requires c κs = search needs
-
--- src/step.rt:108:9
-same-length : tie.Need-same-length
-same-length c = search needs
-
--- src/step.rt:108:9
 returns : tie.Need-returns
-returns c = search needs
+returns c = let (s, r, at) = c .before .before .before .before .before .before .before .before .before .before .before .before .before .before .before .before .before .pre .0 in total-done r _ _ _ (c .moved .ensures) (c .before .before .before .before .before .if1 .taken) (omega (arith, c .before .before .before .before .before .before .before .before .before .before .before .before .before .before .before .before .before .pre .1 .5)) (c .before .before .before .put-total .ensures)
 
--- src/step.rt:110:9
 list-task-requires : tie.Need-list-task-requires
-list-task-requires c κs = search needs
+list-task-requires c κs = let (s, r, at) = c .before .before .before .before .before .before .before .before .before .before .before .before .before .before .before .before .before .before .pre .0 in
+    let p = c .before .before .before .before .before .before .before .before .before .before .before .before .before .before .before .before .before .before .pre .1 in
+    (record { content = s; ready = r; low = task-low r (at .0) (c .before .before .before .before .before .before .if1 .left) }, (p .0, p .1, p .2, p .3, p .4, omega (arith, p .5)))
 
--- src/step.rt:128:21
 add-t33 : tie.Need-add-t33
-add-t33 c = search needs
+add-t33 c = let (s, r, at) = c .before .before .before .before .before .before .before .before .before .before .before .before .before .before .before .before .before .before .before .before .before .before .before .before .before .before .before .before .before .before .before .pre .0 in omega (arith, few-tasks r, at .0)
 
--- src/step.rt:128:31
 add-t34 : tie.Need-add-t34
-add-t34 c = search needs
+add-t34 c = let (s, r, at) = c .before .before .before .before .before .before .before .before .before .before .before .before .before .before .before .before .before .before .before .before .before .before .before .before .before .before .before .before .before .before .before .before .pre .0 in
+    let listed = c .before .before .before .before .before .before .before .before .before .before .before .before .before .list-task in
+    omega (arith, steps-low r (task-low r (at .0) (c .before .before .before .before .before .before .before .before .before .before .before .before .before .before .before .before .before .before .before .before .if1 .left)) (listed .result) (listed .ensures .0), steps-few r (at .0) (at .1))
 
--- src/step.rt:125:5
-moved-requires-2 : tie.Need-moved-requires-2
-moved-requires-2 c κs = search needs
-
--- src/step.rt:86:1
-same-length-2 : tie.Need-same-length-2
-same-length-2 c = search needs
-
--- src/step.rt:86:1
-same-length-3 : tie.Need-same-length-3
-same-length-3 c = search needs
-
--- src/step.rt:86:1
-same-length-4 : tie.Need-same-length-4
-same-length-4 c = search needs
-
--- src/step.rt:86:1
-same-length-5 : tie.Need-same-length-5
-same-length-5 c = search needs
-
--- src/step.rt:86:1
-same-length-6 : tie.Need-same-length-6
-same-length-6 c = search needs
-
--- src/step.rt:86:1
-same-length-7 : tie.Need-same-length-7
-same-length-7 c = search needs
-
--- src/step.rt:86:1
 returns-2 : tie.Need-returns-2
-returns-2 c = search needs
+returns-2 c = let (s, r, at) = c .before .before .before .before .before .before .before .before .before .before .before .before .before .before .before .before .before .before .before .before .before .before .before .before .before .before .before .before .before .before .before .before .before .pre .0 in
+    let listed = c .before .before .before .before .before .before .before .before .before .before .before .before .before .before .list-task in
+    task-done r (task-low r (at .0) (c .before .before .before .before .before .before .before .before .before .before .before .before .before .before .before .before .before .before .before .before .before .if1 .left)) (listed .result) (listed .ensures .0) _ (listed .ensures .1) (c .moved2 .ensures) (at .1)
 
 pub from-task-spec : {M : Type 1} → statement M
 from-task-spec =
     tie.close
     (tie.spec
-    put-total-requires
-    moved-requires
-    same-length
+    (λ c κs. search needs)
+    (λ c κs. search needs)
+    (λ c. search needs)
     returns
     list-task-requires
     add-t33
     add-t34
-    moved-requires-2
-    same-length-2
-    same-length-3
-    same-length-4
-    same-length-5
-    same-length-6
-    same-length-7
+    (λ c κs. search needs)
+    (λ c. search needs)
+    (λ c. search needs)
+    (λ c. search needs)
+    (λ c. search needs)
+    (λ c. search needs)
+    (λ c. search needs)
     returns-2)
