@@ -8,32 +8,31 @@ use native.Mathlib.Numerals.{add-one}
 use native.Mathlib.Omega.{arith}
 use native.Mathlib.Decide.{ℕ-discrete}
 use lib.ListN.{length, take, drop}
-use Rattle.format.specs.Limits.{max-equations, max-lines, max-tasks, max-steps}
+use Rattle.format.specs.Limits.{max-equations, max-tasks, max-steps}
 use Rattle.format.specs.Lists.{entry}
 use Rattle.terms.specs.Equation.{Equation}
 use Rattle.sheet.specs.Sheet.{Task, Sheet}
 use Rattle.scanning.specs.declared.known.Known.{Known}
 use Rattle.scanning.specs.Contracts.Scan.{known-arities}
 use Rattle.reducing.specs.Test.{EverySolves}
-use Rattle.rules.specs.Contracts.Rows.{RowsAre, HasRows, HasRuleIn}
-use Rattle.rules.proofs.WalkLaws.{rule-there}
+use Rattle.rules.specs.Contracts.Rows.{HasRows}
 use Rattle.reductions.specs.Contracts.RunTerm.{LinesReady}
 use Rattle.listing.specs.Listing.{printed, two-bytes, total-kind, task-frames}
 use Rattle.printing.specs.Contracts.Appended.{Appended}
 use Rattle.printing.specs.Theory.Printed.{length-printed-one}
 use Rattle.cursor.specs.declared.place.Place.{Place}
-use Rattle.cursor.specs.declared.place.Place.the-variants.{Start, Table, Line as LinePlace, Task as TaskPlace, End}
+use Rattle.cursor.specs.declared.place.Place.the-variants.{Table, Line as LinePlace, Task as TaskPlace, End}
 use Rattle.cursor.specs.declared.place.Piece.{Piece}
 use Rattle.cursor.specs.declared.place.Listed.{Listed}
-use Rattle.cursor.specs.Contracts.Rest.{rule-frames, left-frames, places-left}
-use Rattle.cursor.specs.Contracts.Stands.{Ready, LinesThere, AtPlace, StandsAt, at-start, under-way, at-end, Progress}
+use Rattle.cursor.specs.Contracts.Rest.{rule-frames, left-frames}
+use Rattle.cursor.specs.Contracts.Stands.{Ready, LinesThere, AtPlace, StandsAt, under-way, at-end, Progress}
 use Rattle.cursor.specs.Theory.Rest.{task-steps, table-left, some-lines-left, lines-left, tables-left, task-left, total-left}
 use Rattle.cursor.specs.Theory.Gives.{gives-frames, gives-none}
 use Rattle.tables.specs.declared.table.LinesListed.{LinesListed}
-use Rattle.tables.specs.Contracts.Table.{TableGiven, HasLines, LinesGiven}
+use Rattle.tables.specs.Contracts.Table.{TableGiven, LinesGiven}
 use Rattle.tables.proofs.TableLaws.{frames-count}
 use Rattle.tasks.specs.declared.task.TaskListed.{TaskListed}
-use Rattle.tasks.specs.Contracts.Task.{TaskGiven, HasTask}
+use Rattle.tasks.specs.Contracts.Task.{TaskGiven}
 use Rattle.pieces.specs.Contracts.Step.{HasPlace}
 
 abbrev moved-to : Known → Bool → Place → ℕ → Listed

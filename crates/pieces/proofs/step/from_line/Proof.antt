@@ -1,7 +1,6 @@
 -- `from_line` prints lines, or goes on to the next table.
-use native.Mathlib.Omega.{arith}
 use borrow.Author.Needs.{needs}
-use Rattle.pieces.proofs.PlaceLaws.{few-equations, lines-done, some-lines-done}
+use Rattle.pieces.proofs.PlaceLaws.{lines-done, some-lines-done}
 use Rattle.pieces.proofs.step.from_line.Statement.{statement}
 use Rattle.pieces.proofs.step.from_line.Tie as tie
 

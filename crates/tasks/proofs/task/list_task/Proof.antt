@@ -42,7 +42,7 @@ compare-terms-requires c κs =
     let start = place .before .before .before .before .before .before .before .before .before .before .before in
     let found = place .find-task in
     let has = start .pre .0 in
-    (comparison-has (start .args .task) (found .result) (found .ensures) has (c .before .enum-told .given .1), has .ready .knows .roomy, start .pre .1 .2)
+    (comparison-has (start .args .task) (found .result) (found .ensures) has (c .before .enum-told .given .1), (has .ready .knows .roomy, start .pre .1 .2))
 
 put-comparison-requires : tie.Need-put-comparison-requires
 put-comparison-requires c κs = omega (arith, c .before .before .before .before .before .before .before .before .before .before .before .before .before .before .before .before .before .before .pre .1)
