@@ -1,0 +1,79 @@
+// The program: it reads a sheet from standard input and prints its listing. Everything but reading and writing is `pieces`.
+use cursor::place::Cursor;
+use cursor::place::Place;
+use format::limits::Limits;
+use libc::STDIN_FILENO;
+use libc::STDOUT_FILENO;
+use pieces::next::next_piece;
+use rules::rows::ROWS;
+use rules::walks::BOUNDS;
+use scanning::known::Known;
+ghost use mathlib.Core.Path.{_≡_};
+ghost use mathlib.Core.Bool.{false};
+
+// One byte more than a sheet may have: of a longer input it is told that it is too long.
+const INPUT: usize = Limits::TEXT + 1;
+
+// Room for many frames of lines at once.
+const OUT: usize = 65536;
+
+// Whether nothing is left to print.
+fn is_end(place: Place) -> bool
+    ensures { λ r. ⌜ (r ≡ false → place ≡ Place.End → ⊥) ⌝ }
+{
+    match place {
+        Place::Start => false,
+        Place::Table(_) => false,
+        Place::Line(_, _, _) => false,
+        Place::Task(_, _) => false,
+        Place::End => true,
+    }
+}
+
+// Prints piece after piece. An output that fails or is closed ends it.
+fn print_listing(input: &[u8]) {
+    let mut equations = [0u8; ROWS];
+    let mut lengths = [0u8; ROWS];
+    let mut bounds = [0usize; BOUNDS];
+    let mut table = [0u8; Limits::TABLE];
+    let mut lines = [0u8; Limits::TABLE];
+    let mut scratch = [0u8; Limits::SCRATCH];
+    let mut term = [0u8; Limits::TERM];
+    let mut log = [0u8; Limits::LOG];
+    let mut out = [0u8; OUT];
+    let mut cursor = Cursor {
+        place: Place::Start,
+        known: Known::nothing(),
+        fits: false,
+    };
+    loop {
+        let listed = next_piece(
+            input,
+            cursor,
+            &mut equations,
+            &mut lengths,
+            &mut bounds,
+            &mut table,
+            &mut lines,
+            &mut scratch,
+            &mut term,
+            &mut log,
+            &mut out,
+        );
+        let bytes = listed.bytes;
+        if !io::write_all(STDOUT_FILENO, &out[..bytes]) {
+            return;
+        }
+        cursor = listed.cursor;
+        let place = cursor.place;
+        if is_end(place) {
+            return;
+        }
+    }
+}
+
+fn main() {
+    let mut input = [0u8; INPUT];
+    let n = io::read_full(STDIN_FILENO, &mut input);
+    print_listing(&input[..n]);
+}
