@@ -41,7 +41,7 @@ pieces-are-the-listing input pieces p = pieces-are-rest input p
 -- "1, empty or too long": of a text that is too long nothing but its length counts, so that the program need not read more than one byte beyond the longest sheet.
 too-long : (text : List ℕ) → max-text < length text → read text ≡ refused-at text-length 0
 unfolding read
-too-long text h = go (leb 1 (length text)) (leb (length text) max-text) (lt-leb max-text (length text) h)
+too-long text h = go (leb 1 (length text)) (leb (length text) max-text) (lt-leb (length text) max-text h)
   where
     go : (a b : Bool) → b ≡ false → _≡_ {A = Reading Sheet} (elim (a && b) [ true ↦ read-lines start 0 (lines-of text) | false ↦ refused-at text-length 0 ]) (refused-at text-length 0)
     go false b e = refl
