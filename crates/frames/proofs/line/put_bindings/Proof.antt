@@ -1,11 +1,10 @@
 -- `put_bindings` prints the variables that are bound, each with its term. The invariant: those before `v` are printed.
-use Prim.Native.Nat.{_+_, _-_}
+use Prim.Native.Nat.{_-_}
 use mathlib.Core.Logic.{⊎-elim}
-use mathlib.Core.List.{[], _∷_}
 use native.Mathlib.Omega.{arith}
 use borrow.Author.Needs.{needs}
-use Rattle.format.specs.Limits.{first-variable, variable-count}
-use Rattle.printing.specs.Theory.Printed.{length-digits}
+use Rattle.format.specs.Limits.{variable-count}
+use Rattle.listing.specs.Listing.{digits}
 use Rattle.frames.proofs.BindingLaws.{BindingsPassed, no-binding-passed, free-passed, bound-there, bound-passed, passed-moved, bindings-passed}
 use Rattle.frames.proofs.ElementLaws.{all-bytes}
 use Rattle.frames.proofs.line.put_bindings.Statement.{statement}
@@ -27,10 +26,11 @@ put-byte-requires : tie.Need-put-byte-requires Inv-loop μ-loop
 put-byte-requires c κs = let loop = c .before .before .before .before .loop in omega (arith, loop .inv .reached, loop .inv .same-length, c .before .before .before .loop-test .taken, c .before .before .before .before .before .before .before .before .before .pre .1)
 
 put-term-requires : tie.Need-put-term-requires Inv-loop μ-loop
+unfolding digits
 put-term-requires c κs = let loop = c .before .before .before .before .before .before .before .before .before .loop in
     let h = c .before .before .before .before .before .before .before .before .loop-test .taken in
     let byte = c .before .before .before .before .put-byte .ensures in
-    (bound-there (loop .inv) h (c .before .before .before .before .before .before .if1 .taken) (c .before .wide .ensures .0) (c .before .before .before .before .before .before .before .before .before .before .before .before .before .before .pre .0), omega (arith, loop .inv .reached, loop .inv .same-length, h, byte .ends, byte .same-length, length-digits ((first-variable + loop .v) ∷ []), c .before .before .before .before .before .before .before .before .before .before .before .before .before .before .pre .1))
+    (bound-there (loop .inv) h (c .before .before .before .before .before .before .if1 .taken) (c .before .wide .ensures .0) (c .before .before .before .before .before .before .before .before .before .before .before .before .before .before .pre .0), omega (arith, loop .inv .reached, loop .inv .same-length, h, byte .ends, byte .same-length, c .before .before .before .before .before .before .before .before .before .before .before .before .before .before .pre .1))
 
 loop-again : tie.Need-loop-again Inv-loop μ-loop
 loop-again c =

@@ -1,11 +1,7 @@
 -- `put_line` prints a line's frame, part by part.
-use mathlib.Core.List.{[], _∷_}
 use native.Mathlib.Omega.{arith}
-use lib.ListN.{getD}
 use borrow.Author.Needs.{needs}
-use Rattle.lines.specs.Contracts.Layout.{count-place}
-use Rattle.listing.specs.Listing.{line-kind}
-use Rattle.printing.specs.Theory.Printed.{length-digits}
+use Rattle.listing.specs.Listing.{digits}
 use Rattle.frames.proofs.ElementLaws.{all-bytes, record-count}
 use Rattle.frames.proofs.FrameLaws.{line-appended}
 use Rattle.frames.proofs.line.put_line.Statement.{statement}
@@ -15,42 +11,41 @@ count-bindings-requires : tie.Need-count-bindings-requires
 count-bindings-requires c κs = omega (arith, all-bytes (c .before .before .before .before .pre .0))
 
 put-bindings-requires : tie.Need-put-bindings-requires
-put-bindings-requires c κs = let head = c .before .before .before .put-bytes .ensures in (c .before .before .before .before .before .before .before .before .before .before .before .pre .0, omega (arith, head .ends, head .same-length, length-digits (line-kind ∷ c .before .before .before .before .before .before .count-bindings .result ∷ []), c .before .before .before .before .before .before .before .before .before .before .before .pre .1))
+unfolding digits
+put-bindings-requires c κs = let head = c .before .before .before .put-bytes .ensures in (c .before .before .before .before .before .before .before .before .before .before .before .pre .0, omega (arith, head .ends, head .same-length, c .before .before .before .before .before .before .before .before .before .before .before .pre .1))
 
 shared-slice-read-put-byte : tie.Need-shared-slice-read-put-byte
 shared-slice-read-put-byte c = omega (arith, all-bytes (c .before .before .before .before .before .before .before .before .before .before .before .before .before .before .before .pre .0))
 
 put-byte-requires : tie.Need-put-byte-requires
-put-byte-requires c κs = let head = c .before .before .before .before .before .before .before .before .put-bytes .ensures in omega (arith, c .before .before .before .before .put-bindings .ensures .1, c .before .before .before .out2 .given, head .ends, head .same-length, length-digits (line-kind ∷ c .before .before .before .before .before .before .before .before .before .before .before .count-bindings .result ∷ []), c .before .before .before .before .before .before .before .before .before .before .before .before .before .before .before .before .pre .1)
+unfolding digits
+put-byte-requires c κs = let head = c .before .before .before .before .before .before .before .before .put-bytes .ensures in omega (arith, c .before .before .before .before .put-bindings .ensures .1, c .before .before .before .out2 .given, head .ends, head .same-length, c .before .before .before .before .before .before .before .before .before .before .before .before .before .before .before .before .pre .1)
 
 put-elements-requires : tie.Need-put-elements-requires
+unfolding digits
 put-elements-requires c κs = let start = c .before .before .before .before .before .before .before .before .before .before .before .before .before .before .before .before .before .before .before .before in
     let head = c .before .before .before .before .before .before .before .before .before .before .before .before .put-bytes .ensures in
     let count = c .before .before .before .put-byte .ensures in
-    let head-size = length-digits (line-kind ∷ c .before .before .before .before .before .before .before .before .before .before .before .before .before .before .before .count-bindings .result ∷ []) in
-    let count-size = length-digits (getD (start .args .bytes .now) count-place 0 ∷ []) in
-    (start .pre .0, omega (arith, count .ends, count .same-length, count-size, c .before .before .before .before .before .before .before .before .put-bindings .ensures .1, c .before .before .before .before .before .before .before .out2 .given, head .ends, head .same-length, head-size, start .pre .1))
+    (start .pre .0, omega (arith, count .ends, count .same-length, c .before .before .before .before .before .before .before .before .put-bindings .ensures .1, c .before .before .before .before .before .before .before .out2 .given, head .ends, head .same-length, start .pre .1))
 
 put-feed-requires : tie.Need-put-feed-requires
+unfolding digits
 put-feed-requires c κs = let start = c .before .before .before .before .before .before .before .before .before .before .before .before .before .before .before .before .before .before .before .before .before .before .before .before in
     let head = c .before .before .before .before .before .before .before .before .before .before .before .before .before .before .before .before .put-bytes .ensures in
     let count = c .before .before .before .before .before .before .before .put-byte .ensures in
-    let head-size = length-digits (line-kind ∷ c .before .before .before .before .before .before .before .before .before .before .before .before .before .before .before .before .before .before .before .count-bindings .result ∷ []) in
-    let count-size = length-digits (getD (start .args .bytes .now) count-place 0 ∷ []) in
-    omega (arith, c .before .before .before .put-elements .ensures .1, c .before .before .out4 .given, count .ends, count .same-length, count-size, c .before .before .before .before .before .before .before .before .before .before .before .before .put-bindings .ensures .1, c .before .before .before .before .before .before .before .before .before .before .before .out2 .given, head .ends, head .same-length, head-size, start .pre .1)
+    omega (arith, c .before .before .before .put-elements .ensures .1, c .before .before .out4 .given, count .ends, count .same-length, c .before .before .before .before .before .before .before .before .before .before .before .before .put-bindings .ensures .1, c .before .before .before .before .before .before .before .before .before .before .before .out2 .given, head .ends, head .same-length, start .pre .1)
 
 returns : tie.Need-returns
+unfolding digits
 returns c = let start = c .before .before .before .before .before .before .before .before .before .before .before .before .before .before .before .before .before .before .before .before .before .before .before .before .before .before .before in
     let head = c .before .before .before .before .before .before .before .before .before .before .before .before .before .before .before .before .before .before .before .put-bytes .ensures in
     let bindings = c .before .before .before .before .before .before .before .before .before .before .before .before .before .before .before .put-bindings .ensures in
     let count = c .before .before .before .before .before .before .before .before .before .before .put-byte .ensures in
     let elements = c .before .before .before .before .before .before .put-elements .ensures in
     let feed = c .before .before .put-feed .ensures in
-    let n = c .before .before .before .before .before .before .before .before .before .before .before .before .before .before .before .before .before .before .before .before .before .before .count-bindings in
-    let head-size = length-digits (line-kind ∷ n .result ∷ []) in
-    let count-size = length-digits (getD (start .args .bytes .now) count-place 0 ∷ []) in (
+    let n = c .before .before .before .before .before .before .before .before .before .before .before .before .before .before .before .before .before .before .before .before .before .before .count-bindings in (
       λ e θ es r. line-appended e θ es (n .ensures .0 _ _ e θ es r) (record-count r) head (bindings .0 e θ es r) count (elements .0 e θ es r) feed,
-      omega (arith, feed .ends, elements .1, count .ends, count-size, bindings .1, head .ends, head-size),
+      omega (arith, feed .ends, elements .1, count .ends, bindings .1, head .ends),
     )
 
 pub put-line-spec : {M : Type 1} → statement M
