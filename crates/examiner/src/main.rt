@@ -9,17 +9,18 @@ use rules::rows::ROWS;
 use rules::walks::BOUNDS;
 use scanning::known::Known;
 ghost use mathlib.Core.Path.{_≡_};
-ghost use mathlib.Core.Bool.{false};
+ghost use mathlib.Core.Logic.{_↔_};
+ghost use mathlib.Core.Bool.{true};
 
-// One byte more than a sheet may have: of a longer input it is told that it is too long.
+// One byte more than a sheet may have, so that a longer input is refused as too long.
 const INPUT: usize = Limits::TEXT + 1;
 
-// Room for many frames of lines at once.
+// Room for several frames of lines at once.
 const OUT: usize = 65536;
 
 // Whether nothing is left to print.
 fn is_end(place: Place) -> bool
-    ensures { λ r. ⌜ (r ≡ false → place ≡ Place.End → ⊥) ⌝ }
+    ensures { λ r. ⌜ (r ≡ true) ↔ (place ≡ Place.End) ⌝ }
 {
     match place {
         Place::Start => false,

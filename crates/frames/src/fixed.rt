@@ -14,7 +14,7 @@ ghost use Rattle.listing.specs.Listing.{printed, two-bytes, refusal-frame, tabl
 ghost use Rattle.printing.specs.Contracts.Appended.{Appended};
 ghost use Rattle.frames.specs.Contracts.Room.{refusal-room, table-room, judgement-room, comparison-room, total-room};
 
-// "two bytes, high first": a number is that and a rest.
+// "two bytes, high first": how many values a byte has.
 const BYTE: usize = 256;
 
 // "only 'ff', number, line in two bytes"

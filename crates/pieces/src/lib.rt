@@ -1,3 +1,2 @@
 // The listing, piece by piece.
 pub mod next;
-pub mod step;

@@ -1,11 +1,11 @@
 // The next piece of the listing.
-use crate::step::from_line;
-use crate::step::from_table;
-use crate::step::from_task;
 use cursor::place::Cursor;
 use cursor::place::Listed;
 use cursor::place::Place;
 use opening::open::open_sheet;
+use places::step::from_line;
+use places::step::from_table;
+use places::step::from_task;
 ghost use mathlib.Core.Path.{_≡_};
 ghost use Prim.Native.Nat.{_≤_};
 ghost use lib.ListN.{length};
@@ -14,8 +14,8 @@ ghost use Rattle.rules.specs.Contracts.Rows.{row-bytes, bound-count};
 ghost use Rattle.frames.specs.Contracts.Room.{line-room};
 ghost use Rattle.cursor.specs.Contracts.Stands.{StandsAt, Progress};
 
-// From a place that is not the end to the next one: what is printed between them stands first in `out`. The other buffers are the program's memory between two
-// pieces: the equations and the sizes of their terms, the lines of all rules with their bounds, the lines of one rule, scratch, and a run's last term and log.
+// From a place that is not the end to the next one: what is printed between them stands first in `out`. Between two pieces the equations, the sizes of their terms, the bounds and the lines of all rules, and scratch are kept; `lines`,
+// `term` and `log` serve within one.
 pub fn next_piece(
     input: &[u8],
     cursor: Cursor,

@@ -54,7 +54,7 @@ rest input (Line rule line lines) = printed (frames-left (read input) (Line rule
 rest input (Task task steps) = printed (frames-left (read input) (Task task steps))
 rest input End = printed []
 
--- A number that falls from place to place: there are at most 32 rules, 255 lines and 32 tasks.
+-- A number that falls from place to place. There are at most 32 rules, 255 lines and 32 tasks; any numbers do that leave room for these.
 abbrev pub places-left : Place → ℕ
 places-left Start = 40 + 34 * 300
 places-left (Table rule) = 40 + (33 - rule) * 300

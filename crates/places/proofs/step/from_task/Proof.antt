@@ -1,9 +1,9 @@
 -- `from_task` prints a task, or the last frame.
 use native.Mathlib.Omega.{arith}
 use borrow.Author.Needs.{needs}
-use Rattle.pieces.proofs.PlaceLaws.{few-tasks, steps-few, total-done, task-low, steps-low, task-done}
-use Rattle.pieces.proofs.step.from_task.Statement.{statement}
-use Rattle.pieces.proofs.step.from_task.Tie as tie
+use Rattle.places.proofs.PlaceLaws.{few-tasks, steps-few, total-done, task-low, steps-low, task-done}
+use Rattle.places.proofs.step.from_task.Statement.{statement}
+use Rattle.places.proofs.step.from_task.Tie as tie
 
 returns : tie.Need-returns
 returns c = let (s, r, at) = c .before .before .before .before .before .before .before .before .before .before .before .before .before .before .before .before .before .pre .0 in total-done r _ _ _ (c .moved .ensures) (c .before .before .before .before .before .if1 .taken) (omega (arith, c .before .before .before .before .before .before .before .before .before .before .before .before .before .before .before .before .before .pre .1 .5)) (c .before .before .before .put-total .ensures)

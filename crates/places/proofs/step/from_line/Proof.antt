@@ -1,8 +1,8 @@
 -- `from_line` prints lines, or goes on to the next table.
 use borrow.Author.Needs.{needs}
-use Rattle.pieces.proofs.PlaceLaws.{lines-done, some-lines-done}
-use Rattle.pieces.proofs.step.from_line.Statement.{statement}
-use Rattle.pieces.proofs.step.from_line.Tie as tie
+use Rattle.places.proofs.PlaceLaws.{lines-done, some-lines-done}
+use Rattle.places.proofs.step.from_line.Statement.{statement}
+use Rattle.places.proofs.step.from_line.Tie as tie
 
 returns : tie.Need-returns
 returns c = λ bounds table s r at. lines-done r _ _ _ (c .moved .ensures) (c .before .if1 .taken) (at .0)

@@ -15,8 +15,9 @@ ghost use Rattle.format.specs.Limits.{table-bytes, scratch-bytes, term-bytes, l
 ghost use Rattle.sheet.specs.Sheet.{Sheet};
 ghost use Rattle.frames.specs.Contracts.Room.{line-room};
 ghost use Rattle.cursor.specs.Contracts.Stands.{Ready, AtPlace, Progress};
-ghost use Rattle.pieces.specs.Contracts.Step.{HasPlace};
+ghost use Rattle.places.specs.Contracts.Step.{HasPlace};
 
+// The cursor at another place, and how many bytes stand in the buffer.
 fn moved(known: Known, fits: bool, place: Place, bytes: usize) -> Listed
     ensures { λ r. ⌜ r ≡ record { cursor = record { place = place; known = known; fits = fits }; bytes = bytes } ⌝ }
 {

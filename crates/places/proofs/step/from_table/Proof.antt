@@ -2,9 +2,9 @@
 use native.Mathlib.Omega.{arith}
 use borrow.Author.Needs.{needs}
 use Rattle.rules.proofs.WalkLaws.{rule-there}
-use Rattle.pieces.proofs.PlaceLaws.{few-equations, equations-counted, its-rows, below, table-low, tables-done, table-done}
-use Rattle.pieces.proofs.step.from_table.Statement.{statement}
-use Rattle.pieces.proofs.step.from_table.Tie as tie
+use Rattle.places.proofs.PlaceLaws.{few-equations, equations-counted, its-rows, below, table-low, tables-done, table-done}
+use Rattle.places.proofs.step.from_table.Statement.{statement}
+use Rattle.places.proofs.step.from_table.Tie as tie
 
 add-if1 : tie.Need-add-if1
 add-if1 c = let h = c .before .before .before .before .before .before .pre .0 in omega (arith, equations-counted (h .ready), few-equations (h .ready))

@@ -33,7 +33,7 @@ use Rattle.tables.specs.Contracts.Table.{TableGiven, LinesGiven}
 use Rattle.tables.proofs.TableLaws.{frames-count}
 use Rattle.tasks.specs.declared.task.TaskListed.{TaskListed}
 use Rattle.tasks.specs.Contracts.Task.{TaskGiven}
-use Rattle.pieces.specs.Contracts.Step.{HasPlace}
+use Rattle.places.specs.Contracts.Step.{HasPlace}
 
 abbrev moved-to : Known → Bool → Place → ℕ → Listed
 moved-to known fits place bytes = record { cursor = record { place = place; known = known; fits = fits }; bytes = bytes }

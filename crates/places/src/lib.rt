@@ -1,0 +1,2 @@
+// From place to place of the listing.
+pub mod step;
