@@ -26,11 +26,6 @@ printed-append (f ∷ fs) gs = ap (λ l. digits f ++ LF ∷ l) (printed-append f
     append-assoc′ : (f : List ℕ) (fs gs : List (List ℕ)) → digits f ++ (LF ∷ (printed fs ++ printed gs)) ≡ (digits f ++ LF ∷ printed fs) ++ printed gs
     append-assoc′ f fs gs = rw append-assoc
 
--- A frame of its own: its digits and LF.
-pub printed-one : (f : List ℕ) → printed (f ∷ []) ≡ digits f ++ LF ∷ []
-unfolding printed
-printed-one f = refl
-
 pub length-printed-one : (f : List ℕ) → length (printed (f ∷ [])) ≡ 2 * length f + 1
 unfolding printed
 length-printed-one f = length-append (digits f) (LF ∷ []) ∙ ap (_+ 1) (length-digits f)

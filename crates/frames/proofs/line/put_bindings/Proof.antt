@@ -27,10 +27,16 @@ put-byte-requires c κs = let loop = c .before .before .before .before .loop in 
 
 put-term-requires : tie.Need-put-term-requires Inv-loop μ-loop
 unfolding digits
-put-term-requires c κs = let loop = c .before .before .before .before .before .before .before .before .before .loop in
-    let h = c .before .before .before .before .before .before .before .before .loop-test .taken in
-    let byte = c .before .before .before .before .put-byte .ensures in
-    (bound-there (loop .inv) h (c .before .before .before .before .before .before .if1 .taken) (c .before .wide .ensures .0) (c .before .before .before .before .before .before .before .before .before .before .before .before .before .before .pre .0), omega (arith, loop .inv .reached, loop .inv .same-length, h, byte .ends, byte .same-length, c .before .before .before .before .before .before .before .before .before .before .before .before .before .before .pre .1))
+put-term-requires c κs =
+    let at-put-byte = c .before .before .before .before in
+    let at-if = at-put-byte .before .before in
+    let at-loop-test = at-if .before .before in
+    let at-loop = at-loop-test .before in
+    let start = at-loop .before .before .before .before .before in
+    let loop = at-loop .loop in
+    let h = at-loop-test .loop-test .taken in
+    let byte = at-put-byte .put-byte .ensures in
+    (bound-there (loop .inv) h (at-if .if1 .taken) (c .before .wide .ensures .0) (start .pre .0), omega (arith, loop .inv .reached, loop .inv .same-length, h, byte .ends, byte .same-length, start .pre .1))
 
 loop-again : tie.Need-loop-again Inv-loop μ-loop
 loop-again c =

@@ -22,24 +22,47 @@ shared-slice-read-wide-2 : tie.Need-shared-slice-read-wide-2 Inv-loop μ-loop
 shared-slice-read-wide-2 c = let r = c .before .before .before .before .before .before .before .before .before .pre .0 in omega (arith, all-bytes r, few-elements r, c .before .before .before .wide .ensures .0, c .before .loop-test .taken)
 
 put-term-requires : tie.Need-put-term-requires Inv-loop μ-loop
-put-term-requires c κs = let r = c .before .before .before .before .before .before .before .before .before .before .before .pre .0 in
-    let loop = c .before .before .before .before .loop in
-    let n = c .before .before .before .before .before .wide .ensures .0 in
-    (left-there r (omega (arith, n, c .before .before .before .loop-test .taken)) (c .before .wide2 .ensures .0), omega (arith, few-elements r, n, c .before .before .before .loop-test .taken, loop .inv .reached, loop .inv .same-length, c .before .before .before .before .before .before .before .before .before .before .before .pre .1))
+put-term-requires c κs =
+    let at-loop = c .before .before .before .before in
+    let at-wide = at-loop .before in
+    let start = at-wide .before .before .before .before .before .before in
+    let r = start .pre .0 in
+    let loop = at-loop .loop in
+    let n = at-wide .wide .ensures .0 in
+    (left-there r (omega (arith, n, c .before .before .before .loop-test .taken)) (c .before .wide2 .ensures .0), omega (arith, few-elements r, n, c .before .before .before .loop-test .taken, loop .inv .reached, loop .inv .same-length, start .pre .1))
 
 shared-slice-read-wide-3 : tie.Need-shared-slice-read-wide-3 Inv-loop μ-loop
-shared-slice-read-wide-3 c = let r = c .before .before .before .before .before .before .before .before .before .before .before .before .before .before .before .pre .0 in omega (arith, all-bytes r, few-elements r, c .before .before .before .before .before .before .before .before .before .wide .ensures .0, c .before .before .before .before .before .before .before .loop-test .taken)
+shared-slice-read-wide-3 c =
+    let at-loop-test = c .before .before .before .before .before .before .before in
+    let at-wide = at-loop-test .before .before in
+    let start = at-wide .before .before .before .before .before .before in
+    let r = start .pre .0 in omega (arith, all-bytes r, few-elements r, at-wide .wide .ensures .0, at-loop-test .loop-test .taken)
 
 put-term-requires-2 : tie.Need-put-term-requires-2 Inv-loop μ-loop
-put-term-requires-2 c κs = let r = c .before .before .before .before .before .before .before .before .before .before .before .before .before .before .before .before .before .pre .0 in
-    let loop = c .before .before .before .before .before .before .before .before .before .before .loop in
-    let n = c .before .before .before .before .before .before .before .before .before .before .before .wide .ensures .0 in
-    (right-there r (omega (arith, n, c .before .before .before .before .before .before .before .before .before .loop-test .taken)) (c .before .wide3 .ensures .0), omega (arith, few-elements r, n, c .before .before .before .before .before .before .before .before .before .loop-test .taken, loop .inv .reached, loop .inv .same-length, c .before .before .before .before .before .put-term .ensures .1, c .before .before .before .before .out .given, c .before .before .before .before .before .before .before .before .before .before .before .before .before .before .before .before .before .pre .1))
+put-term-requires-2 c κs =
+    let at-out = c .before .before .before .before in
+    let at-put-term = at-out .before in
+    let at-loop-test = at-put-term .before .before .before .before in
+    let at-loop = at-loop-test .before in
+    let at-wide = at-loop .before in
+    let start = at-wide .before .before .before .before .before .before in
+    let r = start .pre .0 in
+    let loop = at-loop .loop in
+    let n = at-wide .wide .ensures .0 in
+    (right-there r (omega (arith, n, at-loop-test .loop-test .taken)) (c .before .wide3 .ensures .0), omega (arith, few-elements r, n, at-loop-test .loop-test .taken, loop .inv .reached, loop .inv .same-length, at-put-term .put-term .ensures .1, at-out .out .given, start .pre .1))
 
 loop-again : tie.Need-loop-again Inv-loop μ-loop
-loop-again c = let first = c .before .before .before .before .before .before .before .before .put-term .ensures in
+loop-again c =
+    let at-wide-3 = c .before .before .before .before in
+    let at-out = at-wide-3 .before .before .before in
+    let at-put-term = at-out .before in
+    let at-wide-2 = at-put-term .before .before in
+    let at-loop-test = at-wide-2 .before .before in
+    let at-loop = at-loop-test .before in
+    let at-wide = at-loop .before in
+    let first = at-put-term .put-term .ensures in
     let second = c .before .before .put-term2 .ensures in
-    element-passed (c .before .before .before .before .before .before .before .before .before .before .before .before .before .loop .inv) (omega (arith, c .before .before .before .before .before .before .before .before .before .before .before .before .before .before .wide .ensures .0, c .before .before .before .before .before .before .before .before .before .before .before .before .loop-test .taken)) (c .before .before .before .before .before .before .before .before .before .before .wide2 .ensures .0) (first .0) (first .1) (c .before .before .before .before .before .before .before .out .given) (c .before .before .before .before .wide3 .ensures .0) (second .0) (second .1) (c .before .out2 .given)
+    element-passed (at-loop .loop .inv) (omega (arith, at-wide .wide .ensures .0, at-loop-test .loop-test .taken)) (at-wide-2 .wide2 .ensures .0) (first .0) (first .1) (at-out .out .given) (at-wide-3 .wide3 .ensures .0) (second .0) (second .1) (c .before .out2 .given)
 
 same-length : tie.Need-same-length Inv-loop μ-loop
 same-length c = c .before .loop .inv .same-length

@@ -24,10 +24,12 @@ same-length : tie.Need-same-length
 same-length c = c .before .before .put-bytes .ensures .same-length
 
 returns : tie.Need-returns
-returns c = let start = c .before .before .before .before .before .before .before .before .before .before in
+returns c =
+    let at-wide = c .before .before .before .before .before in
+    let start = at-wide .before .before .before .before .before in
     let t = start .pre .0 in
     let p = start .args .p in
-    let n = c .before .before .before .before .before .wide in
+    let n = at-wide .wide in
     let put = c .before .before .put-bytes .ensures in
     let size = length-digits (take (p + n .result - p) (drop p (start .args .nodes .now))) in
     (λ e s h. appended-text (ap digits (term-part s h (n .ensures .0))) put, omega (arith, put .ends, size, term-length (t .are) (t .inside) (n .ensures .0), term-small (t .are) (t .inside)))

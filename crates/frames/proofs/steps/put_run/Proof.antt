@@ -18,11 +18,14 @@ put-frame-requires c κs = let start = c .before .before .before .before .before
 
 returns : tie.Need-returns
 unfolding digits printed
-returns c = let start = c .before .before .before .before .before .before .before .before .before .before .before .before in
-    let n = c .before .before .before .before .before .before .before .before .before .number-of-ending in
+returns c =
+    let at-put-bytes = c .before .before .before .before .before .before in
+    let at-number-of-ending = at-put-bytes .before .before .before in
+    let start = at-number-of-ending .before .before .before in
+    let n = at-number-of-ending .number-of-ending in
     let rest = start .args .steps ∷ start .args .term .now in
     appended-text (ap (λ k. printed ((run-kind ∷ k ∷ rest) ∷ [])) (n .ensures))
-    (appended-join (digits (run-kind ∷ n .result ∷ start .args .steps ∷ [])) (printed (start .args .term .now ∷ [])) (c .before .before .before .before .before .before .put-bytes .ensures) (c .before .before .put-frame .ensures))
+    (appended-join (digits (run-kind ∷ n .result ∷ start .args .steps ∷ [])) (printed (start .args .term .now ∷ [])) (at-put-bytes .put-bytes .ensures) (c .before .before .put-frame .ensures))
 
 pub put-run-spec : {M : Type 1} → statement M
 put-run-spec =

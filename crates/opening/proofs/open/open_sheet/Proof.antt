@@ -5,16 +5,29 @@ use Rattle.opening.proofs.open.open_sheet.Statement.{statement}
 use Rattle.opening.proofs.open.open_sheet.Tie as tie
 
 put-refusal-requires : tie.Need-put-refusal-requires
-put-refusal-requires c κs = (line-fits _ _ _ (c .before .before .before .before .read-sheet .ensures) (c .before .before .status .given .1), c .before .before .before .before .before .before .before .before .before .before .before .before .pre .1 .2)
+put-refusal-requires c κs =
+    let at-read-sheet = c .before .before .before .before in
+    let start = at-read-sheet .before .before .before .before .before .before .before .before in
+    (line-fits _ _ _ (at-read-sheet .read-sheet .ensures) (c .before .before .status .given .1), start .pre .1 .2)
 
 open-accepted-requires : tie.Need-open-accepted-requires
-open-accepted-requires c κs = let start = c .before .before .before .before .before .before .before .before .before .before .before .before .before .before .before .before in ((sheet-accepted (start .args .input .now) (c .before .before .before .before .before .before .before .before .read-sheet .result .known) (c .before .before .before .before .before .before .before .before .read-sheet .result .status) (c .before .before .before .before .before .before .before .before .read-sheet .ensures) (c .before .before .before .before .before .before .enum-told .given .1), start .pre .0 .0, start .pre .0 .1, start .pre .0 .2), start .pre .1)
+open-accepted-requires c κs =
+    let at-enum-told = c .before .before .before .before .before .before in
+    let at-read-sheet = at-enum-told .before .before in
+    let start = at-read-sheet .before .before .before .before .before .before .before .before in
+    ((sheet-accepted (start .args .input .now) (at-read-sheet .read-sheet .result .known) (at-read-sheet .read-sheet .result .status) (at-read-sheet .read-sheet .ensures) (at-enum-told .enum-told .given .1), start .pre .0 .0, start .pre .0 .1, start .pre .0 .2), start .pre .1)
 
 returns : tie.Need-returns
-returns c = sheet-refused (c .before .before .before .before .before .before .before .before .read-sheet .result .status) (c .refused .ensures) (c .before .before .before .before .before .before .before .before .read-sheet .ensures) (c .before .before .before .before .before .before .status .given .1) (c .before .before .before .before .before .before .before .before .before .before .before .before .before .before .before .before .pre .1 .2) (c .before .before .before .put-refusal .ensures)
+returns c =
+    let at-status = c .before .before .before .before .before .before in
+    let at-read-sheet = at-status .before .before in
+    let start = at-read-sheet .before .before .before .before .before .before .before .before in
+    sheet-refused (at-read-sheet .read-sheet .result .status) (c .refused .ensures) (at-read-sheet .read-sheet .ensures) (at-status .status .given .1) (start .pre .1 .2) (c .before .before .before .put-refusal .ensures)
 
 returns-2 : tie.Need-returns-2
-returns-2 c = c .before .before .before .before .before .before .before .before .before .before .before .before .open-accepted .ensures
+returns-2 c =
+    let at-open-accepted = c .before .before .before .before .before .before .before .before .before .before .before .before in
+    at-open-accepted .open-accepted .ensures
 
 pub open-sheet-spec : {M : Type 1} → statement M
 open-sheet-spec =

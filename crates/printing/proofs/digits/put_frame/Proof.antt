@@ -12,7 +12,10 @@ same-length : tie.Need-same-length
 same-length c = c .before .before .put-feed .ensures .same-length ∙ c .before .before .before .before .before .before .put-bytes .ensures .same-length
 
 returns : tie.Need-returns
-returns c = frame-ended (c .before .before .before .before .before .before .before .before .before .before .args .bytes .now) (c .before .before .before .before .before .before .put-bytes .ensures) (c .before .before .put-feed .ensures)
+returns c =
+    let at-put-bytes = c .before .before .before .before .before .before in
+    let start = at-put-bytes .before .before .before .before in
+    frame-ended (start .args .bytes .now) (at-put-bytes .put-bytes .ensures) (c .before .before .put-feed .ensures)
 
 pub put-frame-spec : {M : Type 1} → statement M
 put-frame-spec = tie.close (tie.spec (λ c κs. search needs) put-feed-requires same-length returns)

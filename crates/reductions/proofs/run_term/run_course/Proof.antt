@@ -14,44 +14,62 @@ prepare-next-requires c κs =
     (λ e. rules-have (start .pre .0 .0 .is) (start .args .fits) (start .args .table .now) (start .pre .0 .0 .ready) e, refl)
 
 array-share-prefix-arities : tie.Need-array-share-prefix-arities
-array-share-prefix-arities c = term-symbols-room (c .before .before .before .before .before .before .before .before .before .before .before .before .before .before .pre .0 .0 .is)
+array-share-prefix-arities c =
+    let start = c .before .before .before .before .before .before .before .before .before .before .before .before .before .before in
+    term-symbols-room (start .pre .0 .0 .is)
 
 slice-aggregate-load-terms : tie.Need-slice-aggregate-load-terms
-slice-aggregate-load-terms c = term-symbols-taken (c .before .before .before .before .before .before .before .before .before .before .before .before .before .before .before .pre .0 .0 .is)
+slice-aggregate-load-terms c =
+    let start = c .before .before .before .before .before .before .before .before .before .before .before .before .before .before .before in
+    term-symbols-taken (start .pre .0 .0 .is)
 
 load-terms-requires : tie.Need-load-terms-requires
-load-terms-requires c κs = (terms-have (c .before .before .before .before .before .before .before .before .before .before .before .before .before .before .before .before .before .pre .0 .0 .is), (refl, refl, symbols-zero node-count))
+load-terms-requires c κs =
+    let start = c .before .before .before .before .before .before .before .before .before .before .before .before .before .before .before .before .before in
+    (terms-have (start .pre .0 .0 .is), (refl, refl, symbols-zero node-count))
 
 array-share-prefix-arities-2 : tie.Need-array-share-prefix-arities-2
-array-share-prefix-arities-2 c = term-symbols-room (c .before .before .before .before .before .before .before .before .before .before .before .before .before .before .before .before .before .before .before .before .pre .0 .0 .is)
+array-share-prefix-arities-2 c =
+    let start = c .before .before .before .before .before .before .before .before .before .before .before .before .before .before .before .before .before .before .before .before in
+    term-symbols-room (start .pre .0 .0 .is)
 
 slice-aggregate-run-steps : tie.Need-slice-aggregate-run-steps
-slice-aggregate-run-steps c = term-symbols-taken (c .before .before .before .before .before .before .before .before .before .before .before .before .before .before .before .before .before .before .before .before .before .pre .0 .0 .is)
+slice-aggregate-run-steps c =
+    let start = c .before .before .before .before .before .before .before .before .before .before .before .before .before .before .before .before .before .before .before .before .before in
+    term-symbols-taken (start .pre .0 .0 .is)
 
 run-steps-requires : tie.Need-run-steps-requires
 run-steps-requires c κs =
-    let start = c .before .before .before .before .before .before .before .before .before .before .before .before .before .before .before .before .before .before .before .before .before .before .before .before .before .before .before in
+    let at-load-terms = c .before .before .before .before .before .before .before .before .before in
+    let at-prepare-next = at-load-terms .before .before .before .before .before .before in
+    let start = at-prepare-next .before .before .before .before .before .before .before .before .before .before .before .before in
     let has = start .pre .0 .0 in
-    let loaded = c .before .before .before .before .before .before .before .before .before .load-terms in
-    let prepared = c .before .before .before .before .before .before .before .before .before .before .before .before .before .before .before .prepare-next in
+    let loaded = at-load-terms .load-terms in
+    let prepared = at-prepare-next .prepare-next in
     ((has .those, has .subject, run-is (has .is) (start .args .fits) (start .args .table .now) (prepared .last .1 .1 .1 .1 .1 .1 .0) (loaded .last .1 .1 .1 .1 .0) (loaded .last .1 .1 .1 .1 .1 .0) (loaded .result) (has .ready) (prepared .ensures) (loaded .ensures)), (start .pre .1 .0, start .pre .1 .1, start .pre .1 .3, start .pre .0 .1))
 
 copy-front-requires : tie.Need-copy-front-requires
 copy-front-requires c κs =
-    let start = c .before .before .before .before .before .before .before .before .before .before .before .before .before .before .before .before .before .before .before .before .before .before .before .before .before .before .before .before .before .before .before .before .before .before .before .before .before .before .before in
+    let at-run-steps = c .before .before .before .before .before .before .before .before .before .before .before in
+    let at-load-terms = at-run-steps .before .before .before .before .before .before .before .before .before .before in
+    let at-prepare-next = at-load-terms .before .before .before .before .before .before in
+    let start = at-prepare-next .before .before .before .before .before .before .before .before .before .before .before .before in
     let has = start .pre .0 .0 in
-    let loaded = c .before .before .before .before .before .before .before .before .before .before .before .before .before .before .before .before .before .before .before .before .before .load-terms in
-    let prepared = c .before .before .before .before .before .before .before .before .before .before .before .before .before .before .before .before .before .before .before .before .before .before .before .before .before .before .before .prepare-next in
-    let ran = c .before .before .before .before .before .before .before .before .before .before .before .run-steps in
+    let loaded = at-load-terms .load-terms in
+    let prepared = at-prepare-next .prepare-next in
+    let ran = at-run-steps .run-steps in
     let course = ran .ensures .0 (has .those) (has .subject) (run-is (has .is) (start .args .fits) (start .args .table .now) (prepared .last .1 .1 .1 .1 .1 .1 .0) (loaded .last .1 .1 .1 .1 .0) (loaded .last .1 .1 .1 .1 .1 .0) (loaded .result) (has .ready) (prepared .ensures) (loaded .ensures)) in
     (course-front course, omega (arith, course-small course, start .pre .1 .2))
 
 returns : tie.Need-returns
 returns c =
-    let start = c .before .before .before .before .before .before .before .before .before .before .before .before .before .before .before .before .before .before .before .before .before .before .before .before .before .before .before .before .before .before .before .before .before .before .before .before .before .before .before .before .before .before in
-    let loaded = c .before .before .before .before .before .before .before .before .before .before .before .before .before .before .before .before .before .before .before .before .before .before .before .before .load-terms in
-    let prepared = c .before .before .before .before .before .before .before .before .before .before .before .before .before .before .before .before .before .before .before .before .before .before .before .before .before .before .before .before .before .before .prepare-next in
-    let ran = c .before .before .before .before .before .before .before .before .before .before .before .before .before .before .run-steps in
+    let at-run-steps = c .before .before .before .before .before .before .before .before .before .before .before .before .before .before in
+    let at-load-terms = at-run-steps .before .before .before .before .before .before .before .before .before .before in
+    let at-prepare-next = at-load-terms .before .before .before .before .before .before in
+    let start = at-prepare-next .before .before .before .before .before .before .before .before .before .before .before .before in
+    let loaded = at-load-terms .load-terms in
+    let prepared = at-prepare-next .prepare-next in
+    let ran = at-run-steps .run-steps in
     let copied = c .before .before .copy-front in (
       λ es subject is ready. course-ran (ran .ensures .0 es subject (run-is is (start .args .fits) (start .args .table .now) (prepared .last .1 .1 .1 .1 .1 .1 .0) (loaded .last .1 .1 .1 .1 .0) (loaded .last .1 .1 .1 .1 .1 .0) (loaded .result) ready (prepared .ensures) (loaded .ensures))) (start .args .term .now) (copied .last .1 .0) (copied .ensures),
       (ran .ensures .1 .0, (ran .ensures .1 .1 .0, ran .ensures .1 .1 .1)),

@@ -7,14 +7,18 @@ use Rattle.reductions.proofs.run_term.run_term.Statement.{statement}
 use Rattle.reductions.proofs.run_term.run_term.Tie as tie
 
 fields-number-requires : tie.Need-fields-number-requires
-fields-number-requires c κs = let start = c .before .before .before .before .before .before .before .before .before .before .before .before .before .before .before .before .before .before .before .before .before .before in
+fields-number-requires c κs =
+    let at-run-course = c .before .before .before .before .before .before .before .before .before in
+    let start = at-run-course .before .before .before .before .before .before .before .before .before .before .before .before .before in
     let has = start .pre .0 .0 in
-    let ran = c .before .before .before .before .before .before .before .before .before .run-course in
+    let ran = at-run-course .run-course in
     let course = ran .ensures .0 (has .those) (has .subject) (has .is) (has .ready) in
     (omega (arith, course .few-steps (start .pre .0 .1)), omega (arith, c .number-of-ending .ensures, ending-low (ran .result .ending)), omega (arith, course .small))
 
 returns : tie.Need-returns
-returns c = let ran = c .before .before .before .before .before .before .before .before .before .before .run-course in
+returns c =
+    let at-run-course = c .before .before .before .before .before .before .before .before .before .before in
+    let ran = at-run-course .run-course in
     let told = c .before .number-of-ending in
     (λ es subject is ready. number-ran (told .result) (c .fields-number .result) (ran .ensures .0 es subject is ready) (told .ensures) (c .fields-number .ensures), (ran .ensures .1 .1 .0, ran .ensures .1 .1 .1))
 

@@ -20,10 +20,17 @@ part-put-line-end-2 : tie.Need-part-put-line-end-2
 part-put-line-end-2 c = let h = c .before .before .before .before .before .before .before .before .before .pre .0 in end-in-equations (its-rule (h .rows) (h .records-there) (h .low)) (c .before .before .before .wide .ensures .0) (c .before .wide2 .ensures .0)
 
 part-put-line-end-3 : tie.Need-part-put-line-end-3
-part-put-line-end-3 c = let h = c .before .before .before .before .before .before .before .before .before .before .pre .0 in end-in-lengths (its-rule (h .rows) (h .records-there) (h .low)) (c .before .before .before .before .wide .ensures .0) (c .before .before .wide2 .ensures .0)
+part-put-line-end-3 c =
+    let at-wide = c .before .before .before .before in
+    let start = at-wide .before .before .before .before .before .before in
+    let h = start .pre .0 in end-in-lengths (its-rule (h .rows) (h .records-there) (h .low)) (at-wide .wide .ensures .0) (c .before .before .wide2 .ensures .0)
 
 put-line-requires : tie.Need-put-line-requires
-put-line-requires c κs = let h = c .before .before .before .before .before .before .before .before .before .before .before .before .pre .0 in (line-has (h .rows) (h .records-there) (h .low) (c .before .before .before .before .before .before .wide .ensures .0) (c .before .before .before .before .wide2 .ensures .0), c .before .before .before .before .before .before .before .before .before .before .before .before .pre .1)
+put-line-requires c κs =
+    let at-wide-2 = c .before .before .before .before in
+    let at-wide = at-wide-2 .before .before in
+    let start = at-wide .before .before .before .before .before .before in
+    let h = start .pre .0 in (line-has (h .rows) (h .records-there) (h .low) (at-wide .wide .ensures .0) (at-wide-2 .wide2 .ensures .0), start .pre .1)
 
 returns : tie.Need-returns
 returns c = let put = c .before .before .put-line .ensures in (λ arities es lines rows there low. line-printed rows there low (c .before .before .before .before .before .before .before .before .before .wide .ensures .0) (c .before .before .before .before .before .before .before .wide2 .ensures .0) (put .0), put .1)

@@ -35,34 +35,38 @@ returns-2 c =
 judge-values-requires : tie.Need-judge-values-requires
 judge-values-requires c κs =
     let keeping = c .before .before .before .before .before .before .before in
+    let at-scratch = keeping .before .before .before .before .before .before in
     let solved = keeping .before .before .before .enum-told .given .1 in
     let walked = keeping .before .before .before .before .before .before .before in
     let start = walked .before .before .before .before .before .before .before .before in
     let has = start .pre .0 in
     let lines = keeping .keep-lines in
-    (values-has (has .are) (walked .walk-rule .ensures .0) solved (start .args .lines .now) (start .pre .1 .0) (lines .last .1 .1 .0) (lines .result) (lines .ensures) (c .before .before .before .kept .given .1), omega (arith, c .before .before .before .before .before .before .before .before .before .before .before .before .before .scratch .given, start .pre .1))
+    (values-has (has .are) (walked .walk-rule .ensures .0) solved (start .args .lines .now) (start .pre .1 .0) (lines .last .1 .1 .0) (lines .result) (lines .ensures) (c .before .before .before .kept .given .1), omega (arith, at-scratch .scratch .given, start .pre .1))
 
 put-judgement-requires : tie.Need-put-judgement-requires
 put-judgement-requires c κs =
-    let keeping = c .before .before .before .before .before .before .before .before .before .before .before in
+    let at-kept = c .before .before .before .before .before .before .before in
+    let keeping = at-kept .before .before .before .before in
     let solved = keeping .before .before .before .enum-told .given .1 in
     let walked = keeping .before .before .before .before .before .before .before in
     let start = walked .before .before .before .before .before .before .before .before in
     let has = start .pre .0 in
     let lines = keeping .keep-lines in
-    let values = values-kept (has .are) (walked .walk-rule .ensures .0) solved (start .args .lines .now) (start .pre .1 .0) (lines .last .1 .1 .0) (lines .result) (lines .ensures) (c .before .before .before .before .before .before .before .kept .given .1) in
+    let values = values-kept (has .are) (walked .walk-rule .ensures .0) solved (start .args .lines .now) (start .pre .1 .0) (lines .last .1 .1 .0) (lines .result) (lines .ensures) (at-kept .kept .given .1) in
     (holding-few values (c .before .before .before .judge-values .ensures .0 (has .number) (has .equation) (has .direction) (has .terms) values), omega (arith, start .pre .1))
 
 returns-3 : tie.Need-returns-3
 returns-3 c =
-    let keeping = c .before .before .before .before .before .before .before .before .before .before .before .before .before .before in
+    let at-judge-values = c .before .before .before .before .before .before in
+    let at-kept = at-judge-values .before .before .before .before in
+    let keeping = at-kept .before .before .before .before in
     let solved = keeping .before .before .before .enum-told .given .1 in
     let walked = keeping .before .before .before .before .before .before .before in
     let start = walked .before .before .before .before .before .before .before .before in
     let lines = keeping .keep-lines in
     λ i e d ts at.
-    let values = values-kept at (walked .walk-rule .ensures .0) solved (start .args .lines .now) (start .pre .1 .0) (lines .last .1 .1 .0) (lines .result) (lines .ensures) (c .before .before .before .before .before .before .before .before .before .before .kept .given .1) in
-    appended-text (ap (λ n. printed (judgement-frame n ∷ [])) (c .before .before .before .before .before .before .judge-values .ensures .0 i e d ts values)) (c .before .before .put-judgement .ensures)
+    let values = values-kept at (walked .walk-rule .ensures .0) solved (start .args .lines .now) (start .pre .1 .0) (lines .last .1 .1 .0) (lines .result) (lines .ensures) (at-kept .kept .given .1) in
+    appended-text (ap (λ n. printed (judgement-frame n ∷ [])) (at-judge-values .judge-values .ensures .0 i e d ts values)) (c .before .before .put-judgement .ensures)
 
 pub list-judgement-spec : {M : Type 1} → statement M
 list-judgement-spec =

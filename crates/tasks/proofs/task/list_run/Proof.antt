@@ -18,29 +18,33 @@ put-steps-requires c κs =
 
 slice-reshare-prefix-put-run : tie.Need-slice-reshare-prefix-put-run
 slice-reshare-prefix-put-run c =
-    let course = c .before .before .before .before .before .before .before .before .before .before .before .before .before in
+    let at-term = c .before .before .before .before .before .before .before .before in
+    let course = at-term .before .before .before .before .before in
     let start = course .before .before .before .before .before .before .before .before .before .before .before .before .before .before in
     let has = start .pre .0 .0 in
     let run = course .run-course .ensures .0 (has .those) (has .subject) (has .is) (has .ready) in
-    omega (arith, run .small, c .before .before .before .before .before .before .before .before .term .given, start .pre .1)
+    omega (arith, run .small, at-term .term .given, start .pre .1)
 
 slice-aggregate-put-run : tie.Need-slice-aggregate-put-run
 slice-aggregate-put-run c =
-    let course = c .before .before .before .before .before .before .before .before .before .before .before .before .before .before in
+    let at-term = c .before .before .before .before .before .before .before .before .before in
+    let course = at-term .before .before .before .before .before in
     let start = course .before .before .before .before .before .before .before .before .before .before .before .before .before .before in
     let has = start .pre .0 .0 in
     let run = course .run-course .ensures .0 (has .those) (has .subject) (has .is) (has .ready) in
-    sym (length-take-le (course .run-course .result .size) (course .run-course .last .1 .1 .1 .1 .1 .1 .1 .1 .1 .1 .1 .0) (omega (arith, run .small, c .before .before .before .before .before .before .before .before .before .term .given, start .pre .1)))
+    sym (length-take-le (course .run-course .result .size) (course .run-course .last .1 .1 .1 .1 .1 .1 .1 .1 .1 .1 .1 .0) (omega (arith, run .small, at-term .term .given, start .pre .1)))
 
 put-run-requires : tie.Need-put-run-requires
 put-run-requires c κs =
-    let course = c .before .before .before .before .before .before .before .before .before .before .before .before .before .before .before in
+    let at-put-steps = c .before .before .before .before in
+    let at-term = at-put-steps .before .before .before .before .before .before in
+    let course = at-term .before .before .before .before .before in
     let start = course .before .before .before .before .before .before .before .before .before .before .before .before .before .before in
     let has = start .pre .0 .0 in
     let run = course .run-course .ensures .0 (has .those) (has .subject) (has .is) (has .ready) in
     let few = run .few-steps (start .pre .0 .1) in
-    let size = length-take-le (course .run-course .result .size) (course .run-course .last .1 .1 .1 .1 .1 .1 .1 .1 .1 .1 .1 .0) (omega (arith, run .small, c .before .before .before .before .before .before .before .before .before .before .term .given, start .pre .1)) in
-    (few, omega (arith, run .small, size), omega (arith, few, c .before .before .before .before .put-steps .ensures .1, c .before .before .before .out .given, start .pre .1))
+    let size = length-take-le (course .run-course .result .size) (course .run-course .last .1 .1 .1 .1 .1 .1 .1 .1 .1 .1 .1 .0) (omega (arith, run .small, at-term .term .given, start .pre .1)) in
+    (few, omega (arith, run .small, size), omega (arith, few, at-put-steps .put-steps .ensures .1, c .before .before .before .out .given, start .pre .1))
 
 returns : tie.Need-returns
 returns c =

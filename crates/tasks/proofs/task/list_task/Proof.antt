@@ -6,7 +6,9 @@ use Rattle.tasks.proofs.task.list_task.Statement.{statement}
 use Rattle.tasks.proofs.task.list_task.Tie as tie
 
 find-task-requires : tie.Need-find-task-requires
-find-task-requires c κs = let has = c .before .before .before .before .before .before .before .before .before .before .pre .0 in (task-accepted has, task-low has)
+find-task-requires c κs =
+    let start = c .before .before .before .before .before .before .before .before .before .before in
+    let has = start .pre .0 in (task-accepted has, task-low has)
 
 list-run-requires : tie.Need-list-run-requires
 list-run-requires c κs =
@@ -45,29 +47,37 @@ compare-terms-requires c κs =
     (comparison-has (start .args .task) (found .result) (found .ensures) has (c .before .enum-told .given .1), (has .ready .knows .roomy, start .pre .1 .2))
 
 put-comparison-requires : tie.Need-put-comparison-requires
-put-comparison-requires c κs = omega (arith, c .before .before .before .before .before .before .before .before .before .before .before .before .before .before .before .before .before .before .pre .1)
+put-comparison-requires c κs =
+    let start = c .before .before .before .before .before .before .before .before .before .before .before .before .before .before .before .before .before .before in
+    omega (arith, start .pre .1)
 
 returns : tie.Need-returns
 returns c =
-    let place = c .before .before .before .before .before .before .before .before .before .before .before .before .before .before .before .before .before .before .before in
+    let at-list-run = c .before .before .before .before .before .before .before .before .before .before in
+    let at-head = at-list-run .before .before .before .before .before .before .before in
+    let place = at-head .before .before in
     let start = place .before .before .before .before .before .before .before .before .before .before .before in
     let found = place .find-task in
-    let listed = c .before .before .before .before .before .before .before .before .before .before .list-run in
-    (λ s t ready x. run-printed (start .args .task) (found .result) (found .ensures) ready x (c .before .before .before .before .before .before .before .before .before .before .before .before .before .before .before .before .before .head .given .1) (listed .ensures .0), listed .ensures .1)
+    let listed = at-list-run .list-run in
+    (λ s t ready x. run-printed (start .args .task) (found .result) (found .ensures) ready x (at-head .head .given .1) (listed .ensures .0), listed .ensures .1)
 
 returns-2 : tie.Need-returns-2
 returns-2 c =
-    let place = c .before .before .before .before .before .before .before .before .before .before .before .before .before in
+    let at-list-judgement = c .before .before .before .before .before .before in
+    let at-head = at-list-judgement .before .before .before .before .before in
+    let place = at-head .before .before in
     let start = place .before .before .before .before .before .before .before .before .before .before .before in
     let found = place .find-task in
-    (λ s t ready x. judgement-printed (start .args .task) (found .result) (found .ensures) ready x (c .before .before .before .before .before .before .before .before .before .before .before .head2 .given .1) (c .before .before .before .before .before .before .list-judgement .ensures), λ es every ready. ready)
+    (λ s t ready x. judgement-printed (start .args .task) (found .result) (found .ensures) ready x (at-head .head2 .given .1) (at-list-judgement .list-judgement .ensures), λ es every ready. ready)
 
 returns-3 : tie.Need-returns-3
 returns-3 c =
-    let place = c .before .before .before .before .before .before .before .before .before .before in
+    let at-compare-terms = c .before .before .before .before .before .before in
+    let at-enum-told = at-compare-terms .before .before in
+    let place = at-enum-told .before .before in
     let start = place .before .before .before .before .before .before .before .before .before .before .before in
     let found = place .find-task in
-    (λ s t ready x. comparison-printed (start .args .task) (found .result) (found .ensures) ready x (c .before .before .before .before .before .before .before .before .enum-told .given .1) (c .before .before .before .before .before .before .compare-terms .ensures .0) (c .before .before .put-comparison .ensures), λ es every ready. ready)
+    (λ s t ready x. comparison-printed (start .args .task) (found .result) (found .ensures) ready x (at-enum-told .enum-told .given .1) (at-compare-terms .compare-terms .ensures .0) (c .before .before .put-comparison .ensures), λ es every ready. ready)
 
 pub list-task-spec : {M : Type 1} → statement M
 list-task-spec =
