@@ -21,10 +21,12 @@ use Rattle.sheet.specs.Text.{TextLine, ended, lines-of, frame-of}
 use Rattle.sheet.specs.Sheet.{Sheet}
 use Rattle.sheet.specs.Frame.{State, start, within, read-frame}
 use Rattle.sheet.specs.Reading.{Reading, refused-at, accepted, read-line, finish, read-lines, read}
-use Rattle.scanning.specs.Contracts.Digits.{BodyReady, bytes-between, LineTo, NoFrame}
+use Rattle.scanning.specs.Contracts.Digits.{span-bytes, NoFrame}
+use Rattle.reader.specs.declared.line.Line.{Line}
+use Rattle.reader.specs.Contracts.Lines.{IsLine}
+use Rattle.reader.specs.Theory.Lines.{line-text, line-first, line-frame, line-long, line-inside}
 use Rattle.scanning.specs.Contracts.Known.{none-known}
 use Rattle.reading.specs.Contracts.Reader.{Knows, FrameRead, SheetRead}
-use Rattle.sheet.specs.Theory.Text.{frame-bytes-small}
 
 -- 1. The length of the text.
 sized : (text : List ℕ) → Bool → Reading Sheet
@@ -81,54 +83,48 @@ unfolding read-line by-frame
 line-framed state text-line bs e = ap (by-frame state) e
 
 module _ (text : List ℕ) (k : Known) (at line : ℕ) (p : Passing text k at line) where
-  pub line-broken : NoFrame text at → read text ≡ refused-at Digits (line + 1)
+  pub line-broken : {n : ℕ} → n ≡ line + 1 → NoFrame text at → read text ≡ refused-at Digits n
   unfolding after-line
-  line-broken n =
+  line-broken {n} e f =
+      let z : suc line ≡ n = omega arith in
       p .same
-      ∙ ap (read-lines (p .state) line) (n .is-first)
-      ∙ lines-step (p .state) line (n .line) (n .more) (refuse Digits) (broken-line (p .state) (n .line) (n .no-frame))
-      ∙ ap (refused-at Digits) (sym (add-one line))
+      ∙ ap (read-lines (p .state) line) (f .is-first)
+      ∙ lines-step (p .state) line (f .line) (f .more) (refuse Digits) (broken-line (p .state) (f .line) (f .no-frame))
+      ∙ ap (refused-at Digits) z
 
-  module _ (end : ℕ) (l : LineTo text at end) where
-    text-line : TextLine
-    text-line = ended (take (end - at) (drop at text))
+  module _ (l : Line) (i : IsLine text at line l) where
+    -- The line's number is no greater than the text is long.
+    pub line-low : l .number ≤ length text
+    line-low = omega (arith, i .number-is, line-long text at line l i, line-inside text at line l i, p .counted)
 
-    pub line-body : BodyReady text at end
-    line-body = record { pairs = suc (l .pairs); even = l .even; inside = omega (arith, l .inside); are-bytes = frame-bytes-small (ended (take (end - at) (drop at text))) (bytes-between text at end) (l .is-frame) }
+    passed-line : (r : Result State) → read-frame (p .state) (span-bytes text (l .digits)) ≡ r → read text ≡ after-line line (lines-of (drop (l .behind) text)) r
+    passed-line r e =
+        p .same
+        ∙ ap (read-lines (p .state) line) (line-first text at line l i)
+        ∙ lines-step (p .state) line (line-text text at line l i) (lines-of (drop (l .behind) text)) r
+        (line-framed (p .state) (line-text text at line l i) (span-bytes text (l .digits)) (line-frame text at line l i) ∙ e)
 
-    pub line-some : at < end
-    line-some = omega (arith, l .even)
-
-    text-line-is : read-line (p .state) text-line ≡ read-frame (p .state) (bytes-between text at end)
-    unfolding text-line
-    text-line-is = line-framed (p .state) text-line (bytes-between text at end) (l .is-frame)
+    number-is : suc line ≡ l .number
+    number-is = omega (arith, i .number-is)
 
     pub line-refused : (k′ : Known) (o : ReadStatus) {x : Refusal}
-        → ((state : State) → Knows k state → FrameRead (read-frame state (bytes-between text at end)) k′ o) → o ≡ Refused x
-        → read text ≡ refused-at x (line + 1)
-    unfolding text-line after-line
+        → ((state : State) → Knows k state → FrameRead (read-frame state (span-bytes text (l .digits))) k′ o) → o ≡ Refused x
+        → read text ≡ refused-at x (l .number)
+    unfolding after-line
     line-refused k′ o {x} h d =
-        let r : read-frame (p .state) (bytes-between text at end) ≡ refuse x = subst (FrameRead (read-frame (p .state) (bytes-between text at end)) k′) d (h (p .state) (p .knows)) in
-        p .same
-        ∙ ap (read-lines (p .state) line) (l .is-first)
-        ∙ lines-step (p .state) line text-line (lines-of (drop (end + 1) text)) (refuse x) (text-line-is ∙ r)
-        ∙ ap (refused-at x) (sym (add-one line))
+        passed-line (refuse x) (subst (FrameRead (read-frame (p .state) (span-bytes text (l .digits))) k′) d (h (p .state) (p .knows))) ∙ ap (refused-at x) number-is
 
-    pub line-next : (k′ : Known) (o : ReadStatus) → ((state : State) → Knows k state → FrameRead (read-frame state (bytes-between text at end)) k′ o) → o ≡ Done
-        → Passing text k′ (end + 1) (line + 1)
-    unfolding text-line after-line
+    pub line-next : (k′ : Known) (o : ReadStatus) → ((state : State) → Knows k state → FrameRead (read-frame state (span-bytes text (l .digits))) k′ o) → o ≡ Done
+        → Passing text k′ (l .behind) (l .number)
+    unfolding after-line
     line-next k′ o h d =
-        let (next, r, g) = subst (FrameRead (read-frame (p .state) (bytes-between text at end)) k′) d (h (p .state) (p .knows)) in
+        let (next, r, g) = subst (FrameRead (read-frame (p .state) (span-bytes text (l .digits))) k′) d (h (p .state) (p .knows)) in
         record {
           state = next;
           knows = g;
-          inside = omega (arith, l .inside);
-          counted = omega (arith, p .counted, l .even);
-          same =
-              p .same
-              ∙ ap (read-lines (p .state) line) (l .is-first)
-              ∙ lines-step (p .state) line text-line (lines-of (drop (end + 1) text)) (give next) (text-line-is ∙ r)
-              ∙ ap (λ n. read-lines next n (lines-of (drop (end + 1) text))) (sym (add-one line));
+          inside = line-inside text at line l i;
+          counted = omega (arith, p .counted, i .number-is, line-long text at line l i);
+          same = passed-line (give next) r ∙ ap (λ n. read-lines next n (lines-of (drop (l .behind) text))) number-is;
         }
 
   -- 3. The end of the text.

@@ -17,8 +17,8 @@ use Rattle.sheet.specs.Sheet.{Task, run, judgement, comparison}
 use Rattle.sheet.specs.Contracts.Frames.{equation-frame, task-frame}
 use Rattle.sheet.specs.Reading.{accepted}
 use Rattle.scanning.specs.Contracts.Digits.{pair-at}
-use Rattle.reading.specs.Contracts.Seek.{Accepts, FrameIn, EquationIn, TaskIn, Spans, TaskAt, task-terms}
-use Rattle.reading.proofs.Seeking.{equation-line-is, task-line-is}
+use Rattle.reading.specs.Contracts.Seek.{Accepts, AllFrames, FrameIn, EquationIn, TaskIn, Spans, TaskAt, task-terms}
+use Rattle.reading.proofs.Seeking.{all-frames, equation-line-is, task-line-is}
 use Rattle.reading.proofs.Decode.{spans-inside, spans-byte, spans-first, spans-behind}
 use Rattle.reading.specs.Theory.Found.{equation-few, equation-asked, task-asked}
 
@@ -27,8 +27,8 @@ equation-line : (text : List ℕ) (e : ℕ) (q : Equation) → EquationIn text e
 equation-line text e q (s, a, h) = equation-line-is text s a e h
 
 module _ (text : List ℕ) (known : Known) (e : ℕ) (a : Accepts text known) (l : e < known .equations) where
-  pub equation-wanted : (frame : List ℕ) × FrameIn text (e + 1) frame
-  equation-wanted = let (q, h) = equation-asked text known e a l in (equation-frame q, equation-line text e q h)
+  pub equation-wanted : AllFrames text × ((frame : List ℕ) × FrameIn text (e + 1) frame)
+  equation-wanted = let (q, h) = equation-asked text known e a l in (all-frames text (h .0) (h .1), (equation-frame q, equation-line text e q h))
 
   module _ (from end : ℕ) (f : (frame : List ℕ) → FrameIn text (e + 1) frame → Spans text from end frame) where
     pub equation-inside : from + 2 ≤ length text
@@ -53,8 +53,8 @@ module _ (text : List ℕ) (known : Known) (k : ℕ) (a : Accepts text known) wh
       let d : s ≡ r = cc in
       task-line-is text r b (known .equations) k (g .equations-are ∙ ap (λ x. length (x .equations)) d) h
 
-  pub task-wanted : k < known .tasks → (frame : List ℕ) × FrameIn text (known .equations + k + 1) frame
-  task-wanted l = let (t, h) = task-asked text known k a l in (task-frame t, task-line t h)
+  pub task-wanted : k < known .tasks → AllFrames text × ((frame : List ℕ) × FrameIn text (known .equations + k + 1) frame)
+  task-wanted l = let (t, h) = task-asked text known k a l in (all-frames text (h .0) (h .1), (task-frame t, task-line t h))
 
   pub task-low : k < known .tasks → (known .equations ≤ max-equations) × (k < max-tasks)
   task-low l = let (s, r, g) = a in (omega (arith, g .equations-are, g .valid .few-equations), omega (arith, g .tasks-are, g .valid .few-tasks))

@@ -1,99 +1,84 @@
 -- Laws for finding a frame of an accepted sheet: lines by their number, and the frames that they are.
 use Prim.Native.Nat.{ℕ, zero, suc, _+_, _-_, _≤_, _<_}
 use mathlib.Core.Path.{_≡_, refl, sym, ap, subst, _∙_}
+use mathlib.Core.Logic.{_⊎_, inl, inr}
 use mathlib.Core.Option.{none, some}
 use mathlib.Core.List.{List, [], _∷_, _++_, map}
-use lib.ListN.{length, getD, take, drop, length-drop, length-map}
-use lib.Seq.{drop-cons}
+use lib.ListN.{length, drop, length-map, drop-of-length-le}
+use denote.Enum.Declared.{tagOf}
 use native.Mathlib.Numerals.{add-one}
 use native.Mathlib.Omega.{arith}
-use Rattle.format.specs.Lists.{entry}
+use Rattle.format.specs.Lists.{Every, entry}
 use Rattle.terms.specs.Equation.{Equation}
-use Rattle.sheet.specs.Text.{LF, TextLine, ended, unended, put-byte, lines-of, frame-of}
+use Rattle.sheet.specs.Text.{TextLine, lines-of, frame-of}
 use Rattle.sheet.specs.Sheet.{Task, Sheet}
 use Rattle.sheet.specs.Contracts.Frames.{equation-frame, task-frame, frames-of}
 use Rattle.sheet.specs.Reading.{accepted, read}
-use Rattle.scanning.specs.Contracts.Digits.{bytes-between, LineTo, NoFrame}
-use Rattle.reading.specs.Contracts.Seek.{FrameIn, Spans}
-use Rattle.sheet.specs.Theory.Text.{frame-bytes-small}
-use Rattle.sheet.specs.Theory.Lines.{lines-byte, lines-LF}
+use Rattle.scanning.specs.Contracts.Digits.{span-bytes, NoFrame}
+use Rattle.reader.proofs.line.NextLine.{the-type}
+use Rattle.reader.specs.declared.line.Line.{Line}
+use Rattle.reader.specs.declared.line.NextLine.{NextLine}
+use Rattle.reader.specs.declared.line.NextLine.the-variants.{Frame, Broken, End}
+use Rattle.reader.specs.Contracts.Lines.{IsLine, NextRead}
+use Rattle.reader.specs.Theory.Lines.{line-text, line-first, line-frame, line-ready, line-long}
+use Rattle.reading.specs.Contracts.Seek.{IsFrame, AllFrames, FrameIn, Spans}
 use Rattle.sheet.specs.Theory.Frames.{Framed, accepted-frames}
 
--- 1. The loop over a text's bytes: the line that is looked for is as many lines further on as are left.
-pub record Seeking (text : List ℕ) (n at left : ℕ) : Type 0 where
-  pub line : TextLine
-  pub is-line : entry (lines-of (drop at text)) left ≡ some line
-  pub same : entry (lines-of (drop at text)) left ≡ entry (lines-of text) n
+-- 1. The loop over a text's lines: behind `lines` of them stands what is left, the line that is looked for among it.
+pub record Seeking (text : List ℕ) (n offset lines : ℕ) : Type 0 where
+  pub not-passed : lines ≤ n
+  pub counted : lines ≤ offset
+  pub frames : Every IsFrame (lines-of (drop offset text))
+  pub same : entry (lines-of (drop offset text)) (n - lines) ≡ entry (lines-of text) n
 
-pub seeking-start : (text : List ℕ) (n : ℕ) → (line : TextLine) × (entry (lines-of text) n ≡ some line) → Seeking text n 0 n
-seeking-start text n h = record { line = h .0; is-line = h .1; same = refl }
+pub seeking-start : (text : List ℕ) (n : ℕ) → AllFrames text → Seeking text n 0 0
+seeking-start text n a = let z : n - 0 ≡ n = omega arith in record { not-passed = omega arith; counted = omega arith; frames = a; same = ap (entry (lines-of text)) z }
 
-no-line : (text : List ℕ) (n : ℕ) {line : TextLine} → entry (lines-of text) n ≡ some line → 0 < length text
+no-lines : (n : ℕ) {line : TextLine} → entry (lines-of []) n ≡ some line → ⊥
 unfolding lines-of entry
-no-line [] n e = let z : _≡_ {A = ℕ} 0 1 = cc in absurd (omega arith)
-no-line (b ∷ text) n e = omega arith
+no-lines n e = let z : _≡_ {A = ℕ} 0 1 = cc in absurd (omega arith)
 
-line-later : (b : ℕ) (rs : List TextLine) (n : ℕ) → entry (put-byte b rs) (suc n) ≡ entry rs (suc n)
-unfolding put-byte entry
-line-later b [] n = refl
-line-later b (ended bs ∷ rs) n = refl
-line-later b (unended bs ∷ rs) n = refl
+module _ (text : List ℕ) (n offset lines : ℕ) (g : Seeking text n offset lines) where
+  -- The text has not ended, and its next line is a frame.
+  seeking-ended : length text ≤ offset → {frame : List ℕ} → FrameIn text n frame → ⊥
+  seeking-ended h (line, e, f) = no-lines (n - lines) (ap (λ t. entry (lines-of t) (n - lines)) (sym (drop-of-length-le text h)) ∙ g .same ∙ e)
 
-module _ (text : List ℕ) (n at left : ℕ) (g : Seeking text n at left) where
-  pub seeking-inside : at < length text
-  seeking-inside = omega (arith, no-line (drop at text) left (g .is-line), length-drop at text)
-
-  here : drop at text ≡ getD text at 0 ∷ drop (at + 1) text
-  here = drop-cons text at 0 seeking-inside ∙ ap (λ m. getD text at 0 ∷ drop m text) (sym (add-one at))
-
-  moved : {more : ℕ} → entry (lines-of (drop at text)) left ≡ entry (lines-of (drop (at + 1) text)) more → Seeking text n (at + 1) more
-  moved e = record { line = g .line; is-line = sym e ∙ g .is-line; same = sym e ∙ g .same }
-
-  pub seeking-line : 0 < left → getD text at 0 ≡ LF → Seeking text n (at + 1) (left - 1)
-  unfolding entry
-  seeking-line h e =
-      moved (ap (λ t. entry (lines-of t) left) (here ∙ ap (_∷ drop (at + 1) text) e) ∙ ap (λ rs. entry rs left) (lines-LF (drop (at + 1) text)) ∙ next left h)
-    where
-      next : (m : ℕ) → 0 < m → entry (ended [] ∷ lines-of (drop (at + 1) text)) m ≡ entry (lines-of (drop (at + 1) text)) (m - 1)
-      next zero h = absurd (omega arith)
-      next (suc m) h = let z : suc m - 1 ≡ m = omega arith in ap (entry (lines-of (drop (at + 1) text))) (sym z)
-
-  pub seeking-byte : 0 < left → (getD text at 0 ≡ LF → ⊥) → Seeking text n (at + 1) left
-  seeking-byte h e =
-      moved (ap (λ t. entry (lines-of t) left) here ∙ ap (λ rs. entry rs left) (lines-byte (getD text at 0) (drop (at + 1) text) e) ∙ next left h)
-    where
-      next : (m : ℕ) → 0 < m → entry (put-byte (getD text at 0) (lines-of (drop (at + 1) text))) m ≡ entry (lines-of (drop (at + 1) text)) m
-      next zero h = absurd (omega arith)
-      next (suc m) h = line-later (getD text at 0) (lines-of (drop (at + 1) text)) m
-
-  pub seeking-found : left ≤ 0 → entry (lines-of (drop at text)) 0 ≡ entry (lines-of text) n
-  seeking-found h = let z : 0 ≡ left = omega arith in ap (entry (lines-of (drop at text))) z ∙ g .same
-
--- 2. The line found is the frame.
-module _ (text : List ℕ) (n at : ℕ) (start : entry (lines-of (drop at text)) 0 ≡ entry (lines-of text) n) where
-  pub found-inside : (frame : List ℕ) × FrameIn text n frame → at < length text
-  found-inside (frame, line) = omega (arith, no-line (drop at text) 0 (start ∙ line .1), length-drop at text)
-
-  pub found-spans : {end : ℕ} → LineTo text at end → (frame : List ℕ) → FrameIn text n frame → Spans text at end frame
-  unfolding entry
-  found-spans {end} l frame h =
-      let (line, e, f) = h in
-      let x : some (ended (take (end - at) (drop at text))) ≡ some line = sym (ap (λ rs. entry rs 0) (l .is-first)) ∙ start ∙ e in
-      let y : some (bytes-between text at end) ≡ some frame = sym (l .is-frame) ∙ (cc) in
-      record {
-        ready = record { pairs = suc (l .pairs); even = l .even; inside = omega (arith, l .inside); are-bytes = frame-bytes-small (ended (take (end - at) (drop at text))) (bytes-between text at end) (l .is-frame) };
-        writes = cc;
-      }
-
-  pub found-whole : NoFrame text at → (frame : List ℕ) → FrameIn text n frame → ⊥
-  unfolding entry
-  found-whole l frame h =
-      let (line, e, f) = h in
-      let x : some (l .line) ≡ some line = sym (ap (λ rs. entry rs 0) (l .is-first)) ∙ start ∙ e in
-      let y : none ≡ some frame = sym (l .no-frame) ∙ (cc) in
+  seeking-broken : NoFrame text offset → ⊥
+  seeking-broken l =
+      let ((frame, e), more) = subst (Every IsFrame) (l .is-first) (g .frames) in
+      let x : none ≡ some frame = sym (l .no-frame) ∙ e in
       let z : _≡_ {A = ℕ} 0 1 = cc in absurd (omega arith)
 
--- 3. The frames of a sheet by their number.
+  -- What a `match` leaves to its last arm.
+  pub seeking-other : (r : NextLine) → NextRead text offset lines r → (tagOf the-type r ≡ 1) ⊎ (tagOf the-type r ≡ 2) → {frame : List ℕ} → FrameIn text n frame → ⊥
+  seeking-other (Frame l) h (inl e) f = let z : _≡_ {A = ℕ} 0 1 = e in absurd (omega arith)
+  seeking-other (Frame l) h (inr e) f = let z : _≡_ {A = ℕ} 0 2 = e in absurd (omega arith)
+  seeking-other (Broken m) h t f = seeking-broken (h .2)
+  seeking-other End h t f = seeking-ended h f
+
+  module _ (l : Line) (i : IsLine text offset lines l) where
+    pub seeking-found : n < l .number → (frame : List ℕ) → FrameIn text n frame → Spans text (l .digits .from) (l .digits .end) frame
+    unfolding entry
+    seeking-found h frame (line, e, f) =
+        let z : 0 ≡ n - lines = omega (arith, g .not-passed, i .number-is) in
+        let x : some (line-text text offset lines l i) ≡ some line =
+        sym (ap (λ rs. entry rs 0) (line-first text offset lines l i)) ∙ ap (entry (lines-of (drop offset text))) z ∙ g .same ∙ e in
+        let y : some (span-bytes text (l .digits)) ≡ some frame = sym (line-frame text offset lines l i) ∙ (cc) in
+        record { ready = line-ready text offset lines l i; writes = cc }
+
+    pub seeking-next : l .number ≤ n → Seeking text n (l .behind) (l .number)
+    unfolding entry
+    seeking-next h =
+        let z : n - lines ≡ suc (n - l .number) = omega (arith, i .number-is) in
+        let first = line-first text offset lines l i in
+        record {
+          not-passed = h;
+          counted = omega (arith, g .counted, i .number-is, line-long text offset lines l i);
+          frames = subst (Every IsFrame) first (g .frames) .1;
+          same = sym (ap (λ rs. entry rs (n - lines)) first ∙ ap (entry (line-text text offset lines l i ∷ lines-of (drop (l .behind) text))) z) ∙ g .same;
+        }
+
+-- 2. The frames of a sheet by their number.
 entry-map : {A B : Type 0} (f : A → B) (xs : List A) (i : ℕ) {x : A} → entry xs i ≡ some x → entry (map f xs) i ≡ some (f x)
 unfolding entry
 entry-map f [] i e = let z : _≡_ {A = ℕ} 0 1 = cc in absurd (omega arith)
@@ -123,7 +108,18 @@ framed-line (r ∷ rs) (f ∷ fs) e zero {frame} h =
     (r, refl, x ∙ ap some y)
 framed-line (r ∷ rs) (f ∷ fs) e (suc n) h = let x : map frame-of rs ≡ map some fs = cc in framed-line rs fs x n h
 
+framed-every : (rs : List TextLine) (fs : List (List ℕ)) → Framed rs fs → Every IsFrame rs
+framed-every [] fs e = tt
+framed-every (r ∷ rs) [] e = let z : _≡_ {A = ℕ} 0 1 = cc in absurd (omega arith)
+framed-every (r ∷ rs) (f ∷ fs) e =
+    let x : frame-of r ≡ some f = cc in
+    let y : map frame-of rs ≡ map some fs = cc in
+    ((f, x), framed-every rs fs y)
+
 module _ (text : List ℕ) (s : Sheet) (a : read text ≡ accepted s) where
+  pub all-frames : AllFrames text
+  all-frames = framed-every (lines-of text) (frames-of s) (accepted-frames text s a)
+
   line-is : (n : ℕ) {frame : List ℕ} → entry (frames-of s) n ≡ some frame → FrameIn text n frame
   line-is n e = framed-line (lines-of text) (frames-of s) (accepted-frames text s a) n e
 

@@ -6,14 +6,14 @@ use format::kind::FrameKind;
 use format::kind::kind_of;
 use format::limits::Limits;
 use format::refusal::Refusal;
+use reader::line::NextLine;
+use reader::reader::next_line;
 use scanning::frame::equation_body;
 use scanning::known::Known;
 use scanning::scan::ReadStatus;
 use scanning::task::task_body;
-use scanning::text::LineEnd;
 use scanning::text::Span;
 use scanning::text::byte_at;
-use scanning::text::line_end;
 ghost use mathlib.Core.Path.{_≡_};
 ghost use Prim.Native.Nat.{_+_, _≤_, _<_};
 ghost use lib.ListN.{length, set};
@@ -159,30 +159,31 @@ fn read_lines(s: &[u8]) -> SheetReading
     requires { ⌜ (1 ≤ length (now s)) × (length (now s) ≤ max-text) ⌝ }
     ensures { λ r. ⌜ SheetRead (now (s .entry)) (r .known) (r .status) ⌝ }
 {
-    let n = s.len();
     let mut known = Known::nothing();
-    let mut at: usize = 0;
-    let mut line: usize = 0;
-    while at < n {
-        match line_end(s, at) {
-            LineEnd::Broken => {
-                return refused_at(Refusal::Digits, line + 1);
+    let mut offset: usize = 0;
+    let mut lines: usize = 0;
+    loop {
+        match next_line(s, offset, lines) {
+            NextLine::End => {
+                break;
             }
-            LineEnd::At(end) => {
-                let digits = Span { from: at, end: end };
-                let frame = read_frame(known, s, digits);
+            NextLine::Broken(number) => {
+                return refused_at(Refusal::Digits, number);
+            }
+            NextLine::Frame(line) => {
+                let frame = read_frame(known, s, line.digits);
                 let status = frame.status;
                 if let ReadStatus::Refused(x) = status {
-                    return refused_at(x, line + 1);
+                    return refused_at(x, line.number);
                 }
                 known = frame.known;
-                at = end + 1;
-                line = line + 1;
+                offset = line.behind;
+                lines = line.number;
             }
         }
     }
     if known.equations == 0 {
-        return refused_at(Refusal::FrameOrder, line);
+        return refused_at(Refusal::FrameOrder, lines);
     }
     SheetReading {
         status: SheetStatus::Accepted,

@@ -1,54 +1,42 @@
 // Where the frames of an accepted sheet stand, and their bytes.
 use format::kind::FrameKind;
 use format::kind::kind_of;
+use reader::line::NextLine;
+use reader::reader::next_line;
 use scanning::known::Known;
-use scanning::text::LF;
-use scanning::text::LineEnd;
 use scanning::text::Span;
 use scanning::text::byte_at;
-use scanning::text::line_end;
 ghost use mathlib.Core.Path.{_≡_};
-ghost use mathlib.Core.Option.{some};
 ghost use mathlib.Core.List.{List};
 ghost use Prim.Native.Nat.{ℕ, _≤_, _<_};
-ghost use lib.ListN.{length, drop};
+ghost use lib.ListN.{length};
 ghost use Rattle.format.specs.Limits.{position-count};
-ghost use Rattle.format.specs.Lists.{entry};
 ghost use Rattle.terms.specs.Equation.{Equation};
 ghost use Rattle.terms.specs.Prefix.{equation-bytes};
-ghost use Rattle.sheet.specs.Text.{TextLine, lines-of};
 ghost use Rattle.sheet.specs.Sheet.{Task};
 ghost use Rattle.sheet.specs.Contracts.Frames.{task-frame};
-ghost use Rattle.reading.specs.Contracts.Seek.{Accepts, FrameIn, EquationIn, TaskIn, Spans, Decoded, TaskAt};
+ghost use Rattle.reading.specs.Contracts.Seek.{Accepts, AllFrames, FrameIn, EquationIn, TaskIn, Spans, Decoded, TaskAt};
 
-// Where line `n` starts; lines are numbered from 0.
-fn line_start(s: &[u8], n: usize) -> usize
-    requires { ⌜ ((line : TextLine) × (entry (lines-of (now s)) n ≡ some line)) ⌝ }
-    ensures { λ r. ⌜ entry (lines-of (drop r (now (s .entry)))) 0 ≡ entry (lines-of (now (s .entry))) n ⌝ }
-{
-    let mut at = 0;
-    let mut left = n;
-    while 0 < left {
-        if s[at] == LF {
-            left = left - 1;
-        }
-        at = at + 1;
-    }
-    at
-}
-
-// The digits of line `n`, where it is a frame.
+// The digits of line `n`, counted from 0, where the lines are frames.
 pub fn frame_at(s: &[u8], n: usize) -> Span
-    requires { ⌜ ((frame : List ℕ) × FrameIn (now s) n frame) ⌝ }
+    requires { ⌜ AllFrames (now s) × ((frame : List ℕ) × FrameIn (now s) n frame) ⌝ }
     ensures { λ r. ⌜ ((frame : List ℕ) → FrameIn (now (s .entry)) n frame → Spans (now (s .entry)) (r .from) (r .end) frame) ⌝ }
 {
-    let from = line_start(s, n);
-    match line_end(s, from) {
-        LineEnd::At(end) => Span {
-            from: from,
-            end: end,
-        },
-        LineEnd::Broken => Span { from: 0, end: 0 },
+    let mut offset: usize = 0;
+    let mut lines: usize = 0;
+    loop {
+        match next_line(s, offset, lines) {
+            NextLine::Frame(line) => {
+                if n < line.number {
+                    return line.digits;
+                }
+                offset = line.behind;
+                lines = line.number;
+            }
+            _ => {
+                return Span { from: 0, end: 0 };
+            }
+        }
     }
 }
 

@@ -5,7 +5,7 @@ use mathlib.Core.Option.{some}
 use mathlib.Core.List.{List, _++_}
 use lib.ListN.{length}
 use Rattle.format.specs.Buffer.{written}
-use Rattle.format.specs.Lists.{entry}
+use Rattle.format.specs.Lists.{Every, entry}
 use Rattle.terms.specs.Equation.{Equation, direction-number}
 use Rattle.terms.specs.Prefix.{prefix, prefixes}
 use Rattle.scanning.specs.declared.known.Known.{Known}
@@ -21,6 +21,13 @@ use Rattle.scanning.specs.Contracts.Known.{KnowsSheet}
 -- Line `n` of the text, counted from 0, is this frame.
 abbrev pub FrameIn : List ℕ → ℕ → List ℕ → Type 0
 FrameIn text n frame = (line : TextLine) × (entry (lines-of text) n ≡ some line) × (frame-of line ≡ some frame)
+
+-- Every line of the text is a frame.
+abbrev pub IsFrame : TextLine → Type 0
+IsFrame line = (frame : List ℕ) × (frame-of line ≡ some frame)
+
+abbrev pub AllFrames : List ℕ → Type 0
+AllFrames text = Every IsFrame (lines-of text)
 
 -- The text is accepted, and its sheet is known: what the reader gives of an accepted text.
 abbrev pub Accepts : List ℕ → Known → Type 0

@@ -1,0 +1,3 @@
+// Going over a sheet line by line.
+pub mod line;
+pub mod reader;
