@@ -114,18 +114,21 @@ static void mark_sheet(struct buffers *lent, size_t length, struct mark *mark)
     }
 }
 
-static void read_and_mark(struct buffers *lent, struct sheet *sheet)
+static struct mark read_and_mark(struct buffers *lent, const char *name)
 {
+    struct mark mark = {0, 0, 0, 0, 0, 0, 0, {0, 0, 0}};
     size_t length;
-    FILE *file = fopen(sheet->name, "rb");
-    sheet->mark.unread = 1;
+    FILE *file = fopen(name, "rb");
+    mark.unread = 1;
     if (file == NULL)
-        return;
+        return mark;
+    setvbuf(file, NULL, _IONBF, 0); /* it is read at once, into the lent memory */
     length = fread(lent->sheet, 1, sizeof lent->sheet, file);
-    sheet->mark.unread = ferror(file) != 0;
+    mark.unread = ferror(file) != 0;
     fclose(file);
-    if (!sheet->mark.unread)
-        mark_sheet(lent, length, &sheet->mark);
+    if (!mark.unread)
+        mark_sheet(lent, length, &mark);
+    return mark;
 }
 
 /* ---- threads ---- */
@@ -143,8 +146,8 @@ static void *mark_portions(void *argument)
         to = from + PORTION < batch->count ? from + PORTION : batch->count;
         batch->next = to;
         pthread_mutex_unlock(&batch->lock);
-        for (; from < to; from++)
-            read_and_mark(lent, &batch->sheets[from]);
+        for (; from < to; from++) /* the mark is stored once: what another thread stores beside it is then seldom in the way */
+            batch->sheets[from].mark = read_and_mark(lent, batch->sheets[from].name);
     } while (to < batch->count);
     free(lent);
     return batch;

@@ -1,13 +1,12 @@
 -- Laws for the loop over a text's lines: what is left of the text decides.
-use Prim.Native.Nat.{ℕ, suc, _+_, _-_, _≤_, _<_}
+use Prim.Native.Nat.{ℕ, suc, _+_, _≤_, _<_}
 use mathlib.Core.Path.{_≡_, refl, sym, ap, subst, _∙_}
 use mathlib.Core.Bool.{Bool, true, false, _&&_}
 use mathlib.Core.Option.{Option, none, some}
 use mathlib.Core.List.{List, [], _∷_}
-use lib.ListN.{length, take, drop, drop-of-length-le}
+use lib.ListN.{length, drop, drop-of-length-le}
 use lib.Dec.{leb}
 use borrow.Author.Tests.{le-leb, lt-leb}
-use native.Mathlib.Numerals.{add-one}
 use native.Mathlib.Omega.{arith}
 use Rattle.format.specs.Limits.{max-text}
 use Rattle.format.specs.Refusal.{Result, refuse, give}
@@ -17,7 +16,7 @@ use Rattle.scanning.specs.declared.known.Known.{Known}
 use Rattle.scanning.specs.declared.scan.ReadStatus.{ReadStatus}
 use Rattle.scanning.specs.declared.scan.ReadStatus.the-variants.{Done, Refused}
 use Rattle.reading.specs.declared.read.SheetStatus.the-variants.{Accepted, Refused as Refused-at}
-use Rattle.sheet.specs.Text.{TextLine, ended, lines-of, frame-of}
+use Rattle.sheet.specs.Text.{TextLine, lines-of, frame-of}
 use Rattle.sheet.specs.Sheet.{Sheet}
 use Rattle.sheet.specs.Frame.{State, start, within, read-frame}
 use Rattle.sheet.specs.Reading.{Reading, refused-at, accepted, read-line, finish, read-lines, read}

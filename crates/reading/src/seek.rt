@@ -6,7 +6,6 @@ use reader::reader::next_line;
 use scanning::known::Known;
 use scanning::text::Span;
 use scanning::text::byte_at;
-ghost use mathlib.Core.Path.{_≡_};
 ghost use mathlib.Core.List.{List};
 ghost use Prim.Native.Nat.{ℕ, _≤_, _<_};
 ghost use lib.ListN.{length};

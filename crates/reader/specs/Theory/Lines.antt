@@ -1,13 +1,13 @@
 -- What a line of the stated digits is: a frame, whose bytes its digits write.
 use Prim.Native.Nat.{ℕ, suc, _+_, _-_, _*_, _≤_, _<_}
-use mathlib.Core.Path.{_≡_, sym, ap, subst, _∙_}
+use mathlib.Core.Path.{_≡_, sym, ap, _∙_}
 use mathlib.Core.Option.{some}
 use mathlib.Core.List.{List, _∷_}
 use lib.ListN.{length, take, drop}
 use native.Mathlib.Omega.{arith}
 use Rattle.sheet.specs.Text.{TextLine, ended, lines-of, frame-of}
 use Rattle.sheet.specs.Theory.Text.{frame-bytes-small}
-use Rattle.scanning.specs.Contracts.Digits.{BodyReady, SpanReady, bytes-between, span-bytes}
+use Rattle.scanning.specs.Contracts.Digits.{SpanReady, bytes-between, span-bytes}
 use Rattle.reader.specs.declared.line.Line.{Line}
 use Rattle.reader.specs.Contracts.Lines.{IsLine}
 
