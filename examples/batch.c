@@ -116,13 +116,12 @@ static void mark_sheet(struct buffers *lent, size_t length, struct mark *mark)
 
 static struct mark read_and_mark(struct buffers *lent, const char *name)
 {
-    struct mark mark = {0, 0, 0, 0, 0, 0, 0, {0, 0, 0}};
+    struct mark mark = {1, 0, 0, 0, 0, 0, 0, {0, 0, 0}};
     size_t length;
     FILE *file = fopen(name, "rb");
-    mark.unread = 1;
     if (file == NULL)
         return mark;
-    setvbuf(file, NULL, _IONBF, 0); /* it is read at once, into the lent memory */
+    setvbuf(file, NULL, _IONBF, 0); /* no buffer between the file and the lent memory */
     length = fread(lent->sheet, 1, sizeof lent->sheet, file);
     mark.unread = ferror(file) != 0;
     fclose(file);
@@ -146,7 +145,7 @@ static void *mark_portions(void *argument)
         to = from + PORTION < batch->count ? from + PORTION : batch->count;
         batch->next = to;
         pthread_mutex_unlock(&batch->lock);
-        for (; from < to; from++) /* the mark is stored once: what another thread stores beside it is then seldom in the way */
+        for (; from < to; from++) /* a mark is stored once, so that threads seldom write to the same cache line */
             batch->sheets[from].mark = read_and_mark(lent, batch->sheets[from].name);
     } while (to < batch->count);
     free(lent);

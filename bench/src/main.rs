@@ -309,12 +309,13 @@ fn start_to_end(program: &Path, arguments: &[&str], sheet: &Path) {
 const LISTED: [&str; 4] =
     ["longest valid sheet", "all hard comparisons", "sorting of 40 factors", "255 steps under large tables"];
 
-/// The sheets whose listings are timed: P1, ordinary ones, special ones, and the three crowded ones with the longest listings.
+/// The sheets whose listings are timed: P1, ordinary ones, special ones, those with the longest runs, and the three crowded ones with the longest
+/// listings.
 fn listed() -> Vec<(String, Vec<u8>)> {
     let mut special = special();
     special.retain(|(name, _)| LISTED.contains(name));
     let p1 = [("start, P1's listing, end", reference::special::P1.to_vec())];
-    let named = p1.into_iter().chain(runs::ordinary()).chain(special);
+    let named = p1.into_iter().chain(runs::ordinary()).chain(special).chain(runs::long());
     let mut longest: Vec<(String, Vec<u8>)> = crowded().collect();
     longest.sort_by_cached_key(|(_, sheet)| std::cmp::Reverse(reference::listing(sheet).len()));
     longest.truncate(3);

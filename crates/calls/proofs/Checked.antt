@@ -7,7 +7,7 @@ use Rattle.format.specs.declared.refusal.Refusal.{Refusal}
 use Rattle.scanning.specs.declared.known.Known.{Known}
 use Rattle.reading.specs.declared.read.SheetStatus.{SheetStatus}
 use Rattle.reading.specs.declared.read.SheetStatus.the-variants.{Accepted, Refused}
-use Rattle.reading.specs.Contracts.Reader.{SheetRead}
+use Rattle.reading.specs.Contracts.Read.{SheetRead}
 use Rattle.reading.specs.Contracts.Seek.{Accepts}
 use Rattle.outcomes.specs.Buffer.{refusal-number}
 use Rattle.outcomes.specs.Outcome.{check-call, check-answer}

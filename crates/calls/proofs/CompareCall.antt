@@ -10,7 +10,7 @@ use Rattle.format.specs.declared.refusal.Refusal.the-variants.{ShortBuffer as s
 use Rattle.scanning.specs.declared.known.Known.{Known}
 use Rattle.reading.specs.declared.read.SheetStatus.{SheetStatus}
 use Rattle.reading.specs.declared.read.SheetStatus.the-variants.{Refused}
-use Rattle.reading.specs.Contracts.Reader.{SheetRead}
+use Rattle.reading.specs.Contracts.Read.{SheetRead}
 use Rattle.outcomes.specs.Buffer.{refusal-number}
 use Rattle.outcomes.specs.Asked.{find, asked, comparison-task}
 use Rattle.outcomes.specs.Outcome.{compare-answer, compare-call}

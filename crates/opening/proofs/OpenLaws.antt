@@ -15,7 +15,7 @@ use Rattle.scanning.specs.declared.known.Known.{Known}
 use Rattle.scanning.specs.Contracts.Scan.{known-arities}
 use Rattle.reading.specs.declared.read.SheetStatus.{SheetStatus}
 use Rattle.reading.specs.declared.read.SheetStatus.the-variants.{Accepted, Refused as Refused-at}
-use Rattle.reading.specs.Contracts.Reader.{SheetRead}
+use Rattle.reading.specs.Contracts.Read.{SheetRead}
 use Rattle.reading.specs.Contracts.Seek.{Accepts}
 use Rattle.rules.specs.declared.walks.Walks.{Walks}
 use Rattle.rules.specs.declared.walks.Walks.the-variants.{Refused, Full, Kept}

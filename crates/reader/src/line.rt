@@ -12,14 +12,14 @@ pub struct Line {
     pub behind: usize,
 }
 
-// What comes next in a sheet: a line of the stated digits; another, by its number; or the sheet's end.
+// What comes next in a sheet: a line of the stated digits, which is a frame; the number of a line that is none; or the sheet's end.
 pub enum NextLine {
     Frame(Line),
     Broken(usize),
     End,
 }
 
-// The line at `offset`, behind `lines` lines.
+// The line at `offset`, behind `lines` lines. Each line passed has at least its LF, so that the next number does not wrap.
 pub fn line_from(sheet: &[u8], offset: usize, lines: usize) -> NextLine
     requires { ⌜ lines ≤ offset ⌝ }
     ensures { λ r. ⌜ NextRead (now (sheet .entry)) offset lines r ⌝ }

@@ -25,7 +25,7 @@ use Rattle.reader.specs.declared.line.Line.{Line}
 use Rattle.reader.specs.Contracts.Lines.{IsLine}
 use Rattle.reader.specs.Theory.Lines.{line-text, line-first, line-frame, line-long, line-inside}
 use Rattle.scanning.specs.Contracts.Known.{none-known}
-use Rattle.reading.specs.Contracts.Reader.{Knows, FrameRead, SheetRead}
+use Rattle.reading.specs.Contracts.Read.{Knows, FrameRead, SheetRead}
 
 -- 1. The length of the text.
 sized : (text : List ℕ) → Bool → Reading Sheet
@@ -52,23 +52,23 @@ right-text text n h =
     both x y d e = ap (_&& y) d ∙ e
 
 -- 2. The lines passed.
-pub record Passing (text : List ℕ) (k : Known) (at line : ℕ) : Type 0 where
+pub record Passing (text : List ℕ) (k : Known) (offset lines : ℕ) : Type 0 where
   pub state : State
   pub knows : Knows k state
-  pub inside : at ≤ length text
-  pub counted : line ≤ at
-  pub same : read text ≡ read-lines state line (lines-of (drop at text))
+  pub inside : offset ≤ length text
+  pub counted : lines ≤ offset
+  pub same : read text ≡ read-lines state lines (lines-of (drop offset text))
 
 pub passing-start : (text : List ℕ) (k : Known) → 1 ≤ length text → length text ≤ max-text → none-known k → Passing text k 0 0
 passing-start text k n h g = record { state = start; knows = g; inside = omega arith; counted = omega arith; same = right-text text n h }
 
-after-line : (line : ℕ) (more : List TextLine) → Result State → Reading Sheet
-after-line line more r = elim r [ refuse x ↦ refused-at x (suc line) | give next ↦ read-lines next (suc line) more ]
+after-line : (lines : ℕ) (more : List TextLine) → Result State → Reading Sheet
+after-line lines more r = elim r [ refuse x ↦ refused-at x (suc lines) | give next ↦ read-lines next (suc lines) more ]
 
-lines-step : (state : State) (line : ℕ) (text-line : TextLine) (more : List TextLine) (r : Result State) → read-line state text-line ≡ r
-    → read-lines state line (text-line ∷ more) ≡ after-line line more r
+lines-step : (state : State) (lines : ℕ) (text-line : TextLine) (more : List TextLine) (r : Result State) → read-line state text-line ≡ r
+    → read-lines state lines (text-line ∷ more) ≡ after-line lines more r
 unfolding read-lines after-line
-lines-step state line text-line more r e = ap (after-line line more) e
+lines-step state lines text-line more r e = ap (after-line lines more) e
 
 broken-line : (state : State) (text-line : TextLine) → frame-of text-line ≡ none → read-line state text-line ≡ refuse Digits
 unfolding read-line
@@ -81,37 +81,37 @@ line-framed : (state : State) (text-line : TextLine) (bs : List ℕ) → frame-o
 unfolding read-line by-frame
 line-framed state text-line bs e = ap (by-frame state) e
 
-module _ (text : List ℕ) (k : Known) (at line : ℕ) (p : Passing text k at line) where
-  pub line-broken : {n : ℕ} → n ≡ line + 1 → NoFrame text at → read text ≡ refused-at Digits n
+module _ (text : List ℕ) (k : Known) (offset lines : ℕ) (p : Passing text k offset lines) where
+  pub line-broken : {n : ℕ} → n ≡ lines + 1 → NoFrame text offset → read text ≡ refused-at Digits n
   unfolding after-line
   line-broken {n} e f =
-      let z : suc line ≡ n = omega arith in
+      let z : suc lines ≡ n = omega arith in
       p .same
-      ∙ ap (read-lines (p .state) line) (f .is-first)
-      ∙ lines-step (p .state) line (f .line) (f .more) (refuse Digits) (broken-line (p .state) (f .line) (f .no-frame))
+      ∙ ap (read-lines (p .state) lines) (f .is-first)
+      ∙ lines-step (p .state) lines (f .line) (f .more) (refuse Digits) (broken-line (p .state) (f .line) (f .no-frame))
       ∙ ap (refused-at Digits) z
 
-  module _ (l : Line) (i : IsLine text at line l) where
+  module _ (l : Line) (i : IsLine text offset lines l) where
     -- The line's number is no greater than the text is long.
     pub line-low : l .number ≤ length text
-    line-low = omega (arith, i .number-is, line-long text at line l i, line-inside text at line l i, p .counted)
+    line-low = omega (arith, i .number-is, line-long text offset lines l i, line-inside text offset lines l i, p .counted)
 
-    passed-line : (r : Result State) → read-frame (p .state) (span-bytes text (l .digits)) ≡ r → read text ≡ after-line line (lines-of (drop (l .behind) text)) r
+    passed-line : (r : Result State) → read-frame (p .state) (span-bytes text (l .digits)) ≡ r → read text ≡ after-line lines (lines-of (drop (l .behind) text)) r
     passed-line r e =
         p .same
-        ∙ ap (read-lines (p .state) line) (line-first text at line l i)
-        ∙ lines-step (p .state) line (line-text text at line l i) (lines-of (drop (l .behind) text)) r
-        (line-framed (p .state) (line-text text at line l i) (span-bytes text (l .digits)) (line-frame text at line l i) ∙ e)
+        ∙ ap (read-lines (p .state) lines) (line-first text offset lines l i)
+        ∙ lines-step (p .state) lines (line-text text offset lines l i) (lines-of (drop (l .behind) text)) r
+        (line-framed (p .state) (line-text text offset lines l i) (span-bytes text (l .digits)) (line-frame text offset lines l i) ∙ e)
 
-    number-is : suc line ≡ l .number
-    number-is = omega (arith, i .number-is)
+    next-number : suc lines ≡ l .number
+    next-number = omega (arith, i .number-is)
 
     pub line-refused : (k′ : Known) (o : ReadStatus) {x : Refusal}
         → ((state : State) → Knows k state → FrameRead (read-frame state (span-bytes text (l .digits))) k′ o) → o ≡ Refused x
         → read text ≡ refused-at x (l .number)
     unfolding after-line
     line-refused k′ o {x} h d =
-        passed-line (refuse x) (subst (FrameRead (read-frame (p .state) (span-bytes text (l .digits))) k′) d (h (p .state) (p .knows))) ∙ ap (refused-at x) number-is
+        passed-line (refuse x) (subst (FrameRead (read-frame (p .state) (span-bytes text (l .digits))) k′) d (h (p .state) (p .knows))) ∙ ap (refused-at x) next-number
 
     pub line-next : (k′ : Known) (o : ReadStatus) → ((state : State) → Knows k state → FrameRead (read-frame state (span-bytes text (l .digits))) k′ o) → o ≡ Done
         → Passing text k′ (l .behind) (l .number)
@@ -121,38 +121,38 @@ module _ (text : List ℕ) (k : Known) (at line : ℕ) (p : Passing text k at li
         record {
           state = next;
           knows = g;
-          inside = line-inside text at line l i;
-          counted = omega (arith, p .counted, i .number-is, line-long text at line l i);
-          same = passed-line (give next) r ∙ ap (λ n. read-lines next n (lines-of (drop (l .behind) text))) number-is;
+          inside = line-inside text offset lines l i;
+          counted = omega (arith, p .counted, i .number-is, line-long text offset lines l i);
+          same = passed-line (give next) r ∙ ap (λ n. read-lines next n (lines-of (drop (l .behind) text))) next-number;
         }
 
   -- 3. The end of the text.
-  at-end : length text ≤ at → read text ≡ finish (p .state) line
+  at-end : length text ≤ offset → read text ≡ finish (p .state) lines
   unfolding lines-of read-lines
-  at-end h = p .same ∙ ap (λ xs. read-lines (p .state) line (lines-of xs)) (drop-of-length-le text h)
+  at-end h = p .same ∙ ap (λ xs. read-lines (p .state) lines (lines-of xs)) (drop-of-length-le text h)
 
-  pub no-equations : length text ≤ at → k .equations ≡ 0 → read text ≡ refused-at FrameOrder line
+  pub no-equations : length text ≤ offset → k .equations ≡ 0 → read text ≡ refused-at FrameOrder lines
   unfolding finish
   no-equations h e = at-end h ∙ go (p .state) (p .knows)
     where
-      go : (state : State) → Knows k state → finish state line ≡ refused-at FrameOrder line
+      go : (state : State) → Knows k state → finish state lines ≡ refused-at FrameOrder lines
       go start g = refl
       go (within s) g = pick (leb 1 (length (s .equations))) (lt-leb 1 (length (s .equations)) (omega (arith, g .equations-are)))
         where
           pick : (t : Bool) → t ≡ false
-              → _≡_ {A = Reading Sheet} (elim t [ true ↦ accepted s | false ↦ refused-at FrameOrder line ]) (refused-at FrameOrder line)
+              → _≡_ {A = Reading Sheet} (elim t [ true ↦ accepted s | false ↦ refused-at FrameOrder lines ]) (refused-at FrameOrder lines)
           pick true d = let z : _≡_ {A = ℕ} 0 1 = cc in absurd (omega arith)
           pick false d = refl
 
-  pub all-accepted : length text ≤ at → (k .equations ≡ 0 → ⊥) → SheetRead text k Accepted
+  pub all-accepted : length text ≤ offset → (k .equations ≡ 0 → ⊥) → SheetRead text k Accepted
   unfolding finish
   all-accepted h n = go (p .state) (p .knows) (at-end h)
     where
-      go : (state : State) → Knows k state → read text ≡ finish state line → SheetRead text k Accepted
+      go : (state : State) → Knows k state → read text ≡ finish state lines → SheetRead text k Accepted
       go start g e = absurd (n (g .1))
       go (within s) g e = (s, e ∙ pick (leb 1 (length (s .equations))) (le-leb 1 (length (s .equations)) (omega (arith, g .equations-are))), g)
         where
-          pick : (t : Bool) → t ≡ true → _≡_ {A = Reading Sheet} (elim t [ true ↦ accepted s | false ↦ refused-at FrameOrder line ]) (accepted s)
+          pick : (t : Bool) → t ≡ true → _≡_ {A = Reading Sheet} (elim t [ true ↦ accepted s | false ↦ refused-at FrameOrder lines ]) (accepted s)
           pick true d = refl
           pick false d = let z : _≡_ {A = ℕ} 0 1 = cc in absurd (omega arith)
 

@@ -27,7 +27,7 @@ use Rattle.scanning.specs.Contracts.Digits.{pair-at, bytes-between, span-bytes,
 use Rattle.scanning.specs.Contracts.Scan.{listed, known-arities, Matches, EquationGiven, task-result}
 use Rattle.scanning.specs.Contracts.Known.{KnowsSheet}
 use Rattle.reading.specs.Contracts.Symbols.{symbols-only, SymbolsRead}
-use Rattle.reading.specs.Contracts.Reader.{Knows, FrameRead}
+use Rattle.reading.specs.Contracts.Read.{Knows, FrameRead}
 use Rattle.sheet.specs.Contracts.Bytes.{Bytes}
 use Rattle.scanning.specs.Theory.Listed.{length-listed, listed-more, listed-set}
 use Rattle.scanning.specs.Theory.Between.{two-more, first-byte, byte-small, body-behind}

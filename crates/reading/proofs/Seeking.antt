@@ -28,7 +28,7 @@ use Rattle.sheet.specs.Theory.Frames.{Framed, accepted-frames}
 pub record Seeking (text : List ℕ) (n offset lines : ℕ) : Type 0 where
   pub not-passed : lines ≤ n
   pub counted : lines ≤ offset
-  pub frames : Every IsFrame (lines-of (drop offset text))
+  pub frames : AllFrames (drop offset text)
   pub same : entry (lines-of (drop offset text)) (n - lines) ≡ entry (lines-of text) n
 
 pub seeking-start : (text : List ℕ) (n : ℕ) → AllFrames text → Seeking text n 0 0

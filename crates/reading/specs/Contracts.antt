@@ -1,4 +1,4 @@
 -- What the contracts of the code cite.
-pub mod Reader
+pub mod Read
 pub mod Seek
 pub mod Symbols

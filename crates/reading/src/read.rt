@@ -23,7 +23,7 @@ ghost use Rattle.sheet.specs.Frame.{State, start, within, read-kind, read-frame
 ghost use Rattle.scanning.specs.Contracts.Digits.{span-bytes, SpanReady};
 ghost use Rattle.scanning.specs.Contracts.Scan.{FrameReady};
 ghost use Rattle.scanning.specs.Contracts.Known.{KnowsSheet};
-ghost use Rattle.reading.specs.Contracts.Reader.{Knows, FrameRead, SheetRead};
+ghost use Rattle.reading.specs.Contracts.Read.{Knows, FrameRead, SheetRead};
 
 // One more equation, with as many variables up to its highest.
 fn with_equation(known: Known, width: usize) -> Known

@@ -16,8 +16,8 @@ ghost use Rattle.sheet.specs.Sheet.{Task};
 ghost use Rattle.sheet.specs.Contracts.Frames.{task-frame};
 ghost use Rattle.reading.specs.Contracts.Seek.{Accepts, AllFrames, FrameIn, EquationIn, TaskIn, Spans, Decoded, TaskAt};
 
-// The digits of line `n`, counted from 0, where the lines are frames.
-pub fn frame_at(s: &[u8], n: usize) -> Span
+// The digits of line `n`, counted from 0, where all lines are frames.
+fn frame_at(s: &[u8], n: usize) -> Span
     requires { ⌜ AllFrames (now s) × ((frame : List ℕ) × FrameIn (now s) n frame) ⌝ }
     ensures { λ r. ⌜ ((frame : List ℕ) → FrameIn (now (s .entry)) n frame → Spans (now (s .entry)) (r .from) (r .end) frame) ⌝ }
 {
@@ -32,6 +32,7 @@ pub fn frame_at(s: &[u8], n: usize) -> Span
                 offset = line.behind;
                 lines = line.number;
             }
+            // Not met: every line is a frame, and line `n` is there.
             _ => {
                 return Span { from: 0, end: 0 };
             }

@@ -1,4 +1,4 @@
-// What the reader remembers of the lines it has passed.
+// What is remembered of the lines that are read.
 use format::limits::Limits;
 ghost use Rattle.scanning.specs.Contracts.Known.{none-known};
 

@@ -15,7 +15,7 @@ const BASE: usize = 16;
 // So many characters are tested at once.
 const BLOCK: usize = 16;
 
-pub const LF: u8 = b'\n';
+const LF: u8 = b'\n';
 
 // The digits from `from` to `end`.
 pub struct Span {

@@ -20,7 +20,7 @@ use Rattle.terms.specs.Equation.{Equation, Direction, direction-of}
 use Rattle.terms.specs.Prefix.{terms-of}
 use Rattle.sheet.specs.Sheet.{Task, run, judgement, comparison, Sheet, equation-width}
 
--- What the reader knows: nothing before the first line, then the sheet so far.
+-- What is known: nothing before the first line, then the sheet so far.
 pub data State : Type 0 where
   start : State
   within : Sheet → State

@@ -15,7 +15,7 @@ pub record IsLine (text : List ℕ) (offset lines : ℕ) (l : Line) : Type 0 whe
   pub framed : LineTo text offset (l .digits .end)
   pub behind-is : l .behind ≡ l .digits .end + 1
 
--- Behind `offset` bytes and `lines` lines comes a frame, a line that is none, or the end of the text.
+-- Behind `offset` bytes and `lines` lines comes a frame, a line that is no frame, or the end of the text.
 abbrev pub NextRead : List ℕ → (offset lines : ℕ) → NextLine → Type 0
 NextRead text offset lines (Frame l) = IsLine text offset lines l
 NextRead text offset lines (Broken n) = (n ≡ lines + 1) × (offset < length text) × NoFrame text offset

@@ -22,14 +22,15 @@ use Rattle.scanning.specs.Contracts.Known.{KnowsSheet}
 abbrev pub FrameIn : List ℕ → ℕ → List ℕ → Type 0
 FrameIn text n frame = (line : TextLine) × (entry (lines-of text) n ≡ some line) × (frame-of line ≡ some frame)
 
--- Every line of the text is a frame.
+-- The line is a frame.
 abbrev pub IsFrame : TextLine → Type 0
 IsFrame line = (frame : List ℕ) × (frame-of line ≡ some frame)
 
+-- Every line of the text is a frame.
 abbrev pub AllFrames : List ℕ → Type 0
 AllFrames text = Every IsFrame (lines-of text)
 
--- The text is accepted, and its sheet is known: what the reader gives of an accepted text.
+-- The text is accepted, and its sheet is known: what `read_sheet` gives of an accepted text.
 abbrev pub Accepts : List ℕ → Known → Type 0
 Accepts text known = (s : Sheet) × (read text ≡ accepted s) × KnowsSheet known s
 

@@ -20,11 +20,11 @@ unfoldable pub content : TextLine → List ℕ
 content (ended bs) = bs
 content (unended bs) = bs
 
-pub lines-byte : (b : ℕ) (text : List ℕ) → (b ≡ LF → ⊥) → lines-of (b ∷ text) ≡ put-byte b (lines-of text)
+lines-byte : (b : ℕ) (text : List ℕ) → (b ≡ LF → ⊥) → lines-of (b ∷ text) ≡ put-byte b (lines-of text)
 unfolding lines-of
 lines-byte b text n = rw (ne-eqb b LF n, lines-of)
 
-pub lines-LF : (text : List ℕ) → lines-of (LF ∷ text) ≡ ended [] ∷ lines-of text
+lines-LF : (text : List ℕ) → lines-of (LF ∷ text) ≡ ended [] ∷ lines-of text
 unfolding lines-of
 lines-LF text = refl
 

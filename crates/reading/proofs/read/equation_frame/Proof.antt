@@ -2,7 +2,7 @@
 use mathlib.Core.Path.{subst}
 use borrow.Author.Needs.{needs}
 use Rattle.scanning.specs.Contracts.Scan.{EquationGiven}
-use Rattle.reading.specs.Contracts.Reader.{FrameRead}
+use Rattle.reading.specs.Contracts.Read.{FrameRead}
 use Rattle.reading.proofs.Refused.{by-refused}
 use Rattle.reading.proofs.OneFrame.{after-tasks, equations-full, equation-refused, equation-done, width-given}
 use Rattle.reading.proofs.read.equation_frame.Statement.{statement}

@@ -1,6 +1,6 @@
 -- `reading::read::first_frame` reads the symbols' frame, and refuses any other.
 use borrow.Author.Needs.{needs}
-use Rattle.reading.specs.Contracts.Reader.{FrameRead}
+use Rattle.reading.specs.Contracts.Read.{FrameRead}
 use Rattle.reading.proofs.Refused.{by-refused}
 use Rattle.reading.proofs.Numbers.{not-symbols}
 use Rattle.reading.proofs.OneFrame.{first-symbols, first-refused}

@@ -3,7 +3,7 @@ use mathlib.Core.Path.{subst}
 use native.Mathlib.Omega.{arith}
 use borrow.Author.Needs.{needs}
 use Rattle.scanning.specs.Contracts.Scan.{Matches}
-use Rattle.reading.specs.Contracts.Reader.{FrameRead}
+use Rattle.reading.specs.Contracts.Read.{FrameRead}
 use Rattle.reading.proofs.Refused.{by-refused}
 use Rattle.reading.proofs.OneFrame.{before-equations, tasks-full, task-refused, task-done}
 use Rattle.reading.proofs.read.task_frame.Statement.{statement}

@@ -1,4 +1,4 @@
--- `reading::seek::frame_at` goes over the lines to one that is a frame. The loop's invariant, `Seeking`: it stands among what is left.
+-- `reading::seek::frame_at` goes over the lines to line `n`. The loop's invariant, `Seeking`: that line stands among what is left.
 use Prim.Native.Nat.{_-_}
 use mathlib.Core.Path.{subst}
 use native.Mathlib.Omega.{arith}

@@ -66,18 +66,18 @@ module _ {M : Type 1} (𝓤 : URA M) (H : Heap 𝓤) (A : Atoms 𝓤) (mem : Mem
   LineFrom = tripleOf 𝓤 H A line-from.signature (line-from.spec 𝓤 H A mem run)
 
 module _ {M : Type 1} (𝓤 : URA M) (H : Heap 𝓤) (A : Atoms 𝓤) (W : Given 𝓤 H A) (mem : Memory → SProp 𝓤) (run : Routine → Fun 𝓤) (κ : Lft) (q : Share) (d : Reader) (ok : d .lines ≤ d .offset) where
-  abbrev mach : Val
-  mach = T′.lowered d
+  abbrev reader-value : Val
+  reader-value = T′.lowered d
 
   -- what is found
   abbrev Found : NextLine → Type 0
   Found r = NextRead (now (d .sheet)) (d .offset) (d .lines) r
 
   abbrev NextPost : Val → SProp 𝓤
-  NextPost = walkOf 𝓤 H A next.ended stayed (next.clauses 𝓤 H A mem run) .post (((κ, tt), (q, tt), tt, (d, tt), (mach ∷ [], tt)), tt)
+  NextPost = walkOf 𝓤 H A next.ended stayed (next.clauses 𝓤 H A mem run) .post (((κ, tt), (q, tt), tt, (d, tt), (reader-value ∷ [], tt)), tt)
 
   abbrev ReaderOwn : Fml
-  ReaderOwn = ReaderType (κ, tt) .own d (mach ∷ [])
+  ReaderOwn = ReaderType (κ, tt) .own d (reader-value ∷ [])
 
   -- the struct's type and laws, and its fields' values
   abbrev D : Declared
@@ -86,29 +86,29 @@ module _ {M : Type 1} (𝓤 : URA M) (H : Heap 𝓤) (A : Atoms 𝓤) (W : Given
   abbrev L : LL.Laws D
   L = T′.the-laws (namedLft 1 0 tt (κ, tt))
 
-  abbrev vd : Values (D .parts)
-  vd = (d .sheet, (d .offset, (d .lines, tt)))
+  abbrev fields : Values (D .parts)
+  fields = (d .sheet, (d .offset, (d .lines, tt)))
 
-  -- what the callee is passed
-  abbrev passed : Vals line-from.signature (κ, tt)
-  passed = values (d .sheet) (d .offset) (d .lines)
+  -- what the callee is passed-values
+  abbrev passed-values : Vals line-from.signature (κ, tt)
+  passed-values = values (d .sheet) (d .offset) (d .lines)
 
   abbrev to : LineFrom 𝓤 H A mem run .Ghost
-  to = (((κ, tt), (q, tt), tt, (arguments (d .sheet) (d .offset) (d .lines)), passed), tt)
+  to = (((κ, tt), (q, tt), tt, (arguments (d .sheet) (d .offset) (d .lines)), passed-values), tt)
 
   abbrev Passed : SProp 𝓤
-  Passed = onEntry 𝓤 H A line-from.signature (κ, tt) (q, tt) (arguments (d .sheet) (d .offset) (d .lines)) passed
+  Passed = onEntry 𝓤 H A line-from.signature (κ, tt) (q, tt) (arguments (d .sheet) (d .offset) (d .lines)) passed-values
 
   asked : ent 𝓤 Passed (LineFrom 𝓤 H A mem run .pre to)
   asked = qed W (raw Passed ∷ []) ∵ says ! {φ = d .lines ≤ d .offset} {P = Passed} ok $ by ! (id⊢ 𝓤 Passed)
 
   -- what the struct owns gives what the callee asks, and is kept
   apart : d .offset < 2 ^ 64 → d .lines < 2 ^ 64
-      → ent 𝓤 (onEntry 𝓤 H A next.signature (κ, tt) (q, tt) (d, tt) (mach ∷ [], tt)) (sep 𝓤 (LineFrom 𝓤 H A mem run .pre to) (sem 𝓤 H A ReaderOwn))
+      → ent 𝓤 (onEntry 𝓤 H A next.signature (κ, tt) (q, tt) (d, tt) (reader-value ∷ [], tt)) (sep 𝓤 (LineFrom 𝓤 H A mem run .pre to) (sem 𝓤 H A ReaderOwn))
   apart fits-offset fits-lines =
-      qed W ((‵ (flft κ q) ⊛ ‵ ftrue) ∷ ‵ (owns (ReaderType (κ, tt) ∷ []) (d, tt) (mach ∷ [], tt)) ∷ []) ∵
-      move ! (1 ∷ []) $ fsplit ! $ move ! (1 ∷ []) $ drop ! $ use1 W (‵ ReaderOwn ⊛ ‵ ReaderOwn) (LL.copy D (T′.the-copy (namedLft 1 0 tt (κ, tt))) 𝓤 H A W .twice d (mach ∷ [])) $ split ! $
-      use1 W (given (mach ∷ [] ≡ mach ∷ []) (‵ (all-own (D .parts) L vd))) (own-open 𝓤 H A W D L vd mach) $ learn ! (λ _. use1 W (‵ (ownAt (D .parts) L 0 (d .sheet)) ⊛ ‵ (rest (D .parts) L 0 vd)) (own-out 𝓤 H A W (D .parts) L 0 vd) $ split ! $
+      qed W ((‵ (flft κ q) ⊛ ‵ ftrue) ∷ ‵ (owns (ReaderType (κ, tt) ∷ []) (d, tt) (reader-value ∷ [], tt)) ∷ []) ∵
+      move ! (1 ∷ []) $ fsplit ! $ move ! (1 ∷ []) $ drop ! $ use1 W (‵ ReaderOwn ⊛ ‵ ReaderOwn) (LL.copy D (T′.the-copy (namedLft 1 0 tt (κ, tt))) 𝓤 H A W .twice d (reader-value ∷ [])) $ split ! $
+      use1 W (given (reader-value ∷ [] ≡ reader-value ∷ []) (‵ (all-own (D .parts) L fields))) (own-open 𝓤 H A W D L fields reader-value) $ learn ! (λ _. use1 W (‵ (ownAt (D .parts) L 0 (d .sheet)) ⊛ ‵ (rest (D .parts) L 0 fields)) (own-out 𝓤 H A W (D .parts) L 0 fields) $ split ! $
       -- [what the slice owns; what the numbers own; what the struct owns; the token]
       move ! (1 ∷ []) $ drop ! $ nothing ! $ owned ! usize (Is usize) (uint-makes 𝓤 H A W w64) (d .lines) _ (refl, fits-lines) $ fjoin ! $
       owned ! usize (Is usize) (uint-makes 𝓤 H A W w64) (d .offset) _ (refl, fits-offset) $ fjoin ! $ move ! (1 ∷ 0 ∷ []) $ fjoin ! $
@@ -121,13 +121,13 @@ module _ {M : Type 1} (𝓤 : URA M) (H : Heap 𝓤) (A : Atoms 𝓤) (W : Given
   exits : (r : NextLine) (u : Val) → Found r → ent 𝓤 (⋆ 𝓤 H A (‵ (S.the-row .own r (u ∷ [])) ∷ (‵ (flft κ q) ⊛ ‵ ftrue) ∷ ‵ ReaderOwn ∷ [])) (NextPost u)
   exits r u e =
       qed W (‵ (S.the-row .own r (u ∷ [])) ∷ (‵ (flft κ q) ⊛ ‵ ftrue) ∷ ‵ ReaderOwn ∷ []) ∵
-      suffices ! _ (ends-at 𝓤 H A next.ended stayed (next.clauses 𝓤 H A mem run) W (((κ, tt), (q, tt), tt, (d, tt), (mach ∷ [], tt)), tt) u r (tt, tt) (tt, tt)) $ says ! e $
+      suffices ! _ (ends-at 𝓤 H A next.ended stayed (next.clauses 𝓤 H A mem run) W (((κ, tt), (q, tt), tt, (d, tt), (reader-value ∷ [], tt)), tt) u r (tt, tt) (tt, tt)) $ says ! e $
       move ! (1 ∷ []) $ frame ! $ nothing ! $ move ! (2 ∷ 0 ∷ []) $ fjoin ! $ frame ! $ done !
 
   module _ (C : Calls 𝓤 H) (Λ : Loops 𝓤 H) (fm : FmC 𝓤 H (W .laws) C) (known : Triple 𝓤 (C #line-from) (LineFrom 𝓤 H A mem run)) where
-    walk : Holds (hasTy (T′.mir (named 0)) mach) × WT mach → ent 𝓤 (onEntry 𝓤 H A next.signature (κ, tt) (q, tt) (d, tt) (mach ∷ [], tt)) (WpFn 𝓤 H C Λ code.function (mach ∷ []) NextPost)
+    walk : Holds (hasTy (T′.mir (named 0)) reader-value) × WT reader-value → ent 𝓤 (onEntry 𝓤 H A next.signature (κ, tt) (q, tt) (d, tt) (reader-value ∷ [], tt)) (WpFn 𝓤 H C Λ code.function (reader-value ∷ []) NextPost)
     walk wt =
-        qed W (raw (onEntry 𝓤 H A next.signature (κ, tt) (q, tt) (d, tt) (mach ∷ [], tt)) ∷ []) ∵ enter ! C Λ code.function (mach ∷ []) _ $
+        qed W (raw (onEntry 𝓤 H A next.signature (κ, tt) (q, tt) (d, tt) (reader-value ∷ [], tt)) ∷ []) ∵ enter ! C Λ code.function (reader-value ∷ []) _ $
         alloc1 ! (λ l₀. alloc1 ! (λ l₁. alloc1 ! (λ l₂. alloc1 ! (λ l₃. alloc1 ! (λ l₄. alloc0 ! $ params1 ! $ pass1 ! (init ! 6 refl wt) $ pass0 ! $
         assigns ! (of-opd ! (load ! (from ! (fld ! refl (stop !))) (look-in ! 6 (sub ! 0 refl (whole !))))) (from ! (stop !)) (init ! 4 refl (tt, wt .1 .0)) $
         assigns ! (of-opd ! (load ! (from ! (fld ! refl (stop !))) (look-in ! 6 (sub ! 1 refl (whole !))))) (from ! (stop !)) (init ! 2 refl (tt, wt .1 .1 .0)) $

@@ -24,7 +24,7 @@ abbrev pub FrameRead : Result State → Known → ReadStatus → Type 0
 FrameRead r k Done = (next : State) × (r ≡ give next) × Knows k next
 FrameRead r k (Refused x) = r ≡ refuse x
 
--- What every text earns: a refusal with its line, which is no greater than the text is long, or a sheet that is known.
+-- What every text earns: a refusal with its line, which is no greater than a text may be long, or a sheet that is known.
 abbrev pub SheetRead : List ℕ → Known → SheetStatus → Type 0
 SheetRead text k Accepted = (s : Sheet) × (read text ≡ accepted s) × KnowsSheet k s
 SheetRead text k (Refused-at x line) = (read text ≡ refused-at x line) × (line ≤ max-text)

@@ -1,4 +1,4 @@
--- `Reader::resumed`: a walk of its code by hand. The struct is made of the slice and the numbers passed, in the result's local. A `&[u8]` is Copy, so
+-- `Reader::at`: a walk of its code by hand. The struct is made of the slice and the numbers passed, in the result's local. A `&[u8]` is Copy, so
 -- what it owns is had twice: once for `sheet` at exit, and once inside the result, beside the facts of the numbers.
 use mathlib.Core.Path.{refl}
 use Prim.Native.Nat.{ℕ, _<_, _^_}
@@ -36,12 +36,12 @@ use Rattle.reader.specs.declared.reader.Reader.{Reader}
 use Rattle.reader.proofs.Held.{slice-value, SliceOwn, arguments, values}
 use Rattle.reader.proofs.reader.Reader as T
 use Rattle.reader.proofs.reader.Reader.Laws as T′
-use Rattle.reader.proofs.reader.Reader.resumed.Key.{name as #resumed}
-use Rattle.reader.proofs.reader.Reader.resumed as resumed
-use Rattle.reader.proofs.reader.Reader.resumed.Statement as stated
-use Rattle.reader.proofs.reader.Reader.resumed.Code as code
+use Rattle.reader.proofs.reader.Reader.at.Key.{name as #reader-at}
+use Rattle.reader.proofs.reader.Reader.at as reader-at
+use Rattle.reader.proofs.reader.Reader.at.Statement as stated
+use Rattle.reader.proofs.reader.Reader.at.Code as code
 
-abbrev stayed : Stays (resumed.ended .signature .params) (resumed.ended .kept)
+abbrev stayed : Stays (reader-at.ended .signature .params) (reader-at.ended .kept)
 stayed = (stay-none-slice (0 ∷ []) tt (plain (λ _. u8)) yes, (stay-none (λ _. usize) yes, (stay-none (λ _. usize) yes, tt)))
 
 module _ {M : Type 1} (𝓤 : URA M) (H : Heap 𝓤) (A : Atoms 𝓤) (W : Given 𝓤 H A) (mem : Memory → SProp 𝓤) (run : Routine → Fun 𝓤) (κ : Lft) (q : Share) (s : RefT (List ℕ)) (m n : ℕ) where
@@ -51,13 +51,13 @@ module _ {M : Type 1} (𝓤 : URA M) (H : Heap 𝓤) (A : Atoms 𝓤) (W : Given
   abbrev made : Reader
   made = record { sheet = s; offset = m; lines = n }
 
-  abbrev ResumedPost : Val → SProp 𝓤
-  ResumedPost = walkOf 𝓤 H A resumed.ended stayed (resumed.clauses 𝓤 H A mem run) .post (((κ, tt), (q, tt), tt, arguments s m n, values s m n), tt)
+  abbrev AtPost : Val → SProp 𝓤
+  AtPost = walkOf 𝓤 H A reader-at.ended stayed (reader-at.clauses 𝓤 H A mem run) .post (((κ, tt), (q, tt), tt, arguments s m n, values s m n), tt)
 
-  exits : m < 2 ^ 64 → n < 2 ^ 64 → ent 𝓤 (onEntry 𝓤 H A resumed.signature (κ, tt) (q, tt) (arguments s m n) (values s m n)) (ResumedPost (T′.lowered made))
+  exits : m < 2 ^ 64 → n < 2 ^ 64 → ent 𝓤 (onEntry 𝓤 H A reader-at.signature (κ, tt) (q, tt) (arguments s m n) (values s m n)) (AtPost (T′.lowered made))
   exits fits-m fits-n =
       qed W ((‵ (flft κ q) ⊛ ‵ ftrue) ∷ ‵ (owns (ShrSlice (named 0) κ u8 ∷ usize ∷ usize ∷ []) (arguments s m n) (values s m n)) ∷ []) ∵
-      suffices ! _ (ends-at 𝓤 H A resumed.ended stayed (resumed.clauses 𝓤 H A mem run) W (((κ, tt), (q, tt), tt, arguments s m n, values s m n), tt) (T′.lowered made) made (tt, (tt, (tt, tt))) (tt, (tt, (tt, tt)))) $ says ! (refl, refl, refl) $
+      suffices ! _ (ends-at 𝓤 H A reader-at.ended stayed (reader-at.clauses 𝓤 H A mem run) W (((κ, tt), (q, tt), tt, arguments s m n, values s m n), tt) (T′.lowered made) made (tt, (tt, (tt, tt))) (tt, (tt, (tt, tt)))) $ says ! (refl, refl, refl) $
       frame ! $ fsplit ! $ use1 W (‵ (SliceOwn κ s) ⊛ ‵ (SliceOwn κ s)) (shr-slice-copy 𝓤 H A W (named 0) κ u8 .twice s (slice-value s ∷ [])) $ split ! $ move ! (0 ∷ 2 ∷ []) $ fjoin ! $ frame ! $
       -- [what the slice owns]: what the fields own together, of it and of the numbers' facts, is what the struct owns
       nothing ! $ owned ! usize (Is usize) (uint-makes 𝓤 H A W w64) n _ (refl, fits-n) $ fjoin ! $ owned ! usize (Is usize) (uint-makes 𝓤 H A W w64) m _ (refl, fits-m) $ fjoin ! $
@@ -65,9 +65,9 @@ module _ {M : Type 1} (𝓤 : URA M) (H : Heap 𝓤) (A : Atoms 𝓤) (W : Given
 
   module _ (C : Calls 𝓤 H) (Λ : Loops 𝓤 H) where
     walk : Is (ShrSlice (named 0) κ u8) s (slice-value s ∷ []) → m < 2 ^ 64 → n < 2 ^ 64
-        → ent 𝓤 (onEntry 𝓤 H A resumed.signature (κ, tt) (q, tt) (arguments s m n) (values s m n)) (WpFn 𝓤 H C Λ code.function (slice-value s ∷ vint w64 m ∷ vint w64 n ∷ []) ResumedPost)
+        → ent 𝓤 (onEntry 𝓤 H A reader-at.signature (κ, tt) (q, tt) (arguments s m n) (values s m n)) (WpFn 𝓤 H C Λ code.function (slice-value s ∷ vint w64 m ∷ vint w64 n ∷ []) AtPost)
     walk p fits-m fits-n =
-        qed W (raw (onEntry 𝓤 H A resumed.signature (κ, tt) (q, tt) (arguments s m n) (values s m n)) ∷ []) ∵ enter ! C Λ code.function (slice-value s ∷ vint w64 m ∷ vint w64 n ∷ []) _ $
+        qed W (raw (onEntry 𝓤 H A reader-at.signature (κ, tt) (q, tt) (arguments s m n) (values s m n)) ∷ []) ∵ enter ! C Λ code.function (slice-value s ∷ vint w64 m ∷ vint w64 n ∷ []) _ $
         alloc1 ! (λ l₀. alloc1 ! (λ l₁. alloc1 ! (λ l₂. alloc1 ! (λ l₃. alloc0 ! $ params1 ! $
         pass1 ! (init ! 4 refl (shr-slice-lawful 𝓤 H A W (named 0) κ u8 .typed s (slice-value s ∷ []) p .0)) $ pass1 ! (init ! 2 refl (tt, record { fits = fits-m })) $ pass1 ! (init ! 0 refl (tt, record { fits = fits-n })) $ pass0 ! $
         assigns ! (agg ! (and-then ! (load ! (from ! (stop !)) (look ! 4 refl)) (and-then ! (load ! (from ! (stop !)) (look ! 2 refl)) (and-then ! (load ! (from ! (stop !)) (look ! 0 refl)) (no-more !))))) (from ! (stop !))
@@ -76,22 +76,22 @@ module _ {M : Type 1} (𝓤 : URA M) (H : Heap 𝓤) (A : Atoms 𝓤) (W : Given
         move ! (6 ∷ 7 ∷ []) $ free1 ! $ move ! (4 ∷ 5 ∷ []) $ free1 ! $ move ! (2 ∷ 3 ∷ []) $ free1 ! $ free1 ! $ free0 ! $ by ! (exits fits-m fits-n)))))
 
 module _ {M : Type 1} (𝓤 : URA M) (H : Heap 𝓤) (A : Atoms 𝓤) (W : Given 𝓤 H A) (mem : Memory → SProp 𝓤) (run : Routine → Fun 𝓤) where
-  resumed-walks : (C : Calls 𝓤 H) (Λ : Loops 𝓤 H) → Walks 𝓤 H A resumed.ended stayed (WpFn 𝓤 H C Λ code.function) (resumed.clauses 𝓤 H A mem run)
-  resumed-walks C Λ =
-      walked 𝓤 H A resumed.ended stayed (resumed.clauses 𝓤 H A mem run) (WpFn 𝓤 H C Λ code.function) (λ κs. (slice-vals, (uint-vals w64, (uint-vals w64, tt))))
+  at-walks : (C : Calls 𝓤 H) (Λ : Loops 𝓤 H) → Walks 𝓤 H A reader-at.ended stayed (WpFn 𝓤 H C Λ code.function) (reader-at.clauses 𝓤 H A mem run)
+  at-walks C Λ =
+      walked 𝓤 H A reader-at.ended stayed (reader-at.clauses 𝓤 H A mem run) (WpFn 𝓤 H C Λ code.function) (λ κs. (slice-vals, (uint-vals w64, (uint-vals w64, tt))))
       (λ κs. (shr-slice-tells (named 0) (κs .0) u8, (uint-tells w64, (uint-tells w64, tt))))
       (λ κs qs bounds a g are. via 𝓤 _ (fst∗ 𝓤 _ (emp 𝓤)) (walk 𝓤 H A W mem run (κs .0) (qs .0) (a .0) (a .1 .0) (a .1 .1 .0) C Λ (are .0) (are .1 .0 .1) (are .1 .1 .0 .1)))
 
-resumed-meets : {M : Type 1} (𝓤 : URA M) (H : Heap 𝓤) (A : Atoms 𝓤) → Given 𝓤 H A → (mem : Memory → SProp 𝓤) (run : Routine → Fun 𝓤) (𝓣 : Tables 𝓤 H)
-    → Meets 𝓤 H A resumed.signature (WpFn 𝓤 H (𝓣 .C) (𝓣 .Λ) code.function) (resumed.spec 𝓤 H A mem run)
-resumed-meets 𝓤 H A W mem run 𝓣 =
-    walk-meets 𝓤 H A resumed.ended stayed W
+at-meets : {M : Type 1} (𝓤 : URA M) (H : Heap 𝓤) (A : Atoms 𝓤) → Given 𝓤 H A → (mem : Memory → SProp 𝓤) (run : Routine → Fun 𝓤) (𝓣 : Tables 𝓤 H)
+    → Meets 𝓤 H A reader-at.signature (WpFn 𝓤 H (𝓣 .C) (𝓣 .Λ) code.function) (reader-at.spec 𝓤 H A mem run)
+at-meets 𝓤 H A W mem run 𝓣 =
+    walk-meets 𝓤 H A reader-at.ended stayed W
     (goes-none-slice 𝓤 H A W 1 (0 ∷ []) tt (plain (λ _. u8)) yes, (goes-none 𝓤 H A W 1 (λ _. usize) yes (λ κs x f. refl), (goes-none 𝓤 H A W 1 (λ _. usize) yes (λ κs x f. refl), tt)))
-    (resumed.clauses 𝓤 H A mem run) (WpFn 𝓤 H (𝓣 .C) (𝓣 .Λ) code.function) (WpFn-mono 𝓤 H (W .laws) 𝓣 code.function) (resumed-walks 𝓤 H A W mem run (𝓣 .C) (𝓣 .Λ))
+    (reader-at.clauses 𝓤 H A mem run) (WpFn 𝓤 H (𝓣 .C) (𝓣 .Λ) code.function) (WpFn-mono 𝓤 H (W .laws) 𝓣 code.function) (at-walks 𝓤 H A W mem run (𝓣 .C) (𝓣 .Λ))
 
-pub resumed-spec : {M : Type 1} → stated.statement M
+pub at-spec : {M : Type 1} → stated.statement M
 unfolding code.routine tablesOf
-resumed-spec 𝓤 H 𝓜 𝓖 𝓡 =
-    entered 𝓤 H (tripleOf 𝓤 H (𝓖 .A) resumed.signature (resumed.spec 𝓤 H (𝓖 .A) (𝓜 .mem) (𝓡 .run)))
-    (tables 𝓤 H 𝓜 𝓡 code.env .C) (tables 𝓤 H 𝓜 𝓡 code.env .Λ) #resumed code.function (code.unfolded 𝓤 H 𝓜 𝓡)
-    (resumed-meets 𝓤 H (𝓖 .A) (givenOf 𝓤 H 𝓜 𝓖) (𝓜 .mem) (𝓡 .run) (tablesOf 𝓤 H 𝓜 (tables 𝓤 H 𝓜 𝓡 code.env)))
+at-spec 𝓤 H 𝓜 𝓖 𝓡 =
+    entered 𝓤 H (tripleOf 𝓤 H (𝓖 .A) reader-at.signature (reader-at.spec 𝓤 H (𝓖 .A) (𝓜 .mem) (𝓡 .run)))
+    (tables 𝓤 H 𝓜 𝓡 code.env .C) (tables 𝓤 H 𝓜 𝓡 code.env .Λ) #reader-at code.function (code.unfolded 𝓤 H 𝓜 𝓡)
+    (at-meets 𝓤 H (𝓖 .A) (givenOf 𝓤 H 𝓜 𝓖) (𝓜 .mem) (𝓡 .run) (tablesOf 𝓤 H 𝓜 (tables 𝓤 H 𝓜 𝓡 code.env)))
