@@ -1,9 +1,12 @@
-// The classes of node bytes.
+// Bytes: the end of a line, and the classes of node bytes.
 use crate::limits::Limits;
 ghost use mathlib.Core.Path.{_≡_};
 ghost use Prim.Native.Nat.{_≤_};
 ghost use Rattle.format.specs.Limits.{max-byte};
 ghost use Rattle.format.specs.Byte.{class-of};
+
+// "then LF (byte 0a)"
+pub const LF: u8 = 0x0a;
 
 // A byte as a number of any use.
 pub fn wide(x: u8) -> usize

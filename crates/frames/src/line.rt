@@ -5,7 +5,7 @@ use lines::layout::COUNT;
 use lines::layout::FIRST_ELEMENT;
 use printing::digits::put_byte;
 use printing::digits::put_bytes;
-use printing::digits::put_feed;
+use printing::digits::put_line_feed;
 use printing::kinds::PrintedKind;
 ghost use mathlib.Core.Path.{_≡_};
 ghost use mathlib.Core.List.{List, [], _∷_, flatMap};
@@ -103,9 +103,9 @@ pub fn put_line(bytes: &[u8], nodes: &[u8], sizes: &[u8], out: &mut [u8], at: us
     ensures { λ r. ⌜ r ≤ at + line-room ⌝ }
 {
     let head = [PrintedKind::LINE, count_bindings(bytes) as u8];
-    let bindings = put_bytes(&head, out, at);
-    let count = put_bindings(bytes, nodes, sizes, out, bindings);
-    let elements = put_byte(bytes[COUNT], out, count);
-    let end = put_elements(bytes, nodes, sizes, out, elements);
-    put_feed(out, end)
+    let at_bindings = put_bytes(&head, out, at);
+    let at_count = put_bindings(bytes, nodes, sizes, out, at_bindings);
+    let at_elements = put_byte(bytes[COUNT], out, at_count);
+    let end = put_elements(bytes, nodes, sizes, out, at_elements);
+    put_line_feed(out, end)
 }

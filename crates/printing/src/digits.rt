@@ -1,4 +1,5 @@
 // Bytes as digits, appended to what stands first in a buffer: `at` bytes stand there before, and the number that is given stands there after.
+use format::byte::LF;
 ghost use mathlib.Core.Path.{_≡_};
 ghost use mathlib.Core.List.{[], _∷_};
 ghost use Prim.Native.Nat.{_+_, _*_, _≤_, _<_};
@@ -6,8 +7,6 @@ ghost use lib.ListN.{length};
 ghost use Rattle.sheet.specs.Text.{base, LF};
 ghost use Rattle.listing.specs.Listing.{digit-byte, digits, printed};
 ghost use Rattle.printing.specs.Contracts.Appended.{Appended};
-
-const FEED: u8 = 0x0a;
 
 const BASE: u8 = 16;
 
@@ -44,11 +43,11 @@ pub fn put_bytes(bytes: &[u8], out: &mut [u8], at: usize) -> usize
 }
 
 // "LF after each"
-pub fn put_feed(out: &mut [u8], at: usize) -> usize
+pub fn put_line_feed(out: &mut [u8], at: usize) -> usize
     requires { ⌜ at + 1 ≤ length (now out) ⌝ }
     ensures { λ r. ⌜ Appended (now (out .entry)) at (LF ∷ []) (now (out .exit)) r ⌝ }
 {
-    out[at] = FEED;
+    out[at] = LF;
     at + 1
 }
 
@@ -58,5 +57,5 @@ pub fn put_frame(bytes: &[u8], out: &mut [u8], at: usize) -> usize
     ensures { λ r. ⌜ Appended (now (out .entry)) at (printed (now (bytes .entry) ∷ [])) (now (out .exit)) r ⌝ }
 {
     let end = put_bytes(bytes, out, at);
-    put_feed(out, end)
+    put_line_feed(out, end)
 }

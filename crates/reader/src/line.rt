@@ -6,7 +6,7 @@ ghost use Prim.Native.Nat.{_≤_};
 ghost use Rattle.reader.specs.Contracts.Lines.{NextRead};
 
 // A line of the stated digits: its number, counted from 1, its digits, and the offset behind its LF.
-pub struct Line {
+pub struct FrameLine {
     pub number: usize,
     pub digits: Span,
     pub behind: usize,
@@ -14,7 +14,7 @@ pub struct Line {
 
 // What comes next in a sheet: a line of the stated digits, which is a frame; the number of a line that is none; or the sheet's end.
 pub enum NextLine {
-    Frame(Line),
+    Frame(FrameLine),
     Broken(usize),
     End,
 }
@@ -29,7 +29,7 @@ pub fn line_from(sheet: &[u8], offset: usize, lines: usize) -> NextLine
     }
     match line_end(sheet, offset) {
         LineEnd::Broken => NextLine::Broken(lines + 1),
-        LineEnd::At(end) => NextLine::Frame(Line {
+        LineEnd::At(end) => NextLine::Frame(FrameLine {
             number: lines + 1,
             digits: Span {
                 from: offset,

@@ -21,7 +21,7 @@ use Rattle.sheet.specs.Sheet.{Sheet}
 use Rattle.sheet.specs.Frame.{State, start, within, read-frame}
 use Rattle.sheet.specs.Reading.{Reading, refused-at, accepted, read-line, finish, read-lines, read}
 use Rattle.scanning.specs.Contracts.Digits.{span-bytes, NoFrame}
-use Rattle.reader.specs.declared.line.Line.{Line}
+use Rattle.reader.specs.declared.line.FrameLine.{FrameLine}
 use Rattle.reader.specs.Contracts.Lines.{IsLine}
 use Rattle.reader.specs.Theory.Lines.{line-text, line-first, line-frame, line-long, line-inside}
 use Rattle.scanning.specs.Contracts.Known.{none-known}
@@ -91,7 +91,7 @@ module _ (text : List ℕ) (k : Known) (offset lines : ℕ) (p : Passing text k 
       ∙ lines-step (p .state) lines (f .line) (f .more) (refuse Digits) (broken-line (p .state) (f .line) (f .no-frame))
       ∙ ap (refused-at Digits) z
 
-  module _ (l : Line) (i : IsLine text offset lines l) where
+  module _ (l : FrameLine) (i : IsLine text offset lines l) where
     -- The line's number is no greater than the text is long.
     pub line-low : l .number ≤ length text
     line-low = omega (arith, i .number-is, line-long text offset lines l i, line-inside text offset lines l i, p .counted)

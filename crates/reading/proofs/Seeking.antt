@@ -16,7 +16,7 @@ use Rattle.sheet.specs.Contracts.Frames.{equation-frame, task-frame, frames-of}
 use Rattle.sheet.specs.Reading.{accepted, read}
 use Rattle.scanning.specs.Contracts.Digits.{span-bytes, NoFrame}
 use Rattle.reader.proofs.line.NextLine.{the-type}
-use Rattle.reader.specs.declared.line.Line.{Line}
+use Rattle.reader.specs.declared.line.FrameLine.{FrameLine}
 use Rattle.reader.specs.declared.line.NextLine.{NextLine}
 use Rattle.reader.specs.declared.line.NextLine.the-variants.{Frame, Broken, End}
 use Rattle.reader.specs.Contracts.Lines.{IsLine, NextRead}
@@ -56,7 +56,7 @@ module _ (text : List ℕ) (n offset lines : ℕ) (g : Seeking text n offset lin
   seeking-other (Broken m) h t f = seeking-broken (h .2)
   seeking-other End h t f = seeking-ended h f
 
-  module _ (l : Line) (i : IsLine text offset lines l) where
+  module _ (l : FrameLine) (i : IsLine text offset lines l) where
     pub seeking-found : n < l .number → (frame : List ℕ) → FrameIn text n frame → Spans text (l .digits .from) (l .digits .end) frame
     unfolding entry
     seeking-found h frame (line, e, f) =

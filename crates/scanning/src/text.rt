@@ -1,4 +1,5 @@
 // The text of a sheet: digits, bytes of two digits, and where a line ends.
+use format::byte::LF;
 use format::limits::Limits;
 use std::num::wrapping_sub_u8;
 ghost use mathlib.Core.Path.{_≡_};
@@ -14,8 +15,6 @@ const BASE: usize = 16;
 
 // So many characters are tested at once.
 const BLOCK: usize = 16;
-
-const LF: u8 = b'\n';
 
 // The digits from `from` to `end`.
 pub struct Span {

@@ -4,12 +4,12 @@ use mathlib.Core.Path.{_≡_}
 use mathlib.Core.List.{List}
 use lib.ListN.{length}
 use Rattle.scanning.specs.Contracts.Digits.{LineTo, NoFrame}
-use Rattle.reader.specs.declared.line.Line.{Line}
+use Rattle.reader.specs.declared.line.FrameLine.{FrameLine}
 use Rattle.reader.specs.declared.line.NextLine.{NextLine}
 use Rattle.reader.specs.declared.line.NextLine.the-variants.{Frame, Broken, End}
 
 -- The line behind `offset` bytes and `lines` lines is this one: it starts there, its digits end where LF stands, and behind that the next line starts.
-pub record IsLine (text : List ℕ) (offset lines : ℕ) (l : Line) : Type 0 where
+pub record IsLine (text : List ℕ) (offset lines : ℕ) (l : FrameLine) : Type 0 where
   pub number-is : l .number ≡ lines + 1
   pub from-is : l .digits .from ≡ offset
   pub framed : LineTo text offset (l .digits .end)

@@ -8,10 +8,10 @@ use native.Mathlib.Omega.{arith}
 use Rattle.sheet.specs.Text.{TextLine, ended, lines-of, frame-of}
 use Rattle.sheet.specs.Theory.Text.{frame-bytes-small}
 use Rattle.scanning.specs.Contracts.Digits.{SpanReady, bytes-between, span-bytes}
-use Rattle.reader.specs.declared.line.Line.{Line}
+use Rattle.reader.specs.declared.line.FrameLine.{FrameLine}
 use Rattle.reader.specs.Contracts.Lines.{IsLine}
 
-module _ (text : List ℕ) (offset lines : ℕ) (l : Line) (i : IsLine text offset lines l) where
+module _ (text : List ℕ) (offset lines : ℕ) (l : FrameLine) (i : IsLine text offset lines l) where
   pub line-text : TextLine
   line-text = ended (take (l .digits .end - offset) (drop offset text))
 

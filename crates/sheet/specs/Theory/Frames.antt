@@ -3,7 +3,7 @@ use Prim.Native.Nat.{ℕ, zero, suc}
 use mathlib.Core.Path.{_≡_, refl, sym, ap, ap₂, subst, _∙_}
 use mathlib.Core.Bool.{Bool, true, false, _&&_}
 use mathlib.Core.Option.{Option, none, some}
-use mathlib.Core.List.{List, [], _∷_, _++_, map, append-assoc, append-nil}
+use mathlib.Core.List.{List, [], _∷_, _++_, map, append-assoc, append-nil, map-append}
 use lib.ListN.{length}
 use lib.Dec.{leb, ltb, eqb}
 use borrow.Author.Tests.{eqb-true}
@@ -75,10 +75,6 @@ module _ (s : Sheet) (v : Valid s) where
 abbrev pub frames-so-far : State → List (List ℕ)
 frames-so-far start = []
 frames-so-far (within s) = frames-of s
-
-map-append : {A B : Type 0} (f : A → B) (xs ys : List A) → map f (xs ++ ys) ≡ map f xs ++ map f ys
-map-append f [] ys = refl
-map-append f (x ∷ xs) ys = ap (f x ∷_) (map-append f xs ys)
 
 equation-added : (s : Sheet) (e : Equation) → takes-equation s ≡ true → frames-so-far (with-equation s e) ≡ frames-of s ++ (equation-frame e ∷ [])
 unfolding takes-equation with-equation frames-of

@@ -40,9 +40,9 @@ put-elements-requires c κs =
     let count = c .before .before .before .put-byte .ensures in
     (start .pre .0, omega (arith, count .ends, count .same-length, at-put-bindings .put-bindings .ensures .1, at-out .out2 .given, head .ends, head .same-length, start .pre .1))
 
-put-feed-requires : tie.Need-put-feed-requires
+put-line-feed-requires : tie.Need-put-line-feed-requires
 unfolding digits
-put-feed-requires c κs =
+put-line-feed-requires c κs =
     let at-put-byte = c .before .before .before .before .before .before .before in
     let at-out = at-put-byte .before .before .before .before in
     let at-put-bindings = at-out .before in
@@ -65,7 +65,7 @@ returns c =
     let bindings = at-put-bindings .put-bindings .ensures in
     let count = at-put-byte .put-byte .ensures in
     let elements = at-put-elements .put-elements .ensures in
-    let feed = c .before .before .put-feed .ensures in
+    let feed = c .before .before .put-line-feed .ensures in
     let n = at-count-bindings .count-bindings in (
       λ e θ es r. line-appended e θ es (n .ensures .0 _ _ e θ es r) (record-count r) head (bindings .0 e θ es r) count (elements .0 e θ es r) feed,
       omega (arith, feed .ends, elements .1, count .ends, bindings .1, head .ends),
@@ -83,6 +83,6 @@ put-line-spec =
     shared-slice-read-put-byte
     put-byte-requires
     put-elements-requires
-    put-feed-requires
+    put-line-feed-requires
     (λ c. search needs)
     returns)
