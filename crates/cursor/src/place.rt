@@ -1,5 +1,8 @@
 // How far the listing has come.
 use scanning::known::Known;
+ghost use mathlib.Core.Path.{_≡_};
+ghost use mathlib.Core.Logic.{_↔_};
+ghost use mathlib.Core.Bool.{true};
 
 // Where the listing goes on: nothing is printed yet; the table of a rule; a line of a rule's table, with its number from 0 and the number of lines; a task, with the
 // steps of the runs before it; nothing is left.
@@ -9,6 +12,19 @@ pub enum Place {
     Line(usize, usize, usize),
     Task(usize, usize),
     End,
+}
+
+// Whether nothing is left to print.
+pub fn is_end(place: Place) -> bool
+    ensures { λ r. ⌜ (r ≡ true) ↔ (place ≡ Place.End) ⌝ }
+{
+    match place {
+        Place::Start => false,
+        Place::Table(_) => false,
+        Place::Line(_, _, _) => false,
+        Place::Task(_, _) => false,
+        Place::End => true,
+    }
 }
 
 // The place, what is known of the sheet, and whether the lines of all rules are kept together for its runs.

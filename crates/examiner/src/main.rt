@@ -1,6 +1,7 @@
 // The program: it reads a sheet from standard input and prints its listing. Everything but reading and writing is `pieces`.
 use cursor::place::Cursor;
 use cursor::place::Place;
+use cursor::place::is_end;
 use format::limits::Limits;
 use libc::STDIN_FILENO;
 use libc::STDOUT_FILENO;
@@ -8,28 +9,12 @@ use pieces::next::next_piece;
 use rules::rows::ROWS;
 use rules::walks::BOUNDS;
 use scanning::known::Known;
-ghost use mathlib.Core.Path.{_≡_};
-ghost use mathlib.Core.Logic.{_↔_};
-ghost use mathlib.Core.Bool.{true};
 
 // One byte more than a sheet may have, so that a longer input is refused as too long.
 const INPUT: usize = Limits::TEXT + 1;
 
 // Room for several frames of lines at once.
 const OUT: usize = 65536;
-
-// Whether nothing is left to print.
-fn is_end(place: Place) -> bool
-    ensures { λ r. ⌜ (r ≡ true) ↔ (place ≡ Place.End) ⌝ }
-{
-    match place {
-        Place::Start => false,
-        Place::Table(_) => false,
-        Place::Line(_, _, _) => false,
-        Place::Task(_, _) => false,
-        Place::End => true,
-    }
-}
 
 // Prints piece after piece. An output that fails or is closed ends it.
 fn print_listing(input: &[u8]) {

@@ -3,8 +3,8 @@ use Prim.Native.Nat.{ℕ}
 use mathlib.Core.Path.{_≡_, refl}
 use native.Mathlib.Omega.{arith}
 use borrow.Author.Needs.{needs}
-use Rattle.examiner.proofs.is_end.Statement.{statement}
-use Rattle.examiner.proofs.is_end.Tie as tie
+use Rattle.cursor.proofs.place.is_end.Statement.{statement}
+use Rattle.cursor.proofs.place.is_end.Tie as tie
 
 returns : tie.Need-returns
 returns c = let x = c .enum-told .given .1 in (λ f. let z : _≡_ {A = ℕ} 0 1 = cc in absurd (omega arith), λ e. let z : _≡_ {A = ℕ} 0 1 = cc in absurd (omega arith))
