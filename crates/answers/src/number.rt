@@ -2,9 +2,9 @@
 use format::refusal::Refusal;
 use format::refusal::number_of;
 ghost use mathlib.Core.Path.{_≡_};
-ghost use Prim.Native.Nat.{_≤_, _<_};
+ghost use Prim.Native.Nat.{_≤_};
 ghost use Rattle.format.specs.Limits.{max-text};
-ghost use Rattle.outcomes.specs.Buffer.{field-limit, fields, refusal-number};
+ghost use Rattle.outcomes.specs.Buffer.{fields, refusal-number};
 
 // What each field counts: the first stands above the refusal's byte, and each has 16 bits.
 const FIRST: u64 = 256;
@@ -25,8 +25,7 @@ pub fn refusal_number(why: Refusal, line: usize) -> u64
 }
 
 // Three fields of 16 bits above the lowest byte, which tells that nothing is refused.
-pub fn fields_number(first: usize, second: usize, third: usize) -> u64
-    requires { ⌜ (first < field-limit) × (second < field-limit) × (third < field-limit) ⌝ }
+pub fn fields_number(first: u16, second: u16, third: u16) -> u64
     ensures { λ r. ⌜ r ≡ fields first second third ⌝ }
 {
     FIRST * (first as u64) + SECOND * (second as u64) + THIRD * (third as u64)

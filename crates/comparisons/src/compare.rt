@@ -92,7 +92,7 @@ pub fn compare_task(sheet: &[u8], known: Known, task: u64, scratch: &mut [u8]) -
     match head {
         TaskHead::Comparison => {
             let verdict = compare_terms(sheet, known, found.from, found.end, scratch);
-            fields_number(wide(number_of_verdict(verdict)), 0, 0)
+            fields_number(number_of_verdict(verdict) as u16, 0, 0)
         }
         TaskHead::Run(_) => refusal_number(Refusal::AbsentArgument, 0),
         TaskHead::Judgement(_, _) => refusal_number(Refusal::AbsentArgument, 0),

@@ -45,7 +45,7 @@ impl Limits {
 
     pub const LINES: usize = 255;
 
-    pub const TURNS: usize = 10000;
+    pub const TURNS: u16 = 10000;
 
     // What stands in a record for no binding, and behind the last element.
     pub const NO_POSITION: u8 = 255;

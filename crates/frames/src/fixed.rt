@@ -5,44 +5,49 @@ use ordering::verdict::Verdict;
 use ordering::verdict::number_of_verdict;
 use printing::digits::put_frame;
 use printing::kinds::PrintedKind;
+ghost use mathlib.Core.Path.{_≡_};
 ghost use mathlib.Core.List.{[], _∷_};
 ghost use Prim.Native.Nat.{_+_, _*_, _/_, _%_, _≤_, _<_};
 ghost use lib.ListN.{length};
-ghost use Rattle.format.specs.Limits.{max-text, max-equations, max-lines, max-turns, max-tasks, max-steps};
+ghost use Rattle.format.specs.Limits.{max-text, max-equations, max-lines, max-tasks, max-steps};
 ghost use Rattle.ordering.specs.Verdict.{verdict-number};
 ghost use Rattle.listing.specs.Listing.{printed, two-bytes, refusal-frame, table-kind, judgement-frame, comparison-kind, total-kind};
 ghost use Rattle.printing.specs.Contracts.Appended.{Appended};
 ghost use Rattle.frames.specs.Contracts.Room.{refusal-room, table-room, judgement-room, comparison-room, total-room};
 
-// "two bytes, high first": how many values a byte has.
-const BYTE: usize = 256;
+// How many values a byte has.
+const BYTE: u16 = 256;
+
+// "two bytes, high first"
+fn two_bytes(number: u16) -> [u8; 2]
+    ensures { λ r. ⌜ r ≡ two-bytes number ⌝ }
+{
+    [(number / BYTE) as u8, (number % BYTE) as u8]
+}
 
 // "only 'ff', number, line in two bytes"
 pub fn put_refusal(why: Refusal, line: usize, out: &mut [u8], at: usize) -> usize
     requires { ⌜ (line ≤ max-text) × (at + refusal-room ≤ length (now out)) ⌝ }
     ensures { λ r. ⌜ Appended (now (out .entry)) at (printed (refusal-frame why line ∷ [])) (now (out .exit)) r ⌝ }
 {
-    let frame = [
-        PrintedKind::REFUSAL,
-        number_of(why) as u8,
-        (line / BYTE) as u8,
-        (line % BYTE) as u8,
-    ];
+    let line = two_bytes(line as u16);
+    let frame = [PrintedKind::REFUSAL, number_of(why) as u8, line[0], line[1]];
     put_frame(&frame, out, at)
 }
 
 // "for each equation and direction '11', equation, direction, lines, turns (two bytes, high first)"
-pub fn put_table(rule: usize, lines: usize, turns: usize, out: &mut [u8], at: usize) -> usize
-    requires { ⌜ (rule < 2 * max-equations) × (lines ≤ max-lines) × (turns ≤ max-turns) × (at + table-room ≤ length (now out)) ⌝ }
+pub fn put_table(rule: usize, lines: usize, turns: u16, out: &mut [u8], at: usize) -> usize
+    requires { ⌜ (rule < 2 * max-equations) × (lines ≤ max-lines) × (at + table-room ≤ length (now out)) ⌝ }
     ensures { λ r. ⌜ Appended (now (out .entry)) at (printed ((table-kind ∷ rule / 2 ∷ rule % 2 ∷ lines ∷ two-bytes turns) ∷ [])) (now (out .exit)) r ⌝ }
 {
+    let turns = two_bytes(turns);
     let frame = [
         PrintedKind::TABLE,
         (rule / 2) as u8,
         (rule % 2) as u8,
         lines as u8,
-        (turns / BYTE) as u8,
-        (turns % BYTE) as u8,
+        turns[0],
+        turns[1],
     ];
     put_frame(&frame, out, at)
 }
@@ -74,10 +79,7 @@ pub fn put_total(steps: usize, out: &mut [u8], at: usize) -> usize
     requires { ⌜ (steps ≤ max-tasks * max-steps) × (at + total-room ≤ length (now out)) ⌝ }
     ensures { λ r. ⌜ Appended (now (out .entry)) at (printed ((total-kind ∷ two-bytes steps) ∷ [])) (now (out .exit)) r ⌝ }
 {
-    let frame = [
-        PrintedKind::TOTAL,
-        (steps / BYTE) as u8,
-        (steps % BYTE) as u8,
-    ];
+    let steps = two_bytes(steps as u16);
+    let frame = [PrintedKind::TOTAL, steps[0], steps[1]];
     put_frame(&frame, out, at)
 }

@@ -109,7 +109,7 @@ fn judge_walked(
             if line == 0 {
                 0
             } else {
-                fields_number(1, line, 0)
+                fields_number(1, line as u16, 0)
             }
         }
     }

@@ -135,5 +135,9 @@ pub fn run_term(
         log,
     );
     let ending = course.ending;
-    fields_number(course.steps, number_of_ending(ending), course.size)
+    fields_number(
+        course.steps as u16,
+        number_of_ending(ending) as u16,
+        course.size as u16,
+    )
 }

@@ -26,7 +26,7 @@ use Rattle.sheet.specs.Theory.Accepted.{accepted-valid}
 use Rattle.reading.specs.Theory.Found.{equation-few, equation-asked}
 use Rattle.solving.specs.Line.{records}
 use Rattle.solving.specs.Walk.{Walked, solve}
-use Rattle.solving.specs.Theory.Solve.{solved-line-count, solved-turn-count}
+use Rattle.solving.specs.Theory.Solve.{solved-line-count}
 use Rattle.solver.specs.declared.positions.WalkEnd.the-variants.{Solved, Refused}
 use Rattle.solver.specs.declared.positions.WalkResult.{WalkResult as Reported}
 use Rattle.outcomes.specs.Buffer.{field-limit, fields, refusal-number, filled, cleared, blanked}
@@ -67,12 +67,12 @@ module _ (equation : ℕ) (scratch : List ℕ) {w : Walked} {table after : List 
       ∙ ap (λ b. table-outcome n b (cleared scratch)) (sym b)
       ∙ ap (table-outcome n blank) (sym c)
 
--- The counts of a walk that solves fit their fields.
-pub counts-low : (d : Direction) {bytes arities table after : List ℕ} {e : Equation} {told : Reported} → EquationIs bytes arities e → Reports (solve e d) table after told → told .ending ≡ Solved
-    → (told .lines < field-limit) × (told .turns < field-limit)
-counts-low d {table = table} {after} {e} {told} is t x =
+-- The number of lines of a walk that solves fits its field.
+pub lines-low : (d : Direction) {bytes arities table after : List ℕ} {e : Equation} {told : Reported} → EquationIs bytes arities e → Reports (solve e d) table after told → told .ending ≡ Solved
+    → told .lines < field-limit
+lines-low d {table = table} {after} {e} {told} is t x =
     let (ls, y, l, a) = subst (λ f. ReportsEnd (solve e d) table after f (told .lines) (told .turns)) x (t .ends) in
-    (omega (arith, l, solved-line-count e (is .limits) d ls (told .turns) y), omega (arith, solved-turn-count e (is .limits) d ls (told .turns) y))
+    omega (arith, l, solved-line-count e (is .limits) d ls (told .turns) y)
 
 no-direction : (n : ℕ) → 2 ≤ n → direction-of n ≡ none
 unfolding direction-of

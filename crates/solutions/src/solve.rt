@@ -39,7 +39,7 @@ fn solve_bytes(
     fill(scratch, Limits::SCRATCH, 0);
     let ending = walked.ending;
     match ending {
-        WalkEnd::Solved => fields_number(walked.lines, walked.turns, 0),
+        WalkEnd::Solved => fields_number(walked.lines as u16, walked.turns, 0),
         WalkEnd::Refused(why) => {
             fill(table, Limits::TABLE, Limits::NO_POSITION);
             refusal_number(why, equation + FIRST_EQUATION_LINE)

@@ -33,7 +33,7 @@ pub enum WalkEnd {
 pub struct WalkResult {
     pub ending: WalkEnd,
     pub lines: usize,
-    pub turns: usize,
+    pub turns: u16,
 }
 
 // "at first the one line with s > t and no binding"

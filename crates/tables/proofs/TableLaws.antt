@@ -8,7 +8,7 @@ use native.Mathlib.Decide.{ℕ-discrete}
 use native.Mathlib.Nat.{min-le-right}
 use lib.ListN.{length, getD, take, drop, length-map, length-take, length-drop}
 use lib.Seq.{take-suc, getD-drop}
-use Rattle.format.specs.Limits.{max-equations, max-lines, max-turns, record-bytes}
+use Rattle.format.specs.Limits.{max-equations, max-lines, record-bytes}
 use Rattle.format.specs.declared.refusal.Refusal.{Refusal}
 use Rattle.format.specs.Lists.{entry}
 use Rattle.terms.specs.Equation.{Equation, Direction}
@@ -16,7 +16,7 @@ use Rattle.terms.specs.Contracts.Limits.{positions}
 use Rattle.solving.specs.Line.{Bindings, Element, Line, line, records}
 use Rattle.solving.specs.Theory.Records.{length-records}
 use Rattle.solving.specs.Walk.{solved, solve, Solves}
-use Rattle.solving.specs.Theory.Solve.{solved-lines, solved-turn-count}
+use Rattle.solving.specs.Theory.Solve.{solved-lines}
 use Rattle.solver.specs.declared.positions.WalkEnd.the-variants.{Solved, Refused}
 use Rattle.solver.specs.declared.positions.WalkResult.{WalkResult as Reported}
 use Rattle.solver.specs.Contracts.Reports.{LeavesEnd, Leaves}
@@ -61,9 +61,6 @@ module _ {equations lengths : List ℕ} {rule : ℕ} (has : HasRuleIn equations 
 
     pub lines-few : told .lines ≤ max-lines
     lines-few = ends .3
-
-    pub turns-few : told .turns ≤ max-turns
-    turns-few = solved-turn-count (has .equation) (has .is .row .limits) (has .direction) (ends .0) (told .turns) (ends .1)
 
 module _ {equations lengths : List ℕ} {rule : ℕ} (memory : List ℕ) (told : Reported) (leaves : LeavesRule equations lengths rule memory told)
     {arities : List ℕ} (es : List Equation) (rows : RowsAre equations lengths arities es) (low : rule < 2 * length es) where

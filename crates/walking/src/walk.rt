@@ -44,7 +44,7 @@ pub struct Walk {
     pub target: usize,
     pub done: usize,
     pub top: usize,
-    pub turns: usize,
+    pub turns: u16,
 }
 
 // Whether the walk goes on.
@@ -74,7 +74,7 @@ impl Walk {
         }
     }
 
-    // A turn after which the first unfinished line is at `top`.
+    // A turn after which the first unfinished line is at `top`. The count is below its limit, so that one more still fits 16 bits.
     fn turned(self, top: usize) -> Walk
         requires { ⌜ self .turns < max-turns ⌝ }
         ensures { λ r. ⌜ r ≡ record { source = self .source; target = self .target; done = self .done; top = top; turns = self .turns + 1 } ⌝ }

@@ -1,7 +1,5 @@
 -- `compare_task` is compare on an accepted sheet.
 
-use mathlib.Core.Path.{_∙_}
-use native.Mathlib.Omega.{arith}
 use borrow.Author.Needs.{needs}
 use Rattle.comparisons.proofs.CompareTask.{task-absent, run-there, judgement-there, pair-has, comparison-there, known-roomy}
 use Rattle.comparisons.proofs.compare.compare_task.Statement.{statement}
@@ -30,11 +28,11 @@ compare-terms-requires c κs =
 number-of-verdict-requires : tie.Need-number-of-verdict-requires
 number-of-verdict-requires c κs = search needs
 
-wide-requires : tie.Need-wide-requires
-wide-requires c κs = search needs
+cast-fields-number : tie.Need-cast-fields-number
+cast-fields-number c = search needs
 
 fields-number-requires : tie.Need-fields-number-requires
-fields-number-requires c κs = (omega (arith, c .wide .ensures .1), omega arith, omega arith)
+fields-number-requires c κs = search needs
 
 enum-told-2 : tie.Need-enum-told-2
 enum-told-2 c = search needs
@@ -53,12 +51,12 @@ same-length c = search needs
 
 returns-2 : tie.Need-returns-2
 returns-2 c =
-    let told = c .before .before .before .before .before in
+    let told = c .before .before .before .before in
     let found = told .before .before .before .before in
     let start = found .before .before .before .before in
     let compared = told .compare-terms in
     comparison-there _ (start .args .scratch .now) _ _ (start .pre .0) (found .before .if1 .left) (found .find-task .result) (found .find-task .ensures) (told .before .before .enum-told .given .1)
-    (compared .result) _ (compared .ensures .0) (c .before .wide .ensures .0 ∙ c .before .before .number-of-verdict .ensures) (c .fields-number .ensures) (compared .ensures .1)
+    (compared .result) _ (compared .ensures .0) (c .before .number-of-verdict .ensures) (c .fields-number .ensures) (compared .ensures .1)
 
 returns-3 : tie.Need-returns-3
 returns-3 c =
@@ -82,7 +80,7 @@ compare-task-spec =
     enum-told
     compare-terms-requires
     number-of-verdict-requires
-    wide-requires
+    cast-fields-number
     fields-number-requires
     enum-told-2
     refusal-number-requires-2

@@ -6,12 +6,14 @@ use Rattle.frames.proofs.fixed.put_total.Tie as tie
 
 returns : tie.Need-returns
 unfolding two-bytes
-returns c = c .before .before .put-frame .ensures
+returns c = rw (c .before .before .before .before .before .two-bytes .ensures) at (c .before .before .put-frame .ensures)
 
 pub put-total-spec : {M : Type 1} → statement M
 put-total-spec =
     tie.close
     (tie.spec
+    (λ c. search needs)
+    (λ c κs. search needs)
     (λ c. search needs)
     (λ c. search needs)
     (λ c. search needs)

@@ -15,9 +15,9 @@ refusal-number-requires c κs = refused-fits (c .before .before .before .before 
 judge-values-requires : tie.Need-judge-values-requires
 judge-values-requires c κs = let start = c .before .before .before .before .before .before .before .before .before in (values-has (start .pre .0 .are) (c .before .before .judged2 .given .1), start .pre .1)
 
-fields-number-requires : tie.Need-fields-number-requires
-fields-number-requires c κs =
-    (omega arith, line-low (c .before .before .before .before .before .before .before .before .before .before .before .before .before .pre .0 .are) (c .before .before .before .before .before .before .judged2 .given .1) (c .before .before .before .judge-values .ensures .0), omega arith)
+cast-fields-number : tie.Need-cast-fields-number
+cast-fields-number c =
+    omega (arith, line-low (c .before .before .before .before .before .before .before .before .before .before .before .before .before .pre .0 .are) (c .before .before .before .before .before .before .judged2 .given .1) (c .before .before .before .judge-values .ensures .0))
 
 returns : tie.Need-returns
 returns c = (λ es i e d ts j. refused-told j (c .before .before .judged .given .1) (c .refusal-number .ensures), refl)
@@ -47,7 +47,8 @@ judge-walked-spec =
     refusal-number-requires
     (λ c. search needs)
     judge-values-requires
-    fields-number-requires
+    cast-fields-number
+    (λ c κs. search needs)
     returns
     same-length
     returns-2

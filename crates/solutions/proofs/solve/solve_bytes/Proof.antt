@@ -1,29 +1,28 @@
 -- `solve_bytes` is solve on an equation's bytes.
 use native.Mathlib.Omega.{arith}
 use borrow.Author.Needs.{needs}
-use Rattle.solutions.proofs.SolveTask.{walk-cleared, walk-solved, walk-refused, counts-low}
+use Rattle.solutions.proofs.SolveTask.{walk-cleared, walk-solved, walk-refused, lines-low}
 use Rattle.solver.specs.Theory.Equation.{some-direction}
 use Rattle.solutions.proofs.solve.solve_bytes.Statement.{statement}
 use Rattle.solutions.proofs.solve.solve_bytes.Tie as tie
 
-fields-number-requires : tie.Need-fields-number-requires
-fields-number-requires c κs =
-    let at-solve-equation = c .before .before .before .before .before .before .before .before .before .before in
+cast-fields-number : tie.Need-cast-fields-number
+cast-fields-number c =
+    let at-solve-equation = c .before .before .before .before .before .before .before .before .before .before .before in
     let start = at-solve-equation .before .before .before .before .before .before .before in
     let pre = start .pre in
     let is = pre .0 .0 .is in
     let (d, x) = some-direction _ (pre .0 .2) in
-    let (lines, turns) = counts-low d is (at-solve-equation .solve-equation .ensures .0 _ d is x) (c .enum-told .given .1) in
-    (lines, turns, omega arith)
+    omega (arith, lines-low d is (at-solve-equation .solve-equation .ensures .0 _ d is x) (c .before .enum-told .given .1))
 
 returns : tie.Need-returns
 returns c =
-    let at-fill = c .before .before .before .before .before in
+    let at-fill = c .before .before .before .before .before .before in
     let at-solve-equation = at-fill .before .before .before .before .before .before in
     let start = at-solve-equation .before .before .before .before .before .before .before in
     let scratch = start .args .scratch .now in
     let walked = at-solve-equation .solve-equation in
-    λ e d is x. walk-solved _ scratch (walked .ensures .0 e d is x) (c .before .enum-told .given .1) (c .fields-number .ensures) (walk-cleared scratch _ _ (walked .ensures .1) (at-fill .fill .ensures))
+    λ e d is x. walk-solved _ scratch (walked .ensures .0 e d is x) (c .before .before .enum-told .given .1) (c .fields-number .ensures) (walk-cleared scratch _ _ (walked .ensures .1) (at-fill .fill .ensures))
 
 returns-2 : tie.Need-returns-2
 returns-2 c =
@@ -43,7 +42,8 @@ solve-bytes-spec =
     (λ c κs. search needs)
     (λ c κs. search needs)
     (λ c. search needs)
-    fields-number-requires
+    cast-fields-number
+    (λ c κs. search needs)
     (λ c. search needs)
     (λ c κs. search needs)
     (λ c. search needs)

@@ -1,5 +1,5 @@
 -- `list_table` walks a rule and prints the first frame of its table.
-use Rattle.tables.proofs.TableLaws.{rule-few, lines-few, turns-few, never-refused, table-given}
+use Rattle.tables.proofs.TableLaws.{rule-few, lines-few, never-refused, table-given}
 use borrow.Author.Needs.{needs}
 use Rattle.tables.proofs.table.list_table.Statement.{statement}
 use Rattle.tables.proofs.table.list_table.Tie as tie
@@ -11,7 +11,7 @@ put-table-requires c κs =
     let walked = at-walk-rule .walk-rule in
     let memory = walked .last .1 .1 .1 .0 in
     let solves = c .before .enum-told .given .1 in
-    (rule-few (start .pre .0) memory (walked .result) (walked .ensures .0), lines-few (start .pre .0) memory (walked .result) (walked .ensures .0) solves, turns-few (start .pre .0) memory (walked .result) (walked .ensures .0) solves, start .pre .2)
+    (rule-few (start .pre .0) memory (walked .result) (walked .ensures .0), lines-few (start .pre .0) memory (walked .result) (walked .ensures .0) solves, start .pre .2)
 
 returns : tie.Need-returns
 returns c =
