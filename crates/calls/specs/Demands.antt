@@ -1,11 +1,12 @@
--- Demands 2 and 3 over what the calls give, each a proposition beside its words. Theory proves them: Verdicts, Tables, Runs. The contracts of
--- the five calls (src/) equate what the code gives with these outcomes, so that the demands speak of the code.
-use Prim.Native.Nat.{ℕ, _≤_, _<_}
+-- Demands 2 and 3 over what the calls give, and W10 of document 02 over the definitions, each a proposition beside its words. Theory proves them: Verdicts,
+-- Tables, Runs, Termination. The contracts of the five calls (src/) equate what the code gives with these outcomes, so that the demands speak of the code.
+use Prim.Native.Nat.{ℕ, suc, _≤_, _<_}
 use mathlib.Core.Path.{_≡_}
 use mathlib.Core.Logic.{_⊎_, _↔_}
-use mathlib.Core.Bool.{true}
+use mathlib.Core.Bool.{true, false}
 use mathlib.Core.Option.{none, some}
 use mathlib.Core.List.{List, [], _∷_}
+use mathlib.Core.WellFounded.{Acc}
 use lib.ListN.{length}
 use Rattle.format.specs.Limits.{variable-count, position-count, max-elements, scratch-bytes}
 use Rattle.format.specs.Refusal.{number}
@@ -13,15 +14,20 @@ use Rattle.format.specs.declared.refusal.Refusal.the-variants.{ShortBuffer as s
 use Rattle.format.specs.Buffer.{written}
 use Rattle.format.specs.Lists.{entry}
 use Rattle.terms.specs.Term.{Term, Ground, Values, inst}
-use Rattle.terms.specs.Equation.{Equation, Direction, direction-of, source, target, value}
+use Rattle.terms.specs.Equation.{Equation, Direction, direction-of, source, target, source-position, target-position, view, value}
 use Rattle.ordering.specs.Order.{_≻_}
+use Rattle.ordering.specs.Below.{Below}
 use Rattle.sheet.specs.Sheet.{Sheet, run, comparison}
 use Rattle.sheet.specs.Reading.{accepted, read}
 use Rattle.solving.specs.Line.{Bindings, Element, equal, greater, Line, line, records}
-use Rattle.solving.specs.Walk.{solved, solve, Solves}
+use Rattle.solving.specs.Walk.{Fuel, AtLeast, solved, walk-within, solve, Solves}
 use Rattle.solving.specs.Holds.{SomeLineHolds}
+use Rattle.reducing.specs.declared.ending.Ending.the-variants.{NoneFound as none-found}
 use Rattle.reducing.specs.Run.{Descending}
 use Rattle.reducing.specs.Test.{line-run, reference-run, EverySolves}
+use Rattle.termination.specs.Walk.{slots, enough-for, no-limit, walk-allowed, WalkEnds}
+use Rattle.termination.specs.Reduction.{Reduces}
+use Rattle.termination.specs.Run.{RunEnds}
 use Rattle.outcomes.specs.Buffer.{fields, refusal-byte}
 use Rattle.outcomes.specs.Outcome.{compare-call, table-fits, solve-call, run-fits, run-done, run-call}
 
@@ -163,3 +169,64 @@ abbrev pub RunRefusedByHost : Type 0
 RunRefusedByHost =
     (sheet : List ℕ) (s : Sheet) (task : ℕ) (table scratch term log : List ℕ) → read sheet ≡ accepted s
     → EverySolves (s .equations) → ServedOrHost (run-call sheet task table scratch term log .returned)
+
+-- Document 02, W10: "The syllabus states that ground reduction cannot go on forever, and we want it as a fact about our definitions."
+
+-- "no endless sequence of ground terms over a sheet descends by L1 to L3", whatever the sheet: `arities` are those of its symbols. In the field's words the
+-- ordering is well-founded on these terms, that is, each of them is accessible: `Acc` is the least property that holds of a term wherever it holds of every
+-- term below it.
+abbrev pub GroundTermsAccessible : Type 0
+GroundTermsAccessible = (arities : List ℕ) (t : Term) → Ground arities t → Acc (Below arities) t
+
+-- In plain words: in every endless sequence of ground terms there is a term that does not exceed the next.
+abbrev pub NoEndlessDescent : Type 0
+NoEndlessDescent = (arities : List ℕ) (sequence : ℕ → Term) → ((i : ℕ) → Ground arities (sequence i)) → (i : ℕ) × ¬ (sequence i ≻ sequence (suc i))
+
+-- "ground reduction cannot go on forever": on an accepted sheet, from a ground term, whichever steps are chosen.
+abbrev pub NoEndlessReduction : Type 0
+NoEndlessReduction =
+    (sheet : List ℕ) (s : Sheet) → read sheet ≡ accepted s → (terms : ℕ → Term) → Ground (s .arities) (terms 0) → ¬ ((i : ℕ) → Reduces (s .equations) (terms i) (terms (suc i)))
+
+-- Where every direction solves, each step of a run is such a step (`step-reduces`, termination/specs/Theory/Runs). So there is no endless run: on every accepted
+-- sheet where every direction solves, the run with unlimited steps and without the limit of 160 nodes ends for every ground term.
+abbrev pub RunsEnd : Type 0
+RunsEnd = (sheet : List ℕ) (s : Sheet) → read sheet ≡ accepted s → EverySolves (s .equations) → (subject : Term) → Ground (s .arities) subject → RunEnds (s .equations) subject
+
+-- It has one end.
+abbrev pub RunsEndOnce : Type 0
+RunsEndOnce = (es : List Equation) (subject : Term) (u v : RunEnds es subject) → u .steps ≡ v .steps
+
+-- Where the run of document 01, with any step limit, ends because no step is found (ending 00), both have the same steps.
+abbrev pub RunsEndAlike : Type 0
+RunsEndAlike = (es : List Equation) (k : ℕ) (subject : Term) → line-run es k subject .ending ≡ none-found → (unlimited : RunEnds es subject) → unlimited .steps ≡ line-run es k subject .steps
+
+-- "the walk, written without its three limits, ends for every pair of terms": for every equation, that is, any two terms of any size with any number of
+-- variables, in each direction. A proof of this is a total function, which gives the last table and the number of turns.
+abbrev pub WalksEnd : Type 0
+WalksEnd = (e : Equation) (d : Direction) → WalkEnds e d
+
+-- It has one end.
+abbrev pub WalksEndOnce : Type 0
+WalksEndOnce = (e : Equation) (d : Direction) (u v : WalkEnds e d) → (u .table ≡ v .table) × (u .turns ≡ v .turns)
+
+-- The depth of its recursions through the bindings is no limit either: no larger depth changes the walk, whatever number of turns is allowed.
+abbrev pub DepthIsNoLimit : Type 0
+DepthIsNoLimit =
+    (e : Equation) (d : Direction) (fuel : Fuel) → AtLeast (enough-for e) fuel → (most : ℕ)
+    → walk-within fuel (view e) no-limit (λ table. false) most (slots e) (source-position e d) (target-position e d) ≡ walk-allowed e d most
+
+-- "and on a direction that solves with that direction's table and turns"
+abbrev pub WalksEndAsSolved : Type 0
+WalksEndAsSolved =
+    (sheet : List ℕ) (s : Sheet) → read sheet ≡ accepted s → (e : ℕ) (q : Equation) → entry (s .equations) e ≡ some q → (d : Direction) (solves : Solves q d)
+    → (unlimited : WalkEnds q d) → (unlimited .table ≡ solves .table) × (unlimited .turns ≡ solves .turns)
+
+-- And so with what solve gives: the number has the counts, and the table's first bytes are the records, of the walk without its limits.
+pub record UnlimitedDemand (sheet : List ℕ) (e d : ℕ) (table scratch : List ℕ) : Type 0 where
+  pub named : DirectionNamed sheet e d
+  pub unlimited : WalkEnds (named .equation) (named .direction)
+  pub counts : solve-call sheet e d table scratch .returned ≡ fields (length (unlimited .table)) (unlimited .turns) 0
+  pub bytes : solve-call sheet e d table scratch .table ≡ written (records (unlimited .table)) table
+
+abbrev pub WalksEndAsGiven : Type 0
+WalksEndAsGiven = (sheet : List ℕ) (e d : ℕ) (table scratch : List ℕ) → Served (solve-call sheet e d table scratch .returned) → UnlimitedDemand sheet e d table scratch

@@ -4,3 +4,4 @@ pub mod Determined
 pub mod Runs
 pub mod Tables
 pub mod Verdicts
+pub mod Termination

@@ -1,3 +1,4 @@
 pub mod Order
+pub mod Below
 pub mod Theory
 pub mod Verdict

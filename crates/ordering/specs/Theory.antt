@@ -1,8 +1,10 @@
 -- The laws of the ordering.
+pub mod Accessible
 pub mod Subterm
 pub mod Laws
 pub mod Context
 pub mod Decide
+pub mod Descent
 pub mod Total
 pub mod Verdict
 pub mod Question

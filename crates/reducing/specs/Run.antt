@@ -33,6 +33,11 @@ pub record Run : Type 0 where
 unfoldable pub after-step : Step → Run → Run
 after-step s r = record { steps = s ∷ r .steps; ending = r .ending }
 
+-- "result above 160 nodes"
+unfoldable pub large-result : Term → Bool
+unfolding size
+large-result t = ltb max-task-nodes (size t)
+
 module _ (test : Equation → Direction → Values → Bool) where
   -- One direction at one position of the subject: "usable, whose source side matches (a repeated variable meets identical terms)" and whose match passes the test.
   -- "The matched part becomes the target's instance."
@@ -71,18 +76,23 @@ module _ (test : Equation → Direction → Values → Bool) where
   unfolding try-positions subterms
   step es subject = try-positions es subject 0 (subterms subject)
 
-  -- "Before each step: none found, ending 00; k steps done, ending 01; result above 160 nodes, ending 02; else the step."
-  unfoldable pub run : List Equation → (k : ℕ) → (subject : Term) → Run
-  unfolding step after-step size
-  run es zero subject = elim (step es subject) [ none ↦ record { steps = []; ending = none-found } | some s ↦ record { steps = []; ending = limit-reached } ]
-  run es (suc k) subject =
+  -- "Before each step: none found, ending 00; k steps done, ending 01; result above 160 nodes, ending 02; else the step." `large` tells which results are too large.
+  unfoldable pub run-within : (large : Term → Bool) → List Equation → (k : ℕ) → (subject : Term) → Run
+  unfolding step after-step
+  run-within large es zero subject = elim (step es subject) [ none ↦ record { steps = []; ending = none-found } | some s ↦ record { steps = []; ending = limit-reached } ]
+  run-within large es (suc k) subject =
       elim (step es subject) [
         | none ↦ record { steps = []; ending = none-found }
-        | some s ↦ elim (ltb max-task-nodes (size (s .result))) [
+        | some s ↦ elim (large (s .result)) [
           | true ↦ record { steps = []; ending = result-too-large }
-          | false ↦ after-step s (run es k (s .result))
+          | false ↦ after-step s (run-within large es k (s .result))
         ]
       ]
+
+  -- The run of document 01: within its limit on results.
+  unfoldable pub run : List Equation → (k : ℕ) → (subject : Term) → Run
+  unfolding run-within large-result
+  run = run-within large-result
 
 -- "The terms of a run are its frame's term and then the result of each step." The last of them: "Ending 02 keeps the term before it."
 unfoldable pub last-term : Term → List Step → Term

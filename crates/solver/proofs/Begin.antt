@@ -10,7 +10,7 @@ use Rattle.format.specs.Limits.{variable-count, no-position, max-lines, max-tur
 use Rattle.format.specs.declared.refusal.Refusal.{Refusal}
 use Rattle.solving.specs.Line.{no-bindings, records}
 use Rattle.solving.specs.Walk.{Walked, enough, walk-from, walk}
-use Rattle.solving.specs.Theory.Whole.{no-bindings-proper}
+use Rattle.solving.specs.Theory.Whole.{no-bindings-proper, walk-opens}
 use Rattle.walking.specs.declared.walk.Walk.{Walk}
 use Rattle.walking.specs.declared.walk.Advanced.{Advanced}
 use Rattle.walking.specs.declared.walk.Progress.{Progress}
@@ -51,7 +51,7 @@ module _ {nodes sizes : List ℕ} (laid : InPrefixForm nodes sizes) (s t : ℕ) 
 
   pub opening-walks : (memory memory′ line : List ℕ) → length memory ≡ memory-bytes → line ≡ resting-bytes (opening-line s t) → memory′ ≡ placed (first-place * line-bytes) line memory
       → Walking nodes sizes memory′ at-first
-  unfolding lines-bytes records walk
+  unfolding lines-bytes records
   opening-walks memory memory′ line l b e =
       let k : length line ≡ line-bytes = ap length b ∙ well-formed-length (opening-line s t) opening-well-formed in
       let room : first-place * line-bytes + length line ≡ length memory = omega arith in
@@ -74,7 +74,7 @@ module _ {nodes sizes : List ℕ} (laid : InPrefixForm nodes sizes) (s t : ℕ) 
           all-well-formed = (opening-well-formed, tt);
         };
         turns-within = omega arith;
-        leads = ap (λ l. walk-from enough (view-of nodes sizes) max-turns 0 (l ∷ [])) (opening-means s t);
+        leads = ap (λ l. walk-from enough (view-of nodes sizes) max-turns 0 (l ∷ [])) (opening-means s t) ∙ walk-opens enough (view-of nodes sizes) s t;
       }
 
 -- 2. From turn to turn.

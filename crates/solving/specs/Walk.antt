@@ -1,5 +1,5 @@
 -- The walk that solves s > t (document 01), over what stands at each position.
-use Prim.Native.Nat.{ℕ, zero, suc, _<_}
+use Prim.Native.Nat.{ℕ, zero, suc, _≤_, _<_}
 use mathlib.Core.Path.{_≡_}
 use mathlib.Core.Bool.{Bool, true, false}
 use mathlib.Core.Option.{Option, none, some, Option·map}
@@ -13,7 +13,7 @@ use Rattle.format.specs.declared.refusal.Refusal.the-variants.{TooManyTurns as 
 use Rattle.format.specs.Lists.{any}
 use Rattle.terms.specs.Position.{Node, var-node, app-node}
 use Rattle.terms.specs.Equation.{Equation, Direction, view, source-position, target-position}
-use Rattle.solving.specs.Line.{Bindings, no-bindings, lookup, bind, Element, equal, greater, Line, line}
+use Rattle.solving.specs.Line.{Bindings, unbound, lookup, bind, Element, equal, greater, Line, line}
 
 -- How deep the recursions through the bindings may go. `enough` is what the walk takes: a variable is bound to a term or to a higher
 -- variable, and no descent meets more positions than there are. No larger fuel changes a turn of a table that the walk comes to (Theory/Fuel).
@@ -24,6 +24,12 @@ pub record Fuel : Type 0 where
 
 abbrev pub enough : Fuel
 enough = record { hops = variable-count; occurs-depth = suc position-count; unify-depth = suc position-count }
+
+-- At least as much of each.
+pub record AtLeast (least fuel : Fuel) : Type 0 where
+  pub more-hops : least .hops ≤ fuel .hops
+  pub deeper-occurs : least .occurs-depth ≤ fuel .occurs-depth
+  pub deeper-unify : least .unify-depth ≤ fuel .unify-depth
 
 -- "Terms are seen through the bindings: a bound variable stands for its term, repeatedly."
 unfoldable pub bound-to : Bindings → Node → Option ℕ
@@ -115,6 +121,10 @@ unfoldable pub over-limit : List Line → Option Refusal
 unfolding any crowded
 over-limit table = elim (any crowded table) [ true ↦ some too-many-elements | false ↦ elim (ltb max-lines (length table)) [ true ↦ some too-many-lines | false ↦ none ] ]
 
+-- "at first the one line with s > t and no binding"
+unfoldable pub opening : (vars s t : ℕ) → List Line
+opening vars s t = line (unbound vars) (greater s t ∷ []) ∷ []
+
 module _ (fuel : Fuel) (view : ℕ → Node) where
   unfoldable pub follow : ℕ → Bindings → ℕ → ℕ
   unfolding bound-to
@@ -187,15 +197,20 @@ module _ (fuel : Fuel) (view : ℕ → Node) where
         | some new ↦ elim (over new) [ some r ↦ refused r | none ↦ elim (stop new) [ true ↦ solved new (suc taken) | false ↦ walk-until over stop left (suc taken) new ] ]
       ]
 
-  -- The walk of document 01: within its limits, and to its end.
+  -- The walk of document 01 from a table: within its limits, and to its end.
   unfoldable pub walk-from : (left taken : ℕ) → List Line → Walked
   unfolding walk-until over-limit
   walk-from = walk-until over-limit (λ table. false)
 
-  -- "at first the one line with s > t and no binding"; "At most 10,000 turns."
+  -- The walk that solves s > t, for any limits on tables (`over`) and turns (`most`) and any test that stops it (`stop`). Each line has `vars` slots for bindings.
+  unfoldable pub walk-within : (over : List Line → Option Refusal) → (stop : List Line → Bool) → (most vars : ℕ) → (s t : ℕ) → Walked
+  unfolding walk-until opening
+  walk-within over stop most vars s t = walk-until over stop most 0 (opening vars s t)
+
+  -- The walk of document 01: "At most 10,000 turns."
   unfoldable pub walk : (s t : ℕ) → Walked
-  unfolding walk-from no-bindings
-  walk s t = walk-from max-turns 0 (line no-bindings (greater s t ∷ []) ∷ [])
+  unfolding walk-within over-limit
+  walk = walk-within over-limit (λ table. false) max-turns variable-count
 
 -- The walk of one direction of an equation.
 unfoldable pub solve : Equation → Direction → Walked

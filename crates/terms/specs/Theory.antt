@@ -1,6 +1,7 @@
 -- Laws of terms and positions.
 pub mod Induction
 pub mod Position
+pub mod Subterms
 pub mod Limits
 pub mod Positions
 pub mod View

@@ -27,6 +27,11 @@ every-getD P [] i d h k = k
 every-getD P (x ∷ xs) zero d h k = h .0
 every-getD P (x ∷ xs) (suc i) d h k = every-getD P xs i d (h .1) k
 
+pub every-at : {A : Type 0} (P : A → Type 0) (xs : List A) (i : ℕ) (d : A) → Every P xs → i < length xs → P (getD xs i d)
+every-at P [] i d h l = absurd (omega arith)
+every-at P (x ∷ xs) zero d h l = h .0
+every-at P (x ∷ xs) (suc i) d h l = every-at P xs i d (h .1) (omega arith)
+
 pub getD-map : {A B : Type 0} (f : A → B) (xs : List A) (i : ℕ) (d : A) → getD (map f xs) i (f d) ≡ f (getD xs i d)
 getD-map f [] i d = refl
 getD-map f (x ∷ xs) zero d = refl

@@ -1,16 +1,20 @@
--- The variables of a pattern: each met a term in a match, and those of a usable direction's target are among those of its source.
+-- The variables of a pattern: each met a term in a match, and those of a usable direction's target are among those of its source, so that it has a ground instance where
+-- the source has.
 use Prim.Native.Nat.{ℕ, suc}
 use mathlib.Core.Path.{_≡_, refl, sym, _∙_}
 use mathlib.Core.Bool.{Bool, true, false, _||_, _&&_}
 use mathlib.Core.Logic.{inl, inr}
 use mathlib.Core.Option.{Option, none, some}
+use mathlib.Core.List.{List}
 use native.Mathlib.Decide.{ℕ-discrete}
 use native.Mathlib.Omega.{arith}
 use lib.ListN.{getD, length-replicate}
 use lib.Dec.{T, eqb, eqb→eq, eqb-refl}
 use Rattle.format.specs.Limits.{variable-count}
-use Rattle.terms.specs.Term.{Term, Terms, var, app, nil, cons, Values}
+use Rattle.terms.specs.Term.{Term, Terms, var, app, nil, cons, Ground, Grounds, Values, inst, insts}
+use Rattle.terms.specs.Contracts.Fits.{Fits}
 use Rattle.terms.specs.Contracts.Limits.{VariablesBelow}
+use Rattle.terms.specs.Theory.Ground.{instance-ground}
 use Rattle.terms.specs.Theory.Variables.{VariablesIn, AllVariablesIn}
 use Rattle.reducing.specs.Match.{Match, no-match, match, values-of, has-variable, have-variable, covered, all-covered}
 use Rattle.reducing.specs.Theory.Match.{Agrees, values-fit, match-extends, match-sound, either, same-instance-agrees}
@@ -100,3 +104,22 @@ module _ (s : Term) (v : ℕ) where
     all-covered-has (cons t ts) c h =
         let (a, b) = both (covered t s) (all-covered ts s) c in
         elim (either (has-variable v t) (have-variable v ts) h) [ inl x ↦ covered-has t a x | inr x ↦ all-covered-has ts b x ]
+
+module _ (arities : List ℕ) (ρ : Values) where
+  -- A variable of a term whose instance is ground has a ground value.
+  mutual
+    unfolding has-variable inst
+
+    value-ground : (s : Term) (v : ℕ) → has-variable v s ≡ true → Ground arities (inst ρ s) → Ground arities (ρ v)
+    value-ground (var w) v e g = rw (eqb→eq v w (rw e tt)) g
+    value-ground (app f ss) v e g = values-ground ss v e (g .2)
+
+    values-ground : (ss : Terms) (v : ℕ) → have-variable v ss ≡ true → Grounds arities (insts ρ ss) → Ground arities (ρ v)
+    values-ground nil v e g = let z : _≡_ {A = ℕ} 0 1 = cc in absurd (omega arith)
+    values-ground (cons s ss) v e g = elim (either (has-variable v s) (have-variable v ss) e) [ inl x ↦ value-ground s v x (g .0) | inr x ↦ values-ground ss v x (g .1) ]
+
+  -- The instance of a term all of whose variables occur in one with a ground instance.
+  pub covered-ground : (t s : Term) → Fits arities t → covered t s ≡ true → Ground arities (inst ρ s) → Ground arities (inst ρ t)
+  covered-ground t s f c g =
+      let Has : ℕ → Type 0 = λ v. has-variable v s ≡ true in
+      instance-ground arities ρ Has (λ v h. value-ground s v h g) t f (variables-are Has t (λ v x. covered-has s v t c x))

@@ -10,7 +10,7 @@ use Rattle.terms.specs.Position.{Node, var-node, app-node}
 use Rattle.terms.specs.Theory.View.{In, head, tail, Layout}
 use Rattle.solving.specs.Line.{Bindings, bind, Element, equal, greater, Line, line}
 use Rattle.format.specs.declared.refusal.Refusal.{Refusal}
-use Rattle.solving.specs.Walk.{Fuel, reach, occurs, bind-unless, unify-variables, unify-each, unify-nodes, unify, Treatment, fully-reduced, becomes, in-front, behind, treat-greater, treat, treat-leftmost, treat-line, turn, over-limit, Walked, solved, refused, walk-until, walk-from}
+use Rattle.solving.specs.Walk.{Fuel, reach, occurs, bind-unless, unify-variables, unify-each, unify-nodes, unify, Treatment, fully-reduced, becomes, in-front, behind, treat-greater, treat, treat-leftmost, treat-line, turn, Walked, solved, refused, walk-until}
 use Rattle.solving.specs.Theory.Seen.{bound-variable, variable-bound}
 use Rattle.solving.specs.Contracts.Seen.{Occurs}
 use Rattle.solving.specs.Theory.Rank.{rank, rank-le, rank-down}
@@ -151,20 +151,22 @@ module _ {fuel₁ fuel₂ : Fuel} {view : ℕ → Node} {vars n : ℕ} (lay : La
       replaced : Option (List Line) → Option (List Line) → Option (List Line)
       replaced o rest = elim o [ some new ↦ some (new ++ ls) | none ↦ Option·map (line θ es ∷_) rest ]
 
-  pub walk-from-fuel : (left taken : ℕ) (table : List Line) → ProperTable view vars n table → walk-from fuel₁ view left taken table ≡ walk-from fuel₂ view left taken table
-  unfolding walk-from
-  walk-from-fuel zero taken table h = rw (turn-fuel table h, walk-from, walk-until)
-  walk-from-fuel (suc left) taken table h = rw (turn-fuel table h, walk-from, walk-until) (go (walk-from-fuel left (suc taken)) (turn fuel₂ view table) refl)
-    where
-      IH : Type 0
-      IH = (new : List Line) → ProperTable view vars n new → walk-from fuel₁ view left (suc taken) new ≡ walk-from fuel₂ view left (suc taken) new
+  module _ (over : List Line → Option Refusal) (stop : List Line → Bool) where
+    pub walk-until-fuel : (left taken : ℕ) (table : List Line) → ProperTable view vars n table → walk-until fuel₁ view over stop left taken table ≡ walk-until fuel₂ view over stop left taken table
+    unfolding walk-until
+    walk-until-fuel zero taken table h = rw (turn-fuel table h, walk-until)
+    walk-until-fuel (suc left) taken table h = rw (turn-fuel table h, walk-until) (go (walk-until-fuel left (suc taken)) (turn fuel₂ view table) refl)
+      where
+        IH : Type 0
+        IH = (new : List Line) → ProperTable view vars n new → walk-until fuel₁ view over stop left (suc taken) new ≡ walk-until fuel₂ view over stop left (suc taken) new
 
-      limited : Option Refusal → Walked → Walked
-      limited o w = elim o [ some r ↦ refused r | none ↦ w ]
+        limited : List Line → Walked → Walked
+        limited new w = elim (over new) [ some r ↦ refused r | none ↦ elim (stop new) [ true ↦ solved new (suc taken) | false ↦ w ] ]
 
-      next : (List Line → Walked) → Option (List Line) → Walked
-      next k o = elim o [ none ↦ solved table taken | some new ↦ limited (over-limit new) (k new) ]
+        next : (List Line → Walked) → Option (List Line) → Walked
+        next k o = elim o [ none ↦ solved table taken | some new ↦ limited new (k new) ]
 
-      go : IH → (o : Option (List Line)) → turn fuel₂ view table ≡ o → next (walk-from fuel₁ view left (suc taken)) o ≡ next (walk-from fuel₂ view left (suc taken)) o
-      go ih none e = refl
-      go ih (some new) e = ap (limited (over-limit new)) (ih new (turn-proper lay suf₂ table new h e))
+        go : IH → (o : Option (List Line)) → turn fuel₂ view table ≡ o
+            → next (walk-until fuel₁ view over stop left (suc taken)) o ≡ next (walk-until fuel₂ view over stop left (suc taken)) o
+        go ih none e = refl
+        go ih (some new) e = ap (limited new) (ih new (turn-proper lay suf₂ table new h e))

@@ -11,7 +11,7 @@ use Rattle.format.specs.Limits.{variable-count, position-count}
 use Rattle.terms.specs.Position.{Node, var-node, app-node}
 use Rattle.terms.specs.Theory.View.{In, head, tail, Layout}
 use Rattle.solving.specs.Line.{Bindings}
-use Rattle.solving.specs.Walk.{Fuel, enough, bound-to, follow, reach, occurs-in, occurs}
+use Rattle.solving.specs.Walk.{Fuel, AtLeast, enough, bound-to, follow, reach, occurs-in, occurs}
 use Rattle.solving.specs.Contracts.Bindings.{Proper}
 use Rattle.solving.specs.Theory.Seen.{bound-variable, reaches-unique}
 use Rattle.solving.specs.Contracts.Seen.{Reaches, stays, goes, Occurs, here, inside}
@@ -25,6 +25,13 @@ pub record Sufficient (vars n : ℕ) (fuel : Fuel) : Type 0 where
 
 pub enough-suffices : {n : ℕ} → n ≤ position-count → Sufficient variable-count n enough
 enough-suffices l = record { hops-suffice = omega arith; occurs-suffices = omega arith; unify-suffices = omega arith }
+
+pub more-suffices : {vars n : ℕ} {least fuel : Fuel} → Sufficient vars n least → AtLeast least fuel → Sufficient vars n fuel
+more-suffices s a = record {
+  hops-suffice = omega (arith, s .hops-suffice, a .more-hops);
+  occurs-suffices = omega (arith, s .occurs-suffices, a .deeper-occurs);
+  unify-suffices = omega (arith, s .unify-suffices, a .deeper-unify);
+}
 
 any-found : (f : ℕ → Bool) (ps : List ℕ) → any f ps ≡ true → (c : ℕ) × In c ps × (f c ≡ true)
 unfolding any

@@ -2,6 +2,7 @@
 use Prim.Native.Nat.{ℕ, _*_, _≤_}
 use mathlib.Core.Path.{_≡_}
 use mathlib.Core.Logic.{_↔_}
+use mathlib.Core.Bool.{false}
 use mathlib.Core.List.{List}
 use lib.ListN.{length}
 use native.Mathlib.Omega.{arith}
@@ -14,9 +15,9 @@ use Rattle.terms.specs.Theory.Positions.{source-at, target-at, source-within, t
 use Rattle.terms.specs.Theory.View.{layout, model}
 use Rattle.ordering.specs.Order.{_≻_}
 use Rattle.solving.specs.Line.{Line, records}
-use Rattle.solving.specs.Walk.{Fuel, enough, solved, turn, walk, solve}
+use Rattle.solving.specs.Walk.{Fuel, AtLeast, enough, solved, over-limit, turn, walk, solve}
 use Rattle.solving.specs.Holds.{SomeLineHolds}
-use Rattle.solving.specs.Theory.Reach.{Sufficient, enough-suffices}
+use Rattle.solving.specs.Theory.Reach.{Sufficient, enough-suffices, more-suffices}
 use Rattle.solving.specs.Theory.Table.{ProperTable}
 use Rattle.solving.specs.Theory.Fuel.{turn-fuel}
 use Rattle.solving.specs.Theory.Invariant.{Ended}
@@ -26,29 +27,18 @@ use Rattle.solving.specs.Theory.Written.{written-lines}
 use Rattle.solving.specs.Theory.Records.{length-records, records-fit, AllBelow, records-are-bytes}
 use Rattle.solving.specs.Theory.Whole.{Kept, walk-kept, walk-exact, walk-fuel}
 
--- At least as much fuel.
-pub record AtLeast (least fuel : Fuel) : Type 0 where
-  pub more-hops : least .hops ≤ fuel .hops
-  pub deeper-occurs : least .occurs-depth ≤ fuel .occurs-depth
-  pub deeper-unify : least .unify-depth ≤ fuel .unify-depth
-
 module _ (e : Equation) (w : WithinLimits e) where
   enough-here : Sufficient variable-count (positions e) enough
   enough-here = enough-suffices (positions-few w)
 
-  more-here : (fuel : Fuel) → AtLeast enough fuel → Sufficient variable-count (positions e) fuel
-  more-here fuel a =
-      let few = positions-few w in
-      record { hops-suffice = a .more-hops; occurs-suffices = omega (arith, a .deeper-occurs); unify-suffices = omega (arith, a .deeper-unify) }
-
   -- More fuel changes no turn, and not the walk.
   pub more-fuel-turn : (fuel : Fuel) → AtLeast enough fuel → (table : List Line) → ProperTable (view e) variable-count (positions e) table → turn fuel (view e) table ≡ turn enough (view e) table
-  more-fuel-turn fuel a table h = turn-fuel (layout e w) (more-here fuel a) enough-here table h
+  more-fuel-turn fuel a table h = turn-fuel (layout e w) (more-suffices enough-here a) enough-here table h
 
   module _ (d : Direction) where
     pub solve-fuel : (fuel : Fuel) → AtLeast enough fuel → walk fuel (view e) (source-position e d) (target-position e d) ≡ solve e d
-    unfolding solve
-    solve-fuel fuel a = walk-fuel (layout e w) (more-here fuel a) enough-here (source-position e d) (target-position e d) (source-within e d) (target-within e d)
+    unfolding solve walk
+    solve-fuel fuel a = walk-fuel (layout e w) (more-suffices enough-here a) enough-here over-limit (λ table. false) max-turns (source-position e d) (target-position e d) (source-within e d) (target-within e d)
 
     module _ (table : List Line) (n : ℕ) (done : solve e d ≡ solved table n) where
       -- The source's instance exceeds the target's exactly if some line of the table holds.

@@ -2,23 +2,25 @@
 use Prim.Native.Nat.{ℕ, zero, suc, _-_, _<_}
 use mathlib.Core.Path.{_≡_, refl}
 use mathlib.Core.Logic.{inl, inr, _↔_}
+use mathlib.Core.Bool.{Bool}
 use mathlib.Core.Option.{Option, none, some}
 use mathlib.Core.List.{List, [], _∷_}
 use lib.ListN.{getD, replicate, length-replicate}
 use native.Mathlib.Omega.{arith}
 use Rattle.format.specs.Limits.{variable-count, max-turns}
+use Rattle.format.specs.declared.refusal.Refusal.{Refusal}
 use Rattle.terms.specs.Term.{Term, Values}
 use Rattle.terms.specs.Position.{Node}
 use Rattle.terms.specs.Theory.View.{Layout, Model}
 use Rattle.ordering.specs.Order.{_≻_}
 use Rattle.solving.specs.Line.{no-bindings, unbound, lookup, greater, Line, line}
-use Rattle.solving.specs.Walk.{Fuel, solved, over-limit, turn, walk}
+use Rattle.solving.specs.Walk.{Fuel, solved, over-limit, opening, turn, walk-from, walk-within, walk}
 use Rattle.solving.specs.Holds.{SomeLineHolds}
 use Rattle.solving.specs.Theory.Seen.{bound-variable}
 use Rattle.solving.specs.Theory.Reach.{Sufficient}
 use Rattle.solving.specs.Contracts.Bindings.{Proper}
 use Rattle.solving.specs.Theory.Table.{ProperTable, turn-proper}
-use Rattle.solving.specs.Theory.Fuel.{walk-from-fuel}
+use Rattle.solving.specs.Theory.Fuel.{walk-until-fuel}
 use Rattle.solving.specs.Theory.Values.{bindings-hold}
 use Rattle.solving.specs.Theory.Exact.{turn-exact}
 use Rattle.solving.specs.Theory.Invariant.{Ended, walk-keeps}
@@ -32,9 +34,6 @@ replicate-none (suc k) (suc v) = replicate-none k v
 
 pub nothing-bound : (vars v p : ℕ) → lookup (unbound vars) v ≡ some p → ⊥
 nothing-bound vars v p e = let z : _≡_ {A = ℕ} 0 1 = cc (replicate-none vars v) in omega arith
-
-unfoldable pub opening : (vars s t : ℕ) → List Line
-opening vars s t = line (unbound vars) (greater s t ∷ []) ∷ []
 
 module _ {view : ℕ → Node} {vars n : ℕ} (lay : Layout view vars n) where
   pub unbound-proper : Proper view vars n (unbound vars)
@@ -65,6 +64,11 @@ opening-says ρ value s t = (λ g. inl (bindings-hold ρ value (unbound variable
     back (inl h) = h .1 .0
     back (inr h) = absurd h
 
+-- The walk of document 01 goes from the first table.
+pub walk-opens : (fuel : Fuel) (view : ℕ → Node) (s t : ℕ) → walk-from fuel view max-turns 0 (line no-bindings (greater s t ∷ []) ∷ []) ≡ walk fuel view s t
+unfolding walk walk-from no-bindings
+walk-opens fuel view s t = refl
+
 -- The walk over `n` positions with fuel that suffices.
 module _ {fuel : Fuel} {view : ℕ → Node} {n : ℕ} (lay : Layout view variable-count n) (suf : Sufficient variable-count n fuel) (s t : ℕ) (i : s < n) (j : t < n) where
   -- What every table of the walk has.
@@ -73,7 +77,7 @@ module _ {fuel : Fuel} {view : ℕ → Node} {n : ℕ} (lay : Layout view variab
     pub limits : InLimits table
 
   pub walk-kept : (table : List Line) (turns : ℕ) → walk fuel view s t ≡ solved table turns → Ended fuel view Kept table turns max-turns
-  unfolding walk opening no-bindings
+  unfolding walk walk-from
   walk-kept table turns e = walk-keeps fuel view Kept
       (λ old new k x y. record { proper = turn-proper lay suf old new (k .proper) x; limits = limits-kept new y })
       max-turns 0 (opening variable-count s t) table turns
@@ -81,7 +85,7 @@ module _ {fuel : Fuel} {view : ℕ → Node} {n : ℕ} (lay : Layout view variab
       e
 
   pub walk-exact : {ρ : Values} {value : ℕ → Term} → Model view ρ value → (table : List Line) (turns : ℕ) → walk fuel view s t ≡ solved table turns → value s ≻ value t ↔ SomeLineHolds ρ value table
-  unfolding walk opening no-bindings
+  unfolding walk walk-from
   walk-exact {ρ} {value} m table turns e = walk-keeps fuel view TableSays keeps max-turns 0 (opening variable-count s t) table turns (opening-proper lay s t i j, opening-says ρ value s t) e .has .1
     where
       TableSays : List Line → Type 0
@@ -90,8 +94,8 @@ module _ {fuel : Fuel} {view : ℕ → Node} {n : ℕ} (lay : Layout view variab
       keeps : (old new : List Line) → TableSays old → turn fuel view old ≡ some new → over-limit new ≡ none → TableSays new
       keeps old new k x y = let b = turn-exact lay suf m old new (k .0) x in (turn-proper lay suf old new (k .0) x, (λ g. b .0 (k .1 .0 g), λ h. k .1 .1 (b .1 h)))
 
--- No fuel that suffices changes the walk.
-pub walk-fuel : {fuel₁ fuel₂ : Fuel} {view : ℕ → Node} {n : ℕ} → Layout view variable-count n → Sufficient variable-count n fuel₁ → Sufficient variable-count n fuel₂ → (s t : ℕ) → s < n → t < n
-    → walk fuel₁ view s t ≡ walk fuel₂ view s t
-unfolding walk opening no-bindings
-walk-fuel lay a b s t i j = walk-from-fuel lay a b max-turns 0 (opening variable-count s t) (opening-proper lay s t i j)
+-- No fuel that suffices changes the walk, whatever its limits and what stops it.
+pub walk-fuel : {fuel₁ fuel₂ : Fuel} {view : ℕ → Node} {vars n : ℕ} → Layout view vars n → Sufficient vars n fuel₁ → Sufficient vars n fuel₂ → (over : List Line → Option Refusal)
+    (stop : List Line → Bool) (most s t : ℕ) → s < n → t < n → walk-within fuel₁ view over stop most vars s t ≡ walk-within fuel₂ view over stop most vars s t
+unfolding walk-within
+walk-fuel {vars} lay a b over stop most s t i j = walk-until-fuel lay a b over stop most 0 (opening vars s t) (opening-proper lay s t i j)

@@ -1,9 +1,15 @@
--- Ground terms: those without a variable, and instances whose values are ground.
-use Prim.Native.Nat.{ℕ, suc}
+-- Ground terms: those without a variable, parts of ground terms, and instances whose values are ground.
+use Prim.Native.Nat.{ℕ, suc, _<_}
 use mathlib.Core.Path.{_≡_, refl, ap, _∙_}
 use mathlib.Core.List.{List}
-use Rattle.terms.specs.Term.{Term, Terms, var, app, nil, cons, count, Values, inst, insts, Ground, Grounds}
+use native.Mathlib.Omega.{arith}
+use lib.ListN.{getD}
+use Rattle.format.specs.Theory.Lists.{every-at}
+use Rattle.terms.specs.Term.{Term, Terms, var, app, nil, cons, size, count, Values, inst, insts, Ground, Grounds}
+use Rattle.terms.specs.Position.{subterms}
 use Rattle.terms.specs.Contracts.Fits.{Fits, AllFit}
+use Rattle.terms.specs.Theory.Position.{length-subterms}
+use Rattle.terms.specs.Theory.Subterms.{subterms-have}
 use Rattle.terms.specs.Theory.Variables.{VariablesIn, AllVariablesIn}
 
 mutual
@@ -23,6 +29,11 @@ mutual
   no-variable-grounds : (arities : List ℕ) (ts : Terms) → AllFit arities ts → AllVariablesIn (λ v. ⊥) ts → Grounds arities ts
   no-variable-grounds arities nil f h = tt
   no-variable-grounds arities (cons t ts) f h = (no-variable-ground arities t (f .0) (h .0), no-variable-grounds arities ts (f .1) (h .1))
+
+-- The part at a position.
+pub part-ground : (arities : List ℕ) (t : Term) (p : ℕ) (d : Term) → Ground arities t → p < size t → Ground arities (getD (subterms t) p d)
+part-ground arities t p d g l =
+    every-at (Ground arities) (subterms t) p d (subterms-have (Ground arities) (Grounds arities) (λ f ts h. h .2) (λ u us h. h) t g) (omega (arith, length-subterms t))
 
 count-insts : (ρ : Values) (ts : Terms) → count (insts ρ ts) ≡ count ts
 unfolding inst count

@@ -8,8 +8,8 @@ use native.Mathlib.Decide.{decLt}
 use lib.ListN.{length, getD, length-append, List·getD-append}
 use lib.Seq.{getD-append-add}
 use lib.Dec.{ltb, T, ltb→lt, lt→ltb}
-use Rattle.terms.specs.Term.{Term, Terms, var, app, nil, cons, size, sizes}
-use Rattle.terms.specs.Position.{subterms, subterms-of, replace, replace-in}
+use Rattle.terms.specs.Term.{Term, Terms, var, app, nil, cons, size, sizes, count}
+use Rattle.terms.specs.Position.{subterms, subterms-of, starts, replace, replace-in}
 
 -- "A node is one byte": a term has as many positions as nodes.
 mutual
@@ -27,6 +27,17 @@ pub size-pos : (t : Term) → 0 < size t
 unfolding size
 size-pos (var v) = omega arith
 size-pos (app f ts) = omega arith
+
+pub count-few : (ts : Terms) → count ts ≤ sizes ts
+unfolding count size
+count-few nil = omega arith
+count-few (cons t ts) = omega (arith, size-pos t, count-few ts)
+
+-- A start for each term.
+pub count-starts : (ts : Terms) (b : ℕ) → length (starts ts b) ≡ count ts
+unfolding starts count
+count-starts nil b = refl
+count-starts (cons t ts) b = ap suc (count-starts ts (b + size t))
 
 -- The subterm at a position of the first term, and of the others.
 pub subterm-first : (t : Term) (ts : Terms) (p : ℕ) (d : Term) → p < size t → getD (subterms-of (cons t ts)) p d ≡ getD (subterms t) p d

@@ -10,6 +10,7 @@ use Rattle.terms.specs.Term.{Term, Terms, var, app, nil, cons, size, Val
 use Rattle.terms.specs.Position.{subterms, subterms-of, starts, Node, var-node, app-node, node-at}
 use Rattle.terms.specs.Equation.{Equation, term-at, view, value}
 use Rattle.terms.specs.Theory.Position.{size-pos}
+use Rattle.terms.specs.Theory.Subterms.{subterms-have}
 use Rattle.terms.specs.Contracts.Limits.{VariablesBelow, AllVariablesBelow, WithinLimits, positions}
 use Rattle.terms.specs.Theory.Positions.{Segment, term-head, first-segment, rest-segment, all-subterms, arguments-at, segment-within}
 
@@ -50,17 +51,8 @@ module _ (e : Equation) where
   starts-values ρ (cons t ts) b s = cc (ap (inst ρ) (term-head t (var 0) (first-segment t ts s)), starts-values ρ ts (b + size t) (rest-segment t ts s))
 
 -- Every subterm of a term has its variables below `n`, if the term has.
-module _ (n : ℕ) where
-  mutual
-    unfolding subterms
-
-    subterms-below : (t : Term) → VariablesBelow n t → Every (VariablesBelow n) (subterms t)
-    subterms-below (var v) h = (h, tt)
-    subterms-below (app f ts) h = (h, subterms-of-below ts h)
-
-    subterms-of-below : (ts : Terms) → AllVariablesBelow n ts → Every (VariablesBelow n) (subterms-of ts)
-    subterms-of-below nil h = tt
-    subterms-of-below (cons t ts) h = every-append (VariablesBelow n) (subterms t) (subterms-of ts) (subterms-below t (h .0)) (subterms-of-below ts (h .1))
+subterms-below : (n : ℕ) (t : Term) → VariablesBelow n t → Every (VariablesBelow n) (subterms t)
+subterms-below n = subterms-have (VariablesBelow n) (AllVariablesBelow n) (λ f ts h. h) (λ t ts h. h)
 
 module _ (e : Equation) where
   -- The term and the arguments of a symbol at a position.

@@ -16,6 +16,7 @@ use Rattle.terms.specs.Equation.{Equation, Direction, term-at, source-position,
 use Rattle.terms.specs.Contracts.Limits.{WithinLimits, positions}
 use Rattle.terms.specs.Theory.Limits.{positions-few}
 use Rattle.terms.specs.Theory.Position.{size-pos}
+use Rattle.terms.specs.Theory.Subterms.{subterms-have}
 use Rattle.terms.specs.Theory.Positions.{Segment, term-head, first-segment, rest-segment, all-subterms, length-all, past-end, arguments-at, segment-within}
 use Rattle.terms.specs.Contracts.Fits.{AllFit, Fits}
 use Rattle.solving.specs.Walk.{enough, walk, solve}
@@ -40,17 +41,8 @@ mutual
   prefixes-bytes (cons t ts) = cc (prefix-bytes t, prefixes-bytes ts, map-append first-byte (subterms t) (subterms-of ts))
 
 -- 2. Every subterm of a term over some symbols is one.
-module _ (arities : List ℕ) where
-  mutual
-    unfolding subterms
-
-    subterms-fit : (t : Term) → Fits arities t → Every (Fits arities) (subterms t)
-    subterms-fit (var v) h = (h, tt)
-    subterms-fit (app f ts) h = (h, subterms-of-fit ts (h .2))
-
-    subterms-of-fit : (ts : Terms) → AllFit arities ts → Every (Fits arities) (subterms-of ts)
-    subterms-of-fit nil h = tt
-    subterms-of-fit (cons t ts) h = every-append (Fits arities) (subterms t) (subterms-of ts) (subterms-fit t (h .0)) (subterms-of-fit ts (h .1))
+subterms-fit : (arities : List ℕ) (t : Term) → Fits arities t → Every (Fits arities) (subterms t)
+subterms-fit arities = subterms-have (Fits arities) (AllFit arities) (λ f ts h. h .2) (λ t ts h. h)
 
 -- 3. The positions of a row, with steps to spare.
 pub row-is : {sizes : List ℕ} (m : ℕ) {k end : ℕ} {ps : List ℕ} → Row sizes k end ps → end ≤ k + m → row m sizes k end ≡ ps

@@ -1,0 +1,4 @@
+pub mod Walk
+pub mod Run
+pub mod Reduction
+pub mod Theory

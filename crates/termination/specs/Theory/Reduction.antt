@@ -1,0 +1,43 @@
+-- Ground reduction cannot go on forever (document 02, W10): a step keeps a term ground, and the term exceeds the result.
+use Prim.Native.Nat.{ℕ, zero, suc}
+use mathlib.Core.List.{List}
+use Rattle.format.specs.Lists.{Every}
+use Rattle.format.specs.Theory.Lists.{every-entry}
+use Rattle.terms.specs.Term.{Term, var, Ground, inst}
+use Rattle.terms.specs.Equation.{Equation, Direction, left-right, right-left, source, target}
+use Rattle.terms.specs.Contracts.Fits.{Fits}
+use Rattle.terms.specs.Theory.Ground.{part-ground}
+use Rattle.terms.specs.Theory.Replace.{ground-replace}
+use Rattle.ordering.specs.Order.{_≻_}
+use Rattle.ordering.specs.Theory.Context.{replace-exceeds}
+use Rattle.ordering.specs.Theory.Descent.{no-endless-descent}
+use Rattle.sheet.specs.Contracts.Valid.{ValidEquation}
+use Rattle.reducing.specs.Match.{usable}
+use Rattle.reducing.specs.Theory.Variables.{covered-ground}
+use Rattle.termination.specs.Reduction.{Reduces}
+
+target-fits : {arities : List ℕ} {e : Equation} → ValidEquation arities e → (d : Direction) → Fits arities (target e d)
+unfolding target
+target-fits v left-right = v .right-fits
+target-fits v right-left = v .left-fits
+
+pub reduces-exceeds : {es : List Equation} {s t : Term} → Reduces es s t → s ≻ t
+reduces-exceeds {s = s} r = rw (r .gives) (replace-exceeds s (r .position) (var 0) _ (r .inside) (rw (r .matches) (r .exceeds)))
+
+module _ (arities : List ℕ) (es : List Equation) (valid : Every (ValidEquation arities) es) where
+  pub reduces-ground : {s t : Term} → Reduces es s t → Ground arities s → Ground arities t
+  unfolding usable
+  reduces-ground {s} r g =
+      let e = r .equation in
+      let d = r .direction in
+      let v : ValidEquation arities e = every-entry (ValidEquation arities) es (r .number) valid (r .equation-there) in
+      let x : Ground arities (inst (r .values) (source e d)) = rw (r .matches) at (part-ground arities s (r .position) (var 0) g (r .inside)) in
+      rw (r .gives) (ground-replace arities _ (covered-ground arities (r .values) (target e d) (source e d) (target-fits v d) (r .direction-usable) x) s (r .position) g)
+
+  module _ (terms : ℕ → Term) (reduction : (i : ℕ) → Reduces es (terms i) (terms (suc i))) where
+    all-ground : Ground arities (terms 0) → (i : ℕ) → Ground arities (terms i)
+    all-ground g zero = g
+    all-ground g (suc i) = reduces-ground (reduction i) (all-ground g i)
+
+  pub no-endless-reduction : (terms : ℕ → Term) → Ground arities (terms 0) → ¬ ((i : ℕ) → Reduces es (terms i) (terms (suc i)))
+  no-endless-reduction terms g reduction = let (i, stops) = no-endless-descent arities terms (all-ground terms reduction g) in stops (reduces-exceeds (reduction i))
