@@ -1,3 +1,4 @@
 pub mod Calls
 pub mod Texts
 pub mod Walks
+pub mod Unlimited

@@ -7,4 +7,3 @@ pub mod Limits
 pub mod Walks
 pub mod Reduction
 pub mod Runs
-pub mod Examples

@@ -1,4 +1,4 @@
--- Two walks beyond a sheet's limits, by computation.
+-- Two walks beyond a sheet's limits (document 02, W10), checked against the definitions by computation.
 use Prim.Native.Nat.{ℕ}
 use mathlib.Core.Path.{_≡_, refl}
 use mathlib.Core.List.{List, [], _∷_}
