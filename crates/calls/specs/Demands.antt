@@ -25,8 +25,8 @@ use Rattle.solving.specs.Holds.{SomeLineHolds}
 use Rattle.reducing.specs.declared.ending.Ending.the-variants.{NoneFound as none-found}
 use Rattle.reducing.specs.Run.{Descending}
 use Rattle.reducing.specs.Test.{line-run, reference-run, EverySolves}
+use Rattle.reducing.specs.Reduction.{Reduces}
 use Rattle.termination.specs.Walk.{slots, enough-for, no-limit, walk-allowed, WalkEnds}
-use Rattle.termination.specs.Reduction.{Reduces}
 use Rattle.termination.specs.Run.{RunEnds}
 use Rattle.outcomes.specs.Buffer.{fields, refusal-byte}
 use Rattle.outcomes.specs.Outcome.{compare-call, table-fits, solve-call, run-fits, run-done, run-call}

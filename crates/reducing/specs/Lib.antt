@@ -1,5 +1,6 @@
 pub mod Match
 pub mod Run
 pub mod Test
+pub mod Reduction
 pub mod Theory
 pub mod Contracts

@@ -1,4 +1,3 @@
 pub mod Walk
 pub mod Run
-pub mod Reduction
 pub mod Theory

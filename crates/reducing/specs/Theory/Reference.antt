@@ -5,13 +5,11 @@ use mathlib.Core.Logic.{_↔_}
 use mathlib.Core.Bool.{Bool, true, false}
 use mathlib.Core.List.{List, [], _∷_}
 use native.Mathlib.Omega.{arith}
-use lib.ListN.{getD}
 use lib.Dec.{T, ltb, ltb→lt, lt→ltb}
 use Rattle.format.specs.Limits.{variable-count}
 use Rattle.format.specs.Lists.{Every}
 use Rattle.format.specs.Theory.Lists.{every-entry}
 use Rattle.terms.specs.Term.{Term, var, Values, inst}
-use Rattle.terms.specs.Position.{subterms}
 use Rattle.terms.specs.Equation.{Equation, Direction, left-right, right-left, source, target, value}
 use Rattle.terms.specs.Contracts.Limits.{VariablesBelow, WithinLimits}
 use Rattle.ordering.specs.Order.{_≻_}
@@ -25,6 +23,7 @@ use Rattle.solving.specs.Theory.Judge.{first-holding-pos}
 use Rattle.solving.specs.Theory.Solve.{solve-exact}
 use Rattle.reducing.specs.Match.{values-of}
 use Rattle.reducing.specs.Run.{Step, Descending}
+use Rattle.reducing.specs.Reduction.{Reduces}
 use Rattle.reducing.specs.Test.{holding-in, line-test, reference-test, line-run, reference-run, EverySolves}
 use Rattle.reducing.specs.Theory.Match.{match-sound}
 use Rattle.reducing.specs.Theory.Step.{Taken}
@@ -90,21 +89,35 @@ unfolding source
 source-variables w left-right = w .left-variables
 source-variables w right-left = w .right-variables
 
+-- A term that reduces to another exceeds it.
+pub reduces-exceeds : {es : List Equation} {s t : Term} → Reduces es s t → s ≻ t
+reduces-exceeds {s = s} r = rw (r .gives) (replace-exceeds s (r .position) (var 0) _ (r .inside) (rw (r .matches) (r .exceeds)))
+
 module _ (es : List Equation) (within : Every WithinLimits es) where
-  pub step-exceeds : (subject : Term) (s : Step) → Taken reference-test es subject s → subject ≻ s .result
-  step-exceeds subject s t =
+  -- A step of the reference run is a reduction.
+  pub taken-reduces : (subject : Term) (s : Step) → Taken reference-test es subject s → Reduces es subject (s .result)
+  taken-reduces subject s t =
       let r = t .rewrites in
-      let d = s .direction in
       let e = t .chosen in
-      let ρ = values-of (r .found) in
+      let d = s .direction in
       let w : WithinLimits e = every-entry WithinLimits es (s .equation) within (t .numbered) in
-      let m : inst ρ (source e d) ≡ getD (subterms subject) (s .position) (var 0) = match-sound _ _ (r .found) (source-variables w d) (r .matches) in
-      let g : inst ρ (source e d) ≻ inst ρ (target e d) = reference-test-is e d ρ .0 (r .passes) in
-      rw (r .gives) (replace-exceeds subject (s .position) (var 0) _ (t .inside) (rw m at g))
+      record {
+        number = s .equation;
+        equation = e;
+        equation-there = t .numbered;
+        direction = d;
+        direction-usable = r .direction-usable;
+        position = s .position;
+        inside = t .inside;
+        values = values-of (r .found);
+        matches = sym (match-sound _ _ (r .found) (source-variables w d) (r .matches));
+        exceeds = reference-test-is e d (values-of (r .found)) .0 (r .passes);
+        gives = r .gives;
+      }
 
   all-taken-descending : (subject : Term) (steps : List Step) → AllTaken reference-test es subject steps → Descending subject steps
   all-taken-descending subject [] a = tt
-  all-taken-descending subject (s ∷ steps) a = (step-exceeds subject s (a .0), all-taken-descending (s .result) steps (a .1))
+  all-taken-descending subject (s ∷ steps) a = (reduces-exceeds (taken-reduces subject s (a .0)), all-taken-descending (s .result) steps (a .1))
 
   pub reference-run-descending : (k : ℕ) (subject : Term) → Descending subject (reference-run es k subject .steps)
   unfolding reference-run

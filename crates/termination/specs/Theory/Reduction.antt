@@ -8,21 +8,17 @@ use Rattle.terms.specs.Equation.{Equation, Direction, left-right, right-left, s
 use Rattle.terms.specs.Contracts.Fits.{Fits}
 use Rattle.terms.specs.Theory.Ground.{part-ground}
 use Rattle.terms.specs.Theory.Replace.{ground-replace}
-use Rattle.ordering.specs.Order.{_≻_}
-use Rattle.ordering.specs.Theory.Context.{replace-exceeds}
 use Rattle.ordering.specs.Theory.Descent.{no-endless-descent}
 use Rattle.sheet.specs.Contracts.Valid.{ValidEquation}
 use Rattle.reducing.specs.Match.{usable}
+use Rattle.reducing.specs.Reduction.{Reduces}
+use Rattle.reducing.specs.Theory.Reference.{reduces-exceeds}
 use Rattle.reducing.specs.Theory.Variables.{covered-ground}
-use Rattle.termination.specs.Reduction.{Reduces}
 
 target-fits : {arities : List ℕ} {e : Equation} → ValidEquation arities e → (d : Direction) → Fits arities (target e d)
 unfolding target
 target-fits v left-right = v .right-fits
 target-fits v right-left = v .left-fits
-
-pub reduces-exceeds : {es : List Equation} {s t : Term} → Reduces es s t → s ≻ t
-reduces-exceeds {s = s} r = rw (r .gives) (replace-exceeds s (r .position) (var 0) _ (r .inside) (rw (r .matches) (r .exceeds)))
 
 module _ (arities : List ℕ) (es : List Equation) (valid : Every (ValidEquation arities) es) where
   pub reduces-ground : {s t : Term} → Reduces es s t → Ground arities s → Ground arities t

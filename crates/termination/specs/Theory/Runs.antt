@@ -7,7 +7,7 @@ use mathlib.Core.WellFounded.{Acc, Acc·intro}
 use native.Mathlib.Omega.{arith}
 use lib.ListN.{length}
 use Rattle.format.specs.Lists.{Every}
-use Rattle.format.specs.Theory.Lists.{every-entry, every-map}
+use Rattle.format.specs.Theory.Lists.{every-map}
 use Rattle.terms.specs.Term.{Term, Ground}
 use Rattle.terms.specs.Equation.{Equation}
 use Rattle.terms.specs.Contracts.Limits.{WithinLimits}
@@ -16,48 +16,25 @@ use Rattle.ordering.specs.Below.{Below}
 use Rattle.ordering.specs.Theory.Accessible.{ground-accessible}
 use Rattle.sheet.specs.Contracts.Valid.{ValidEquation}
 use Rattle.reducing.specs.declared.ending.Ending.the-variants.{NoneFound as none-found}
-use Rattle.reducing.specs.Match.{values-of}
+use Rattle.reducing.specs.Reduction.{Reduces}
 use Rattle.reducing.specs.Run.{Step, Run, after-step, step, run-within}
 use Rattle.reducing.specs.Test.{EverySolves, line-test, reference-test, line-run}
-use Rattle.reducing.specs.Theory.Match.{match-sound}
-use Rattle.reducing.specs.Theory.Step.{Taken, step-taken}
+use Rattle.reducing.specs.Theory.Step.{step-taken}
 use Rattle.reducing.specs.Theory.Runs.{Runs, no-step as none-left, all-done, too-large, one-step as step-then, run-runs, step-same}
-use Rattle.reducing.specs.Theory.Reference.{source-variables, reference-test-is, all-agree, all-exact}
+use Rattle.reducing.specs.Theory.Reference.{reduces-exceeds, taken-reduces, all-agree, all-exact}
 use Rattle.termination.specs.Run.{run-allowed, RunEnds}
-use Rattle.termination.specs.Reduction.{Reduces}
-use Rattle.termination.specs.Theory.Reduction.{reduces-exceeds, reduces-ground}
+use Rattle.termination.specs.Theory.Reduction.{reduces-ground}
 
 module _ (arities : List ℕ) (es : List Equation) (valid : Every (ValidEquation arities) es) where
   within : Every WithinLimits es
   within = every-map (λ e v. v .limits) es valid
 
-  -- A step of the reference run is a reduction.
-  taken-reduces : (subject : Term) (s : Step) → Taken reference-test es subject s → Reduces es subject (s .result)
-  taken-reduces subject s t =
-      let r = t .rewrites in
-      let e = t .chosen in
-      let d = s .direction in
-      let w : WithinLimits e = every-entry WithinLimits es (s .equation) within (t .numbered) in
-      record {
-        number = s .equation;
-        equation = e;
-        equation-there = t .numbered;
-        direction = d;
-        direction-usable = r .direction-usable;
-        position = s .position;
-        inside = t .inside;
-        values = values-of (r .found);
-        matches = sym (match-sound _ _ (r .found) (source-variables w d) (r .matches));
-        exceeds = reference-test-is e d (values-of (r .found)) .0 (r .passes);
-        gives = r .gives;
-      }
-
   module _ (solves : EverySolves es) where
-    -- And so is one of the run.
+    -- A step of the run is a reduction, as one of the reference run.
     step-reduces : (subject : Term) (s : Step) → step line-test es subject ≡ some s → Reduces es subject (s .result)
     step-reduces subject s e =
         let same = step-same line-test reference-test es (all-agree es (all-exact es within) solves) subject in
-        taken-reduces subject s (step-taken reference-test es subject s (sym same ∙ e))
+        taken-reduces es within subject s (step-taken reference-test es subject s (sym same ∙ e))
 
     -- "no step is found", and one step with the run after it.
     no-step : (subject : Term) → step line-test es subject ≡ none → RunEnds es subject
