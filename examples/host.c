@@ -1,5 +1,5 @@
 /*
- * A small marking host: reads a sheet from a file or from standard input, and prints what the five calls say of it.
+ * A small marking host: reads a sheet from a file or from standard input, and prints what the six calls say of it.
  * Usage: host [FILE]
  * Exit status: 0 all was served, 1 something was refused, 2 the sheet could not be read.
  *
@@ -178,6 +178,19 @@ static void solve(struct host *host, unsigned equation, unsigned direction)
     }
 }
 
+/* Whether the direction always holds, which is told before all its lines are found, and may be told where they are too many. */
+static void always(struct host *host, unsigned equation, unsigned direction)
+{
+    uint64_t returned = neblinaro_always(host->sheet, host->length, equation, direction, host->table,
+                                         sizeof host->table, host->scratch, sizeof host->scratch);
+    printf("  %s always: ", directions[direction]);
+    if (print_refusal(host, returned))
+        return;
+    fputs(neblinaro_always_yes(returned) ? "yes, after " : "no, after ", stdout);
+    print_count(neblinaro_always_turns(returned), "turn");
+    puts("");
+}
+
 /* ---- tasks ---- */
 
 static void run(struct host *host, unsigned task)
@@ -254,7 +267,7 @@ static void print_symbols(const struct host *host)
 
 static void mark(struct host *host)
 {
-    unsigned equation, task;
+    unsigned equation, direction, task;
     if (print_refusal(host, neblinaro_check(host->sheet, host->length)))
         return;
     read_frames(host);
@@ -263,8 +276,10 @@ static void mark(struct host *host)
         printf("equation %u: ", equation);
         print_pair(host, host->equations[equation].bytes + 1, " = ");
         puts("");
-        solve(host, equation, 0);
-        solve(host, equation, 1);
+        for (direction = 0; direction < 2; direction++) {
+            solve(host, equation, direction);
+            always(host, equation, direction);
+        }
     }
     for (task = 0; task < host->task_count; task++) {
         printf("task %u: ", task);

@@ -1,8 +1,9 @@
 /*
- * neblinaro.h: five calls for a marking host.
+ * neblinaro.h: six calls for a marking host.
  *
  * A sheet is text: symbols, equations, and tasks over ground terms. The calls check a sheet, compare ground terms in
- * the lexicographic path ordering, solve an equation in a direction, judge values, and run a term.
+ * the lexicographic path ordering, solve an equation in a direction, ask whether it always holds, judge values, and run
+ * a term.
  * Link with target/staticlib/libcalls.a, which `rt staticlib calls` writes.
  *
  * Each call is lent the whole sheet and reads it afresh. Nothing is kept between calls and nothing is shared between
@@ -124,6 +125,17 @@ static inline uint16_t neblinaro_solved_turns(uint64_t returned)
     return neblinaro_field(returned, 1);
 }
 
+/* Always: 1 for yes and 0 for no, and the turns that the walk took by then. */
+static inline uint16_t neblinaro_always_yes(uint64_t returned)
+{
+    return neblinaro_field(returned, 0);
+}
+
+static inline uint16_t neblinaro_always_turns(uint64_t returned)
+{
+    return neblinaro_field(returned, 1);
+}
+
 /* Judge: 1 where a line holds and else 0, and the first line that holds, counted from 1, or 0. */
 static inline uint16_t neblinaro_judged_yes(uint64_t returned)
 {
@@ -169,7 +181,7 @@ static inline uint16_t neblinaro_compared_verdict(uint64_t returned)
 
 /*
  * Checks a sheet. Returns 0, or one of the refusals 1 to 7 with its line. Walks no equation, so that an accepted sheet
- * may still earn 8 to 10 from solve, judge and run.
+ * may still earn 8 to 10 from solve, always, judge and run.
  */
 uint64_t neblinaro_check(const uint8_t *sheet, size_t sheet_length);
 
@@ -192,6 +204,19 @@ uint64_t neblinaro_compare(const uint8_t *sheet, size_t sheet_length, uint64_t t
  */
 uint64_t neblinaro_solve(const uint8_t *sheet, size_t sheet_length, uint64_t equation, uint64_t direction,
                          uint8_t *table, size_t table_length, uint8_t *scratch, size_t scratch_length);
+
+/*
+ * Asks whether an equation in a direction always holds: walks as solve does, and stops as soon as the table has a line
+ * without bindings and elements.
+ *
+ * table: at least NEBLINARO_TABLE_BYTES; so many of its bytes are ff afterwards.
+ * scratch: at least NEBLINARO_SCRATCH_BYTES; so many of its bytes are 00 afterwards.
+ * Returns: neblinaro_always_yes, neblinaro_always_turns. Yes: at all values the greater side's instance exceeds the
+ * other's. No: the table that solve gives, after as many turns, has no such line; its lines may still hold at all ground
+ * values between them. Refusals: 1 to 12; 8 to 10 are those of this direction, and never met once the answer is yes.
+ */
+uint64_t neblinaro_always(const uint8_t *sheet, size_t sheet_length, uint64_t equation, uint64_t direction,
+                          uint8_t *table, size_t table_length, uint8_t *scratch, size_t scratch_length);
 
 /*
  * Judges a task (frame 04): whether some line of its equation and direction holds at its values. This is exactly where

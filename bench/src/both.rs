@@ -87,6 +87,15 @@ pub fn solve(sheet: &[u8], equation: u64, direction: u64) -> Outcome {
     )
 }
 
+pub fn always(sheet: &[u8], equation: u64, direction: u64) -> Outcome {
+    both(
+        &format!("always, equation {equation}, direction {direction},"),
+        sheet,
+        |lent| calls::always(sheet, equation, direction, &mut lent.table, &mut lent.scratch),
+        |lent| reference::always(sheet, equation, direction, &mut lent.table, &mut lent.scratch),
+    )
+}
+
 pub fn judge(sheet: &[u8], task: u64) -> Outcome {
     both(
         &format!("judge, task {task},"),
@@ -125,6 +134,7 @@ pub fn everything(sheet: &[u8]) {
     for equation in 0..=equations {
         for direction in 0..=2 {
             solve(sheet, equation, direction);
+            always(sheet, equation, direction);
         }
     }
     for task in 0..=tasks {

@@ -19,6 +19,16 @@ extern "C" {
         scratch: *mut u8,
         scratch_length: usize,
     ) -> u64;
+    pub fn neblinaro_always(
+        sheet: *const u8,
+        sheet_length: usize,
+        equation: u64,
+        direction: u64,
+        table: *mut u8,
+        table_length: usize,
+        scratch: *mut u8,
+        scratch_length: usize,
+    ) -> u64;
     pub fn neblinaro_judge(
         sheet: *const u8,
         sheet_length: usize,
@@ -57,6 +67,22 @@ pub fn solve(sheet: &[u8], equation: u64, direction: u64, table: &mut [u8], scra
     // The call reads the sheet and writes table and scratch, within their lengths.
     unsafe {
         neblinaro_solve(
+            sheet.as_ptr(),
+            sheet.len(),
+            equation,
+            direction,
+            table.as_mut_ptr(),
+            table.len(),
+            scratch.as_mut_ptr(),
+            scratch.len(),
+        )
+    }
+}
+
+pub fn always(sheet: &[u8], equation: u64, direction: u64, table: &mut [u8], scratch: &mut [u8]) -> u64 {
+    // The call reads the sheet and writes table and scratch, within their lengths.
+    unsafe {
+        neblinaro_always(
             sheet.as_ptr(),
             sheet.len(),
             equation,

@@ -29,6 +29,8 @@ fn main() -> std::io::Result<()> {
     check(&mut table);
     compare(&mut table);
     solve(&mut table);
+    always(&mut table);
+    no_beside_solve(&mut table);
     judge(&mut table);
     run(&mut table);
     slow_runs(&mut table);
@@ -135,6 +137,56 @@ fn solve(rows: &mut Table) {
             });
         }
     }
+}
+
+/// Always, on the same equations and on ordinary ones: whole calls.
+fn always(rows: &mut Table) {
+    let [mut table, mut scratch, ..] = lent();
+    for (name, sheet) in asked() {
+        for direction in 0..2 {
+            let number = calls::always(&sheet, 0, direction, &mut table, &mut scratch);
+            assert_eq!(number, reference::always(&sheet, 0, direction, &mut table, &mut scratch), "{name}");
+            let [proved, plain] = times(|case| match case {
+                0 => calls::always(&sheet, 0, direction, &mut table, &mut scratch),
+                _ => reference::always(&sheet, 0, direction, &mut table, &mut scratch),
+            });
+            rows.add(always_row("always", name, direction, number, Pair { proved, plain }));
+        }
+    }
+}
+
+/// Where always says no it takes as many turns as solve: beside solve, both proved.
+fn no_beside_solve(rows: &mut Table) {
+    let [mut table, mut scratch, ..] = lent();
+    for (name, sheet) in asked() {
+        for direction in 0..2 {
+            let number = calls::always(&sheet, 0, direction, &mut table, &mut scratch);
+            if number & 0xff_ffff != 0 {
+                continue;
+            }
+            let [proved, plain] = times(|case| match case {
+                0 => calls::always(&sheet, 0, direction, &mut table, &mut scratch),
+                _ => calls::solve(&sheet, 0, direction, &mut table, &mut scratch),
+            });
+            rows.add(always_row("as solve", name, direction, number, Pair { proved, plain }));
+        }
+    }
+}
+
+fn asked() -> impl Iterator<Item = (&'static str, Vec<u8>)> {
+    let p1 = [("P1", reference::special::P1.to_vec())];
+    p1.into_iter().chain(runs::ordinary()).chain(walked())
+}
+
+fn always_row(call: &'static str, name: &str, direction: u64, number: u64, whole: Pair) -> Row {
+    let turns = counted((number >> 24) as usize, "turn");
+    let work = match (number % 256, number >> 8 & 0xffff) {
+        (0, 0) => format!("no, {turns}"),
+        (0, _) => format!("yes, {turns}"),
+        (refusal, _) => format!("refusal {refusal}"),
+    };
+    let sheet = format!("{name}, {}", ["left > right", "right > left"][direction as usize]);
+    Row { call, sheet, work, whole, unit: None }
 }
 
 /// Symbols and equations that a search found, whose turns take long beside plain Rust.

@@ -42,7 +42,7 @@ impl Table {
     /// The row of each call with the highest ratio.
     pub fn print_worst(&self) {
         rule();
-        for call in ["check", "compare", "solve", "judge", "run", "program"] {
+        for call in ["check", "compare", "solve", "always", "as solve", "judge", "run", "program"] {
             let rows = self.rows.iter().filter(|row| row.call == call);
             if let Some(row) = rows.max_by(|a, b| a.whole.ratio().total_cmp(&b.whole.ratio())) {
                 println!("worst ratio of {call:8} {:5.2}  {} ({})", row.whole.ratio(), row.sheet, row.work);

@@ -57,26 +57,35 @@ fn former_bytes(length: usize, seed: usize) -> Vec<u8> {
     (0..length).map(|i| ((i + seed) % 251) as u8).collect()
 }
 
-/// Solve on both sides with the same former bytes; gives the number.
-fn solved(sheet: &[u8], equation: u64, direction: u64, table: &[u8], scratch: &[u8]) -> u64 {
+/// A call by equation and direction: sheet, equation, direction, table, scratch.
+type Directed = fn(&[u8], u64, u64, &mut [u8], &mut [u8]) -> u64;
+
+/// The call on both sides with the same former bytes; gives the number.
+fn directed(
+    [proved, plain]: [Directed; 2],
+    sheet: &[u8],
+    equation: u64,
+    direction: u64,
+    table: &[u8],
+    scratch: &[u8],
+) -> u64 {
     let (mut table, mut scratch) = (table.to_vec(), scratch.to_vec());
     let (mut other_table, mut other_scratch) = (table.clone(), scratch.clone());
-    let number = calls::solve(sheet, equation, direction, &mut table, &mut scratch);
+    let number = proved(sheet, equation, direction, &mut table, &mut scratch);
     let place = || format!("equation {equation}, direction {direction} of\n{}", String::from_utf8_lossy(sheet));
-    let other = reference::solve(sheet, equation, direction, &mut other_table, &mut other_scratch);
+    let other = plain(sheet, equation, direction, &mut other_table, &mut other_scratch);
     assert_eq!(number, other, "number, {}", place());
     assert!(table == other_table, "table, {}", place());
     assert!(scratch == other_scratch, "scratch, {}", place());
     number
 }
 
-#[test]
-fn solve() {
+/// The call on every sheet, with directions that it has and that it has not; gives what it returned.
+fn every_direction(call: [Directed; 2]) -> Vec<u64> {
     let lengths = [(0, 0), (TABLE - 1, SCRATCH), (TABLE, SCRATCH - 1), (TABLE, SCRATCH), (TABLE + 89, SCRATCH + 56)];
     let mut buffers = lengths.map(|(table, scratch)| (former_bytes(table, 0), former_bytes(scratch, 7))).to_vec();
     buffers.extend([(vec![0; TABLE], vec![0xff; SCRATCH]), (vec![0xff; TABLE], vec![0; SCRATCH])]);
-    // How often each refusal was given; the first count is of none.
-    let mut given = [0; 13];
+    let mut numbers = Vec::new();
     for sheet in sheets() {
         let equations = reference::sheet::read(&sheet).map_or(1, |sheet| sheet.equations().len() as u64);
         let present = (0..equations).flat_map(|equation| [(equation, 0), (equation, 1)]);
@@ -84,11 +93,40 @@ fn solve() {
             [(equations, 0), (256, 0), (1 << 32, 1), (u64::MAX, 1), (0, 2), (0, 256), (0, 1 << 32), (0, u64::MAX)];
         for (equation, direction) in present.chain(absent) {
             for (table, scratch) in &buffers {
-                given[(solved(&sheet, equation, direction, table, scratch) % 256) as usize] += 1;
+                numbers.push(directed(call, &sheet, equation, direction, table, scratch));
             }
         }
     }
+    let given: Vec<usize> = (0..13).map(|refusal| numbers.iter().filter(|&number| number % 256 == refusal).count()).collect();
     assert!(given.iter().all(|&times| 0 < times), "a refusal was never given: {given:?}");
+    numbers
+}
+
+#[test]
+fn solve() {
+    every_direction([calls::solve, reference::solve]);
+}
+
+#[test]
+fn always() {
+    let solved = every_direction([calls::solve, reference::solve]);
+    let asked = every_direction([calls::always, reference::always]);
+    let turns = |number: u64| number >> 24;
+    // Yes and no, yes before solve's walk has ended, and yes though solve is refused.
+    let (mut yes, mut no, mut early, mut stands) = (0, 0, 0, [0; 13]);
+    for (solved, asked) in solved.into_iter().zip(asked) {
+        match (asked % 256, asked >> 8 & 0xffff, (solved % 256) as usize) {
+            (0, 1, 0) if turns(asked) < turns(solved) => early += 1,
+            (0, 1, 0) => yes += 1,
+            (0, 1, refusal) => stands[refusal] += 1,
+            (0, _, _) => {
+                assert_eq!(turns(asked), turns(solved));
+                no += 1;
+            }
+            _ => assert_eq!(asked, solved),
+        }
+    }
+    assert!(0 < yes && 0 < no && 0 < early && stands[8..=10].iter().all(|&times| 0 < times), "{stands:?}");
 }
 
 const TERM: usize = 160;

@@ -92,6 +92,24 @@ fn p6_to_p10() {
     solves(SYMBOLS, "028081", 0, &[record(&[], &[(0, 1)])]);
 }
 
+/// W6: the answer and the turns of `always`, left > right.
+fn asks(symbols: &str, equation: &str, answer: u64, turns: u64) {
+    let asked = both::always(&sheet(&format!("{symbols} {equation}")), 0, 0);
+    assert_eq!(asked.fields(), [answer, turns, 0]);
+    assert!(asked.buffers.table[..22_695].iter().all(|&byte| byte == 0xff) && scratch_cleared(&asked));
+}
+
+#[test]
+fn always() {
+    asks(SYMBOLS, "02028081028180", 0, 8);
+    asks(SYMBOLS, "0280028000", 0, 1);
+    asks(SYMBOLS, "0202800080", 1, 1);
+    asks(SYMBOLS, "020100", 1, 1);
+    asks(SYMBOLS, "028081", 0, 0);
+    // (xy)z > x(yz): solve takes 26 turns.
+    asks(SYMBOLS, "0202028081820280028182", 1, 24);
+}
+
 #[test]
 fn p11() {
     // Symbols: product 00, a 01. Positions: xy is 0 to 2, ya is 3 to 5.

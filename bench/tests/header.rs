@@ -33,11 +33,13 @@ const CONSTANTS: [(&str, &str, usize); 20] = [
 ];
 
 /// The functions that take a number apart, with the bit where each field starts and the count of its bits.
-const FIELDS: [(&str, u32, u32); 10] = [
+const FIELDS: [(&str, u32, u32); 12] = [
     ("neblinaro_refusal_of", 0, 8),
     ("neblinaro_refused_line", 8, 16),
     ("neblinaro_solved_lines", 8, 16),
     ("neblinaro_solved_turns", 24, 16),
+    ("neblinaro_always_yes", 8, 16),
+    ("neblinaro_always_turns", 24, 16),
     ("neblinaro_judged_yes", 8, 16),
     ("neblinaro_judged_line", 24, 16),
     ("neblinaro_run_steps", 8, 16),
@@ -161,13 +163,13 @@ fn fields() {
     }
 }
 
-/// Each of the five calls is declared, with what it is lent in the order that the tests use.
+/// Each of the six calls is declared, with what it is lent in the order that the tests use.
 #[test]
 fn declarations() {
     let spaced = |text: &str| text.split_whitespace().collect::<Vec<_>>().join(" ");
     let header = spaced(&read("include/neblinaro.h"));
     let own = read("bench/src/calls.rs");
-    for call in ["check", "compare", "solve", "judge", "run"] {
+    for call in ["check", "compare", "solve", "always", "judge", "run"] {
         let start = own.find(&format!("pub fn neblinaro_{call}(")).expect("a declaration");
         let end = start + own[start..].find(';').expect("its end");
         let parameters = own[start..end].split_once('(').expect("parameters").1;

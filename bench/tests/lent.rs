@@ -1,7 +1,9 @@
-//! The five calls on memory between inaccessible pages: number and every byte are those of the second implementation, and nothing
+//! The six calls on memory between inaccessible pages: number and every byte are those of the second implementation, and nothing
 //! around a buffer is touched. The sheet's pages can only be read.
 
-use bench::calls::{neblinaro_check, neblinaro_compare, neblinaro_judge, neblinaro_run, neblinaro_solve};
+use bench::calls::{
+    neblinaro_always, neblinaro_check, neblinaro_compare, neblinaro_judge, neblinaro_run, neblinaro_solve,
+};
 use bench::lent::{Edge, Lent};
 use reference::generate::sheet;
 use reference::limits::{LOG_BYTES, SCRATCH_BYTES, TABLE_BYTES, TERM_BYTES};
@@ -16,6 +18,7 @@ enum Call {
     Check,
     Compare(u64),
     Solve(u64, u64),
+    Always(u64, u64),
     Judge(u64),
     Run(u64),
 }
@@ -25,7 +28,7 @@ impl Call {
         match self {
             Call::Check => &[],
             Call::Compare(_) => &[SCRATCH_BYTES],
-            Call::Solve(..) | Call::Judge(_) => &[TABLE_BYTES, SCRATCH_BYTES],
+            Call::Solve(..) | Call::Always(..) | Call::Judge(_) => &[TABLE_BYTES, SCRATCH_BYTES],
             Call::Run(_) => &[TABLE_BYTES, SCRATCH_BYTES, TERM_BYTES, LOG_BYTES],
         }
     }
@@ -39,6 +42,9 @@ impl Call {
                 Call::Check => neblinaro_check(s, n),
                 Call::Compare(task) => neblinaro_compare(s, n, task, p(0), l(0)),
                 Call::Solve(equation, direction) => neblinaro_solve(s, n, equation, direction, p(0), l(0), p(1), l(1)),
+                Call::Always(equation, direction) => {
+                    neblinaro_always(s, n, equation, direction, p(0), l(0), p(1), l(1))
+                }
                 Call::Judge(task) => neblinaro_judge(s, n, task, p(0), l(0), p(1), l(1)),
                 Call::Run(task) => neblinaro_run(s, n, task, p(0), l(0), p(1), l(1), p(2), l(2), p(3), l(3)),
             }
@@ -51,6 +57,9 @@ impl Call {
             (Call::Compare(task), [scratch]) => reference::compare(sheet, task, scratch),
             (Call::Solve(equation, direction), [table, scratch]) => {
                 reference::solve(sheet, equation, direction, table, scratch)
+            }
+            (Call::Always(equation, direction), [table, scratch]) => {
+                reference::always(sheet, equation, direction, table, scratch)
             }
             (Call::Judge(task), [table, scratch]) => reference::judge(sheet, task, table, scratch),
             (Call::Run(task), [table, scratch, term, log]) => reference::run(sheet, task, table, scratch, term, log),
@@ -88,9 +97,13 @@ fn calls(sheet: &[u8]) -> Vec<Call> {
         calls.extend([Call::Compare(task), Call::Judge(task), Call::Run(task)]);
     }
     for equation in (0..=equations).chain(ABSENT) {
-        calls.extend([Call::Solve(equation, 0), Call::Solve(equation, 1)]);
+        for direction in 0..2 {
+            calls.extend([Call::Solve(equation, direction), Call::Always(equation, direction)]);
+        }
     }
-    calls.extend([2].into_iter().chain(ABSENT).map(|direction| Call::Solve(0, direction)));
+    for direction in [2].into_iter().chain(ABSENT) {
+        calls.extend([Call::Solve(0, direction), Call::Always(0, direction)]);
+    }
     calls
 }
 
@@ -204,6 +217,9 @@ fn small_stack() {
                     Call::Compare(task) => bench::calls::compare(&sheet, task, scratch),
                     Call::Solve(equation, direction) => {
                         bench::calls::solve(&sheet, equation, direction, table, scratch)
+                    }
+                    Call::Always(equation, direction) => {
+                        bench::calls::always(&sheet, equation, direction, table, scratch)
                     }
                     Call::Judge(task) => bench::calls::judge(&sheet, task, table, scratch),
                     Call::Run(task) => bench::calls::run(&sheet, task, table, scratch, term, log),

@@ -1,11 +1,11 @@
-//! The five calls. Each reads the lent sheet afresh and returns one number: the refusal in the lowest byte, then
+//! The six calls. Each reads the lent sheet afresh and returns one number: the refusal in the lowest byte, then
 //! 16-bit fields.
 
 use crate::ground;
 use crate::limits::*;
 use crate::rewrite;
 use crate::sheet::{self, Refusal, Sheet, Task};
-use crate::walk::Walker;
+use crate::walk::{Excess, Walker};
 
 /// Three fields above a refusal byte of 0.
 fn success(fields: [usize; 3]) -> u64 {
@@ -40,12 +40,9 @@ fn try_solve(
         return Err(TOO_SHORT);
     }
     let sheet = sheet::read(sheet)?;
-    if equation >= sheet.equations().len() as u64 || direction > 1 {
-        return Err(ABSENT);
-    }
-    let number = equation as usize;
+    let (number, direction) = find_direction(&sheet, equation, direction)?;
     let mut walker = Walker::new();
-    let outcome = walker.walk(&rewrite::equation(&sheet, number), direction as u8);
+    let outcome = walker.walk(&rewrite::equation(&sheet, number), direction);
     scratch[..SCRATCH_BYTES].fill(0);
     match outcome {
         Ok(turns) => {
@@ -56,8 +53,35 @@ fn try_solve(
         }
         Err(excess) => {
             table[..TABLE_BYTES].fill(NONE);
-            Err(Refusal { number: excess.refusal_number(), line: sheet.equations()[number].line })
+            Err(refused_walk(&sheet, number, excess))
         }
+    }
+}
+
+/// Tells whether one direction of an equation always holds, as far as an empty line of its table shows it; the table is
+/// not written. Gives 1 or 0, and the turns taken by then.
+pub fn always(sheet: &[u8], equation: u64, direction: u64, table: &mut [u8], scratch: &mut [u8]) -> u64 {
+    code(try_always(sheet, equation, direction, table, scratch))
+}
+
+fn try_always(
+    sheet: &[u8],
+    equation: u64,
+    direction: u64,
+    table: &mut [u8],
+    scratch: &mut [u8],
+) -> Result<u64, Refusal> {
+    if table.len() < TABLE_BYTES || scratch.len() < SCRATCH_BYTES {
+        return Err(TOO_SHORT);
+    }
+    let sheet = sheet::read(sheet)?;
+    let (number, direction) = find_direction(&sheet, equation, direction)?;
+    let outcome = Walker::new().always(&rewrite::equation(&sheet, number), direction);
+    table[..TABLE_BYTES].fill(NONE);
+    scratch[..SCRATCH_BYTES].fill(0);
+    match outcome {
+        Ok((yes, turns)) => Ok(success([yes as usize, turns as usize, 0])),
+        Err(excess) => Err(refused_walk(&sheet, number, excess)),
     }
 }
 
@@ -129,6 +153,19 @@ fn try_compare(sheet: &[u8], task: u64, scratch: &mut [u8]) -> Result<u64, Refus
     let order = ground::compare_terms(sheet.bytes(left), sheet.bytes(right), &sheet.arities, scratch);
     scratch[..SCRATCH_BYTES].fill(0);
     Ok(success([(order as i8 + 1) as usize, 0, 0]))
+}
+
+/// An equation of the sheet and a direction of it, where these numbers name some.
+fn find_direction(sheet: &Sheet, equation: u64, direction: u64) -> Result<(usize, u8), Refusal> {
+    if equation >= sheet.equations().len() as u64 || direction > 1 {
+        return Err(ABSENT);
+    }
+    Ok((equation as usize, direction as u8))
+}
+
+/// The refusal for a walk of an equation that came to no answer.
+fn refused_walk(sheet: &Sheet, equation: usize, excess: Excess) -> Refusal {
+    Refusal { number: excess.refusal_number(), line: sheet.equations()[equation].line }
 }
 
 fn find_task(sheet: &Sheet, task: u64) -> Option<Task> {

@@ -14,5 +14,5 @@ pub mod special;
 pub mod timing;
 pub mod walk;
 
-pub use calls::{check, compare, judge, run, solve};
+pub use calls::{always, check, compare, judge, run, solve};
 pub use listing::listing;

@@ -1,4 +1,5 @@
-//! Named sheets at the limits: long walks, full tables and lines, longest texts, hard comparisons, long runs.
+//! Named sheets at the limits: long walks, full tables and lines, empty lines, longest texts, hard comparisons, long
+//! runs.
 
 use crate::generate::{LONG_LINES, Sides, long_line, text};
 use crate::limits::SHEET_BYTES;
@@ -7,7 +8,7 @@ use crate::limits::SHEET_BYTES;
 pub type Named = (&'static str, Vec<u8>);
 
 /// The special sheets whose first equation makes a walk worth timing.
-pub const WALKS: [&str; 16] = [
+pub const WALKS: [&str; 19] = [
     "P1",
     "median law, and below or",
     "median law, or below and",
@@ -24,11 +25,15 @@ pub const WALKS: [&str; 16] = [
     "256 lines",
     "40 elements",
     "41 elements",
+    "always, then 10,001 turns",
+    "always, then 41 elements",
+    "always, then 256 lines",
 ];
 
 /// All special sheets.
 pub fn special() -> Vec<Named> {
     let mut sheets = walks();
+    sheets.extend(empty_lines());
     sheets.extend(comparisons());
     sheets.extend(runs());
     sheets.extend(texts());
@@ -93,13 +98,15 @@ pub fn exclusive_or(and: u8, or: u8, not: u8) -> Sides {
     (xor(&[X], &xor(&[Y], &[Z])), xor(&xor(&[X], &[Y]), &[Z]))
 }
 
+/// A sheet with one equation.
+fn one(arities: &[u8], sides: Sides, tasks: &[&[u8]]) -> Vec<u8> {
+    let mut frames = vec![symbols(arities), equation(&sides.0, &sides.1)];
+    frames.extend(tasks.iter().map(|task| task.to_vec()));
+    text(&frames)
+}
+
 /// Equations with long walks, large tables and long lines.
 fn walks() -> Vec<Named> {
-    let one = |arities: &[u8], sides: Sides, tasks: &[&[u8]]| {
-        let mut frames = vec![symbols(arities), equation(&sides.0, &sides.1)];
-        frames.extend(tasks.iter().map(|task| task.to_vec()));
-        text(&frames)
-    };
     let boolean: [&[u8]; 3] =
         [&[4, 0, 0, 0, 1, 0, 0, 0], &[3, 255, 2, 1, 0, 0, 2, 1, 0, 0, 1, 0, 0], &[5, 2, 0, 0, 1, 0, 0]];
     vec![
@@ -177,6 +184,84 @@ fn walks() -> Vec<Named> {
             ),
         ),
         ("41 elements", one(&LONG_LINES, long_line(true), &[&[4, 0, 0, 0, 0, 0]])),
+    ]
+}
+
+/// Equations with an empty line in the table of direction 00, or with something like it.
+fn empty_lines() -> Vec<Named> {
+    let mut sheets = empty_lines_at_the_limits();
+    sheets.extend(ways_to_an_empty_line());
+    sheets.extend(no_empty_line());
+    sheets
+}
+
+/// The source with the target beside it, under some symbol. The target is equal to itself, which makes an empty line
+/// before the walk comes to the source.
+fn beside_target(symbol: u8, (source, target): Sides) -> Sides {
+    (binary(symbol, &target, &source), target)
+}
+
+/// An empty line before a limit is passed, just at the limit, and in the turn that passes it.
+fn empty_lines_at_the_limits() -> Vec<Named> {
+    let many_lines = (digits("010102818101810001018181010080018180"), digits("01800101818000"));
+    vec![
+        (
+            "always, then 10,001 turns",
+            from_digits(&["0103000201", "02010202010201028000020201018000800202800201020002020280", "04000000"]),
+        ),
+        ("always, then 41 elements", one(&LONG_LINES, beside_target(1, long_line(true)), &[&[4, 0, 0, 0, 0, 0]])),
+        ("always, then 256 lines", one(&[0, 2, 3], beside_target(1, many_lines), &[&[4, 0, 0, 0, 0]])),
+        (
+            "always in turn 10,000, the last",
+            from_digits(&[
+                "0103000201",
+                "0201010102020101000000800101000102020281808002010180800180800201018080018080",
+            ]),
+        ),
+        (
+            "always in turn 10,000, then a turn too many",
+            from_digits(&[
+                "0103000201",
+                "020101010180020002020281010202010100000080010201018080018080800201018080018080",
+            ]),
+        ),
+        (
+            "always too late, in turn 10,001",
+            from_digits(&["0103000201", "020101010202010100000080010201800202818102010180800180800201018080018080"]),
+        ),
+        ("always among 255 lines", from_digits(&["010400000202", "020302828103028180000202000000"])),
+        ("always too late, among 256 lines", from_digits(&["0103000203", "02010181800180000100010000"])),
+    ]
+}
+
+/// Each way in which a turn can make an empty line.
+fn ways_to_an_empty_line() -> Vec<Named> {
+    // A constant c between a symbol p below it and symbols f and g above it.
+    let (p, c, f, g) = (0, 1, 2, 3);
+    let around_c = [2, 0, 1, 2];
+    vec![
+        // g(x, y) > c: the last choice has no element, and the first one is still to be treated.
+        ("always in the first turn", one(&around_c, (vec![g, X, Y], vec![c]), &[&[4, 0, 0, c, c]])),
+        // p(f(x), y) > c: f(x) > c makes the empty line between x = c and f(x) = c.
+        ("always in the middle of the table", one(&around_c, (vec![p, f, X, Y], vec![c]), &[&[4, 0, 0, c, c]])),
+        // p(f(x), y) > f(x): by f(x) = f(x), which binds nothing.
+        ("always by an equality", one(&around_c, (vec![p, f, X, Y], vec![f, X]), &[&[4, 0, 0, c, c]])),
+        // g(x, y) > p(x, y): in the last choice g(x, y) > x and g(x, y) > y are deleted.
+        ("always by two deletions", one(&around_c, (vec![g, X, Y], vec![p, X, Y]), &[&[4, 0, 0, c, c]])),
+        // g(x, c) > f(d), where d is below c: x is bound to f(d) before g(x, c) > d makes the empty line.
+        ("a binding first, then always", one(&[0, 0, 1, 2], (vec![g, X, c], vec![f, 0]), &[&[4, 0, 0, c]])),
+    ]
+}
+
+/// Lines that have no element, or would have none, but are not empty.
+fn no_empty_line() -> Vec<Named> {
+    vec![
+        // f(x, y) > f(y, g(y)), g above f: in x > y, x = g(y) the binding lets the other element be deleted.
+        ("no element but a binding", from_digits(&["0103000201", "0201808101810281", "0400000000"])),
+        // g(x) > a, a above g: x > a, or x bound to a. One of them holds at each value, and no line at all values.
+        ("true everywhere without an empty line", from_digits(&["01020100", "02008001", "04000001", "0400000001"])),
+        // g(a) > b, b above a above g: nothing is left of a = b.
+        ("a false equality alone in its line", from_digits(&["0103010000", "02000102"])),
     ]
 }
 

@@ -119,6 +119,11 @@ impl Line {
         self.reduced as usize + ELEMENTS - self.open as usize
     }
 
+    /// Whether the line has neither binding nor element. Such a line is finished, as it has nothing to be treated.
+    fn is_empty(&self) -> bool {
+        self.bound == 0 && self.length() == 0
+    }
+
     /// The position reached from `position` through the bindings, and the node there.
     fn reach(&self, equation: &Equation, mut position: u8) -> (u8, Node) {
         loop {
@@ -145,6 +150,9 @@ impl Line {
     }
 
     /// Moves the gap behind the elements that are fully reduced and tells what the first other one asks for.
+    // Both kinds of walk call it and `split`. Left to itself the compiler puts them into neither, and a turn takes a
+    // fifth longer.
+    #[inline(always)]
     fn next_treatment(&mut self, equation: &Equation) -> Treatment {
         while (self.open as usize) < ELEMENTS {
             let element = self.elements[self.open as usize];
@@ -293,7 +301,7 @@ impl Walker {
         Walker { stack: vec![Line::EMPTY; LINES], finished: Vec::with_capacity(LINES), measure: Measure::default() }
     }
 
-    /// The finished lines of the last walk.
+    /// The finished lines of the last walk; of one that stopped, those before the line that was treated last.
     pub fn lines(&self) -> &[Line] {
         &self.finished
     }
@@ -310,6 +318,25 @@ impl Walker {
 
     /// The same with another limit of turns.
     pub fn walk_up_to(&mut self, limit: u32, equation: &Equation, direction: u8) -> Result<u32, Excess> {
+        self.go::<false>(limit, equation, direction)?;
+        Ok(self.measure.turns)
+    }
+
+    /// Walks only until the table has an empty line. Gives whether it came to have one, and the count of turns by then
+    /// or, without one, of the whole walk.
+    pub fn always(&mut self, equation: &Equation, direction: u8) -> Result<(bool, u32), Excess> {
+        self.always_up_to(TURNS, equation, direction)
+    }
+
+    /// The same with another limit of turns.
+    pub fn always_up_to(&mut self, limit: u32, equation: &Equation, direction: u8) -> Result<(bool, u32), Excess> {
+        let stopped = self.go::<true>(limit, equation, direction)?;
+        Ok((stopped, self.measure.turns))
+    }
+
+    /// Walks to the end or, with `STOP`, until the table has an empty line; tells whether it stopped. `STOP` is a
+    /// constant so that a walk to the end does not pay for it.
+    fn go<const STOP: bool>(&mut self, limit: u32, equation: &Equation, direction: u8) -> Result<bool, Excess> {
         let (source, target) = equation.source_and_target(direction);
         self.finished.clear();
         self.stack[0] = Line::opening(source, target);
@@ -327,6 +354,7 @@ impl Walker {
                 return Err(Excess::Turns);
             }
             self.measure.turns += 1;
+            let place = height - 1;
             match treatment {
                 Treatment::Finished => unreachable!(),
                 Treatment::DeleteLine => height -= 1,
@@ -344,12 +372,28 @@ impl Walker {
                     height = self.split(equation, height, element, left, right)?;
                 }
             }
+            if STOP && self.made_empty_line(place, height) {
+                return Ok(true);
+            }
         }
-        Ok(self.measure.turns)
+        Ok(false)
+    }
+
+    /// Whether a turn made an empty line. The line that it treated lay at `place` on the stack, which now has this
+    /// height.
+    ///
+    /// The whole table need not be looked over, since a turn changes no other line: the first empty line is one of
+    /// those that take the place of the treated one. Of several only the last can be empty, for the only choice
+    /// without elements is that of a symbol above a constant, which comes last. The last line lies lowest, at `place`.
+    /// Where the stack does not reach above it, the line was deleted and what lies there means nothing.
+    fn made_empty_line(&self, place: usize, height: usize) -> bool {
+        height > place && self.stack[place].is_empty()
     }
 
     /// Replaces the line on top of the stack by one line for each way in which its first open element, an
     /// inequality between the terms at `left` and `right`, can be true. Gives the new height of the stack.
+    // As for `next_treatment`.
+    #[inline(always)]
     fn split(
         &mut self,
         equation: &Equation,

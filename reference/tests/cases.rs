@@ -33,6 +33,25 @@ fn solves(symbols: &str, equation: &str, turns: u64, records: &[Vec<u8>]) {
     buffers.assert_scratch_cleared();
 }
 
+/// Asks for always in direction 00 of the only equation and compares answer and turns.
+fn always(symbols: &str, equation: &str, answer: u64, turns: u64) {
+    let sheet = sheet(&format!("{symbols} {equation}"));
+    let mut buffers = Buffers::new();
+    assert_eq!(fields(buffers.always(&sheet, 0, 0)), [answer, turns, 0]);
+    buffers.assert_table_void();
+    buffers.assert_scratch_cleared();
+    buffers.table = Buffers::new().table;
+    buffers.scratch = Buffers::new().scratch;
+    buffers.assert_untouched();
+}
+
+/// Two ground terms as an equation: no line can have bindings or keep elements, so always tells whether the first term
+/// is greater.
+fn always_greater(symbols: &str, terms: &str, answer: u64) {
+    let sheet = sheet(&format!("{symbols} 02{}", terms.replace(' ', "")));
+    assert_eq!(fields(Buffers::new().always(&sheet, 0, 0))[0], answer);
+}
+
 fn compares(symbols: &str, terms: &str, verdict: u64) {
     let sheet = sheet(&format!("{symbols} 028080 05{}", terms.replace(' ', "")));
     let mut buffers = Buffers::new();
@@ -73,6 +92,13 @@ fn p1_calls() {
     buffers.assert_scratch_cleared();
 
     assert_eq!(fields(Buffers::new().compare(&sheet, 2)), [2, 0, 0]);
+
+    for direction in 0..2 {
+        let mut buffers = Buffers::new();
+        assert_eq!(fields(buffers.always(&sheet, 0, direction)), [0, 8, 0]);
+        buffers.assert_table_void();
+        buffers.assert_scratch_cleared();
+    }
 }
 
 #[test]
@@ -84,28 +110,44 @@ fn p2_to_p5_comparisons() {
 }
 
 #[test]
+fn p2_to_p5_always() {
+    always_greater(SYMBOLS_OF_P1, "00 00", 0);
+    always_greater(SYMBOLS_OF_P1, "01 00", 1);
+    always_greater(SYMBOLS_OF_P1, "00 01", 0);
+    always_greater(SYMBOLS_OF_P1, "020001 01", 1);
+    always_greater(SYMBOLS_OF_P1, "01 020001", 0);
+    always_greater(SYMBOLS_OF_P1, "020001 020100", 0);
+    always_greater(SYMBOLS_OF_P1, "020100 020001", 1);
+}
+
+#[test]
 fn p6_variable_against_product_with_it() {
     solves(SYMBOLS_OF_P1, "0280028000", 1, &[]);
+    always(SYMBOLS_OF_P1, "0280028000", 0, 1);
 }
 
 #[test]
 fn p7_product_against_its_factor() {
     solves(SYMBOLS_OF_P1, "0202800080", 1, &[record(&[], &[])]);
+    always(SYMBOLS_OF_P1, "0202800080", 1, 1);
 }
 
 #[test]
 fn p8_constant_against_itself() {
     solves(SYMBOLS_OF_P1, "020000", 1, &[]);
+    always(SYMBOLS_OF_P1, "020000", 0, 1);
 }
 
 #[test]
 fn p9_greater_constant() {
     solves(SYMBOLS_OF_P1, "020100", 1, &[record(&[], &[])]);
+    always(SYMBOLS_OF_P1, "020100", 1, 1);
 }
 
 #[test]
 fn p10_two_variables() {
     solves(SYMBOLS_OF_P1, "028081", 0, &[record(&[], &[(0, 1)])]);
+    always(SYMBOLS_OF_P1, "028081", 0, 0);
 }
 
 #[test]
@@ -121,6 +163,8 @@ fn p11_example_2_of_002() {
         record(&[(0, 4)], &[(2, 5)]),
     ];
     solves("01020200", "02008081008101", 8, &records);
+    // The second line has no element, but a binding.
+    always("01020200", "02008081008101", 0, 8);
     let frames = listing(&sheet("01020200 02008081008101"));
     let expected = "110000070008 12000180008101 12018000810100 12000280818001 12018001018081 12000280818101 \
                     12018101018081 12018081018101 110001";
@@ -131,6 +175,8 @@ fn p11_example_2_of_002() {
 fn p12_example_of_002() {
     // c, b, a, product, plus.
     compares("01050000000202", "0402030100 0302040100", 2);
+    always_greater("01050000000202", "0402030100 0302040100", 1);
+    always_greater("01050000000202", "0302040100 0402030100", 0);
 }
 
 #[test]
@@ -185,6 +231,7 @@ fn kept_inequality_is_looked_at_again_after_a_binding() {
     let records =
         [record(&[], &[(1, 3)]), record(&[(0, 3)], &[]), record(&[], &[(1, 4), (1, 5)]), record(&[(0, 5)], &[])];
     solves("0103000201", "0201808101810281", 11, &records);
+    always("0103000201", "0201808101810281", 0, 11);
 }
 
 #[test]

@@ -23,7 +23,9 @@ fn examine(text: &[u8], name: &str) {
     let mut refused = None;
     for number in 0..sheet.equations.len() {
         for direction in 0..2 {
-            match check_solve(text, &sheet, number, direction, name) {
+            let solved = check_solve(text, &sheet, number, direction, name);
+            check_always(text, &sheet, number, direction, &solved, name);
+            match solved {
                 Ok((lines, turns)) => {
                     list_table(&sheet, number, direction, &lines, turns, &mut frames);
                     tables.push(lines);
@@ -64,14 +66,11 @@ fn examine(text: &[u8], name: &str) {
     assert_eq!(common::listing(text), frames.join(" "), "{name}");
 }
 
-/// Solves one direction in both ways and gives lines and turns, or the number that the call returns.
-fn check_solve(
-    text: &[u8],
-    sheet: &naive::Sheet,
-    number: usize,
-    direction: usize,
-    name: &str,
-) -> Result<(Vec<naive::Line>, usize), u64> {
+/// Lines and turns, or the number that a refused call returns.
+type Solved = Result<(Vec<naive::Line>, usize), u64>;
+
+/// Solves one direction in both ways.
+fn check_solve(text: &[u8], sheet: &naive::Sheet, number: usize, direction: usize, name: &str) -> Solved {
     let (left, right, line) = &sheet.equations[number];
     let bytes = [&left[..], right].concat();
     let walk = Walk { arities: &sheet.arities, bytes: &bytes };
@@ -90,6 +89,31 @@ fn check_solve(
             buffers.assert_table_void();
             Err(code)
         }
+    }
+}
+
+/// Asks for always in both ways, and compares the answer with what solve gave.
+fn check_always(text: &[u8], sheet: &naive::Sheet, number: usize, direction: usize, solved: &Solved, name: &str) {
+    let (left, right, line) = &sheet.equations[number];
+    let bytes = [&left[..], right].concat();
+    let walk = Walk { arities: &sheet.arities, bytes: &bytes };
+    let (source, target) = if direction == 0 { (0, left.len()) } else { (left.len(), 0) };
+    let mut buffers = Buffers::new();
+    let code = buffers.always(text, number as u64, direction as u64);
+    buffers.assert_table_void();
+    buffers.assert_scratch_cleared();
+    match walk.always(source, target) {
+        Ok((yes, turns)) => assert_eq!(fields(code), [yes as u64, turns as u64, 0], "{name}"),
+        Err(refused) => assert_eq!(code, refused | (*line as u64) << 8, "{name}"),
+    }
+    match solved {
+        Ok((lines, turns)) => {
+            let [answer, turns_by_then, _] = fields(code);
+            assert_eq!(answer == 1, lines.iter().any(naive::is_empty), "{name}");
+            assert!(turns_by_then == *turns as u64 || answer == 1 && turns_by_then < *turns as u64, "{name}");
+        }
+        // A yes may have been reached before.
+        Err(refused) => assert!(code == *refused || fields(code)[0] == 1, "{name}"),
     }
 }
 
@@ -191,6 +215,7 @@ fn check_refused_calls(text: &[u8], name: &str, (number, line): (u64, u64)) {
     let code = number | line << 8;
     let mut buffers = Buffers::new();
     assert_eq!(buffers.solve(text, 0, 0), code, "{name}");
+    assert_eq!(buffers.always(text, 0, 0), code, "{name}");
     assert_eq!(buffers.judge(text, 0), code, "{name}");
     assert_eq!(buffers.run(text, 0), code, "{name}");
     assert_eq!(buffers.compare(text, 0), code, "{name}");
@@ -203,9 +228,11 @@ fn check_absent(text: &[u8], sheet: &naive::Sheet, name: &str) {
     let mut buffers = Buffers::new();
     for equation in [sheet.equations.len() as u64, 256, 1 << 32, u64::MAX] {
         assert_eq!(buffers.solve(text, equation, 0), 12, "{name}");
+        assert_eq!(buffers.always(text, equation, 0), 12, "{name}");
     }
     for direction in [2, 256, u64::MAX] {
         assert_eq!(buffers.solve(text, 0, direction), 12, "{name}");
+        assert_eq!(buffers.always(text, 0, direction), 12, "{name}");
     }
     let tasks = sheet.tasks.len() as u64;
     for task in (0..tasks).chain([tasks, 32, 256, 1 << 32, u64::MAX]) {
@@ -228,6 +255,50 @@ fn generated_sheets() {
     for seed in 0..500 {
         examine(&reference::generate::sheet(seed), &format!("seed {seed}"));
     }
+}
+
+/// How often always answers yes, answers no, is refused, and answers yes though solve is refused.
+#[derive(Debug, Default)]
+struct Answers {
+    yes: usize,
+    no: usize,
+    refused: usize,
+    yes_before_refusal: usize,
+}
+
+impl Answers {
+    fn count(&mut self, text: &[u8]) {
+        let Ok(sheet) = naive::read(text) else { return };
+        for equation in 0..sheet.equations.len() as u64 {
+            for direction in 0..2 {
+                let always = Buffers::new().always(text, equation, direction);
+                let solve = Buffers::new().solve(text, equation, direction);
+                self.refused += (always & 0xff != 0) as usize;
+                self.no += (always & 0xff == 0 && fields(always)[0] == 0) as usize;
+                let yes = always & 0xff == 0 && fields(always)[0] == 1;
+                self.yes += yes as usize;
+                self.yes_before_refusal += (yes && solve & 0xff != 0) as usize;
+            }
+        }
+    }
+}
+
+/// The other tests would say little about always if one answer were missing among their sheets.
+#[test]
+fn every_answer_of_always_occurs() {
+    let mut generated = Answers::default();
+    for seed in 0..500 {
+        generated.count(&reference::generate::sheet(seed));
+    }
+    println!("generated sheets: {generated:?}");
+    assert!(generated.yes >= 500 && generated.no >= 500);
+    assert!(generated.refused >= 20 && generated.yes_before_refusal >= 3);
+    let mut special = Answers::default();
+    for (_, sheet) in reference::special::special() {
+        special.count(&sheet);
+    }
+    println!("special sheets: {special:?}");
+    assert!(special.yes >= 10 && special.no >= 10 && special.refused >= 10 && special.yes_before_refusal >= 5);
 }
 
 /// Takes some minutes.

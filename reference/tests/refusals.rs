@@ -171,6 +171,9 @@ fn short_buffers_come_first() {
         let (t, s, m, l) = (TABLE_BYTES - 1, SCRATCH_BYTES - 1, TERM_BYTES - 1, LOG_BYTES - 1);
         assert_eq!(reference::solve(text, 9, 9, &mut table[..t], scratch), 11);
         assert_eq!(reference::solve(text, 0, 0, table, &mut scratch[..s]), 11);
+        assert_eq!(reference::always(text, 9, 9, &mut table[..t], scratch), 11);
+        assert_eq!(reference::always(text, 0, 0, table, &mut scratch[..s]), 11);
+        assert_eq!(reference::always(text, 0, 0, &mut [], &mut []), 11);
         assert_eq!(reference::judge(text, 1, &mut table[..t], scratch), 11);
         assert_eq!(reference::judge(text, 1, table, &mut scratch[..s]), 11);
         assert_eq!(reference::run(text, 0, &mut table[..t], scratch, term, log), 11);
@@ -190,6 +193,7 @@ fn buffers_of_exactly_the_lengths_are_served() {
     let (mut table, mut scratch) = (vec![PATTERN; TABLE_BYTES], vec![PATTERN; SCRATCH_BYTES]);
     let (mut term, mut log) = (vec![PATTERN; TERM_BYTES], vec![PATTERN; LOG_BYTES]);
     assert_eq!(reference::solve(&text, 0, 0, &mut table, &mut scratch) & 0xff, 0);
+    assert_eq!(reference::always(&text, 0, 0, &mut table, &mut scratch) & 0xff, 0);
     assert_eq!(reference::judge(&text, 1, &mut table, &mut scratch) & 0xff, 0);
     assert_eq!(reference::run(&text, 0, &mut table, &mut scratch, &mut term, &mut log) & 0xff, 0);
     assert_eq!(reference::compare(&text, 2, &mut scratch) & 0xff, 0);
@@ -207,6 +211,14 @@ fn a_refused_walk_voids_table_and_scratch() {
     buffers.assert_table_void();
     buffers.assert_scratch_cleared();
     let mut buffers = Buffers::new();
+    assert_eq!(buffers.always(&text, 1, 0), code);
+    buffers.assert_table_void();
+    buffers.assert_scratch_cleared();
+    assert!(buffers.term == Buffers::new().term && buffers.log == Buffers::new().log);
+    // The other direction and the other equation are not walked.
+    assert_eq!(buffers.always(&text, 1, 1) & 0xff, 0);
+    assert_eq!(buffers.always(&text, 0, 0) & 0xff, 0);
+    let mut buffers = Buffers::new();
     assert_eq!(buffers.run(&text, 0), code);
     buffers.assert_table_void();
     buffers.assert_scratch_cleared();
@@ -216,7 +228,45 @@ fn a_refused_walk_voids_table_and_scratch() {
     assert_eq!(buffers.judge(&text, 0), 12);
     assert_eq!(buffers.run(&text, 1), 12);
     assert_eq!(buffers.solve(&text, 2, 0), 12);
+    assert_eq!(buffers.always(&text, 2, 0), 12);
+    assert_eq!(buffers.always(&text, 1, 2), 12);
     buffers.assert_untouched();
     assert_eq!(buffers.compare(&text, 1), 2 << 8);
     assert_eq!(listing(&text), "ff080003");
+}
+
+#[test]
+fn a_refused_sheet_is_refused_by_always() {
+    // Each of 1 to 7, also where equation and direction are absent, for the sheet is read before they are looked for.
+    let start = sheet(START);
+    let with = |frame: &str| [&start[..], frame.as_bytes()].concat();
+    let refused = [
+        (vec![], 1, 0),
+        (with("0g\n"), 2, 3),
+        (with("06\n"), 3, 3),
+        (sheet("010105 028080"), 4, 1),
+        (with("0500\n"), 5, 3),
+        (with("050080\n"), 6, 3),
+        (with("040100\n"), 7, 3),
+    ];
+    for (text, number, line) in refused {
+        let mut buffers = Buffers::new();
+        assert_eq!(buffers.always(&text, 0, 0), number | line << 8);
+        assert_eq!(buffers.always(&text, 16, 2), number | line << 8);
+        buffers.assert_untouched();
+    }
+}
+
+#[test]
+fn always_answers_where_solve_is_refused() {
+    // The second equation has an empty line after 5,465 turns and needs more than 10,000.
+    let text = sheet("0103000201 02018081018180 02010202010201028000020201018000800202800201020002020280");
+    let mut buffers = Buffers::new();
+    assert_eq!(buffers.solve(&text, 1, 0), 8 | 3 << 8);
+    let mut buffers_of_always = Buffers::new();
+    assert_eq!(buffers_of_always.always(&text, 1, 0), 1 << 8 | 5_465 << 24);
+    // What is left in the buffers is the same.
+    assert!(buffers_of_always == buffers);
+    buffers.assert_table_void();
+    buffers.assert_scratch_cleared();
 }

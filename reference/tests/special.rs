@@ -23,6 +23,27 @@ fn refused(name: &str, equation: u64, direction: u64) -> [u64; 2] {
     [code & 0xff, code >> 8]
 }
 
+/// The number that always returns for one direction of an equation. It leaves the same in the buffers whether it
+/// answers or the walk is refused.
+fn always_code(name: &str, equation: u64, direction: u64) -> u64 {
+    let mut buffers = Buffers::new();
+    let code = buffers.always(&special_sheet(name), equation, direction);
+    buffers.assert_table_void();
+    buffers.assert_scratch_cleared();
+    code
+}
+
+/// Answer and turns of always for direction 00 of the first equation.
+fn always(name: &str) -> [u64; 2] {
+    let [answer, turns, _] = fields(always_code(name, 0, 0));
+    [answer, turns]
+}
+
+fn always_refused(name: &str, equation: u64, direction: u64) -> [u64; 2] {
+    let code = always_code(name, equation, direction);
+    [code & 0xff, code >> 8]
+}
+
 #[test]
 fn names_differ() {
     let mut names: Vec<&str> = special().into_iter().map(|(name, _)| name).collect();
@@ -70,6 +91,89 @@ fn last_element() {
     let longest = buffers.table.chunks(89).take(118).map(|record| record[8]).max();
     assert_eq!(longest, Some(40));
     assert_eq!(refused("41 elements", 0, 0), [9, 2]);
+}
+
+#[test]
+fn yes_before_a_refusal() {
+    assert_eq!(refused("always, then 10,001 turns", 0, 0), [8, 2]);
+    assert_eq!(always("always, then 10,001 turns"), [1, 5_465]);
+    assert_eq!(refused("always, then 41 elements", 0, 0), [9, 2]);
+    assert_eq!(always("always, then 41 elements"), [1, 108]);
+    assert_eq!(refused("always, then 256 lines", 0, 0), [10, 2]);
+    assert_eq!(always("always, then 256 lines"), [1, 70]);
+}
+
+#[test]
+fn yes_at_a_limit() {
+    assert_eq!(solved("always in turn 10,000, the last", 0), [153, 10_000]);
+    assert_eq!(always("always in turn 10,000, the last"), [1, 10_000]);
+    assert_eq!(refused("always in turn 10,000, then a turn too many", 0, 0), [8, 2]);
+    assert_eq!(always("always in turn 10,000, then a turn too many"), [1, 10_000]);
+    assert_eq!(refused("always among 255 lines", 0, 0), [10, 2]);
+    assert_eq!(always("always among 255 lines"), [1, 399]);
+}
+
+#[test]
+fn no_yes_in_a_refused_turn() {
+    assert_eq!(refused("always too late, in turn 10,001", 0, 0), [8, 2]);
+    assert_eq!(always_refused("always too late, in turn 10,001", 0, 0), [8, 2]);
+    assert_eq!(refused("always too late, among 256 lines", 0, 0), [10, 2]);
+    assert_eq!(always_refused("always too late, among 256 lines", 0, 0), [10, 2]);
+}
+
+#[test]
+fn always_is_refused_where_no_yes_was_reached() {
+    assert_eq!(always_refused("10,001 turns", 0, 0), [8, 2]);
+    assert_eq!(always_refused("10,001 turns after a short equation", 1, 0), [8, 3]);
+    assert_eq!(always_refused("41 elements", 0, 0), [9, 2]);
+    assert_eq!(always_refused("256 lines", 0, 1), [10, 2]);
+}
+
+#[test]
+fn yes_by_each_way_to_an_empty_line() {
+    // Lines and turns of solve, answer and turns of always.
+    let both = |name: &str| (solved(name, 0), always(name));
+    assert_eq!(both("always in the first turn"), ([5, 3], [1, 1]));
+    assert_eq!(both("always in the middle of the table"), ([5, 5], [1, 2]));
+    assert_eq!(both("always by an equality"), ([3, 7], [1, 6]));
+    assert_eq!(both("always by two deletions"), ([1, 7], [1, 7]));
+    assert_eq!(both("a binding first, then always"), ([6, 8], [1, 5]));
+}
+
+/// The records of direction 00, and the index of the first one without element.
+fn first_without_element(name: &str) -> (Vec<Vec<u8>>, Option<usize>) {
+    let mut buffers = Buffers::new();
+    let [lines, _, _] = fields(buffers.solve(&special_sheet(name), 0, 0));
+    let records: Vec<Vec<u8>> = buffers.table.chunks(89).take(lines as usize).map(<[u8]>::to_vec).collect();
+    let index = records.iter().position(|record| record[8] == 0);
+    (records, index)
+}
+
+#[test]
+fn place_of_the_empty_line() {
+    let is_empty = |record: &Vec<u8>| record[8] == 0 && record[..8] == [0xff; 8];
+    let (records, _) = first_without_element("always in the middle of the table");
+    assert_eq!(records.iter().position(is_empty), Some(2));
+    assert_eq!(records.len(), 5);
+    // A line without element has a binding, and the empty lines come after it: that of c > d, and the last one, which
+    // is made first.
+    let (records, index) = first_without_element("a binding first, then always");
+    assert_eq!(index, Some(1));
+    assert_eq!(records.iter().map(is_empty).collect::<Vec<_>>(), [false, false, false, false, true, true]);
+}
+
+#[test]
+fn no_without_an_empty_line() {
+    let both = |name: &str| (solved(name, 0), always(name));
+    assert_eq!(both("no element but a binding"), ([4, 11], [0, 11]));
+    assert_eq!(both("true everywhere without an empty line"), ([2, 2], [0, 2]));
+    assert_eq!(both("a false equality alone in its line"), ([0, 3], [0, 3]));
+    let (_, index) = first_without_element("no element but a binding");
+    assert_eq!(index, Some(1));
+    // The one value is bound, the other is greater.
+    let everywhere = special_sheet("true everywhere without an empty line");
+    assert_eq!(fields(Buffers::new().judge(&everywhere, 0)), [1, 2, 0]);
+    assert_eq!(fields(Buffers::new().judge(&everywhere, 1)), [1, 1, 0]);
 }
 
 #[test]

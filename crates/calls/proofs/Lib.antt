@@ -1,5 +1,5 @@
 pub mod Checked
 pub mod CompareCall
-pub mod SolveCall
+pub mod DirectedCall
 pub mod JudgeCall
 pub mod RunCall

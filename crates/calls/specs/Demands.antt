@@ -1,14 +1,14 @@
--- Demands 2 and 3 over what the calls give, and W10 of document 02 over the definitions, each a proposition beside its words. Theory proves them: Verdicts,
--- Tables, Runs, Termination. The contracts of the five calls (src/) equate what the code gives with these outcomes, so that the demands speak of the code.
+-- Demands 2 and 3 over what the calls give, and W6 and W10 of document 02, each a proposition beside its words. Theory proves them: Verdicts,
+-- Tables, Runs, Always, Termination. The contracts of the six calls (src/) equate what the code gives with these outcomes, so that the demands speak of the code.
 use Prim.Native.Nat.{ℕ, suc, _≤_, _<_}
 use mathlib.Core.Path.{_≡_}
 use mathlib.Core.Logic.{_⊎_, _↔_}
-use mathlib.Core.Bool.{true, false}
+use mathlib.Core.Bool.{Bool, true, false}
 use mathlib.Core.Option.{none, some}
 use mathlib.Core.List.{List, [], _∷_}
 use mathlib.Core.WellFounded.{Acc}
 use lib.ListN.{length}
-use Rattle.format.specs.Limits.{variable-count, position-count, max-elements, scratch-bytes}
+use Rattle.format.specs.Limits.{variable-count, position-count, max-elements, max-turns, scratch-bytes}
 use Rattle.format.specs.Refusal.{number}
 use Rattle.format.specs.declared.refusal.Refusal.the-variants.{ShortBuffer as short-buffer, AbsentArgument as absent-argument}
 use Rattle.format.specs.Buffer.{written}
@@ -21,6 +21,7 @@ use Rattle.sheet.specs.Sheet.{Sheet, run, comparison}
 use Rattle.sheet.specs.Reading.{accepted, read}
 use Rattle.solving.specs.Line.{Bindings, Element, equal, greater, Line, line, records}
 use Rattle.solving.specs.Walk.{Fuel, AtLeast, solved, walk-within, solve, Solves}
+use Rattle.solving.specs.Always.{has-empty, answered, always, reached}
 use Rattle.solving.specs.Holds.{SomeLineHolds}
 use Rattle.reducing.specs.declared.ending.Ending.the-variants.{NoneFound as none-found}
 use Rattle.reducing.specs.Run.{Descending}
@@ -28,8 +29,8 @@ use Rattle.reducing.specs.Test.{line-run, reference-run, EverySolves}
 use Rattle.reducing.specs.Reduction.{Reduces}
 use Rattle.termination.specs.Walk.{slots, enough-for, no-limit, walk-allowed, WalkEnds}
 use Rattle.termination.specs.Run.{RunEnds}
-use Rattle.outcomes.specs.Buffer.{fields, refusal-byte}
-use Rattle.outcomes.specs.Outcome.{compare-call, table-fits, solve-call, run-fits, run-done, run-call}
+use Rattle.outcomes.specs.Buffer.{fields, refusal-byte, blanked, cleared}
+use Rattle.outcomes.specs.Outcome.{compare-call, table-fits, solve-call, answer-number, always-call, run-fits, run-done, run-call}
 
 -- The number that a call returns names no refusal.
 abbrev pub Served : ℕ → Type 0
@@ -62,7 +63,7 @@ VerdictsDemanded = (sheet : List ℕ) (task : ℕ) (scratch : List ℕ) → Serv
 -- within its limits, any ground terms over the sheet's symbols, whatever their size, as values of the variables: the source instance exceeds the target
 -- instance by L1 to L3 exactly when some line of that direction's table holds."
 
--- The equation and the direction that a call of solve names in an accepted sheet.
+-- The equation and the direction that a call of solve or always names in an accepted sheet.
 pub record DirectionNamed (sheet : List ℕ) (e d : ℕ) : Type 0 where
   pub content : Sheet
   pub reads : read sheet ≡ accepted content
@@ -169,6 +170,64 @@ abbrev pub RunRefusedByHost : Type 0
 RunRefusedByHost =
     (sheet : List ℕ) (s : Sheet) (task : ℕ) (table scratch term log : List ℕ) → read sheet ≡ accepted s
     → EverySolves (s .equations) → ServedOrHost (run-call sheet task table scratch term log .returned)
+
+-- Document 02, W6: "Tutors often want only to know whether a direction always holds."
+
+-- "Its fields are 1 or 0, and the turns taken by then. Table bytes are left ff, scratch 00." Where the answer is yes, the source instance exceeds the target
+-- instance at all values of the variables, the ground terms over the sheet's symbols among them. No claims nothing (document 01: "The converses are not claimed").
+pub record AlwaysDemand (sheet : List ℕ) (e d : ℕ) (table scratch : List ℕ) : Type 0 where
+  pub named : DirectionNamed sheet e d
+  pub answer : Bool
+  pub turns : ℕ
+  pub walked : always (named .equation) (named .direction) ≡ answered answer turns
+  pub given : always-call sheet e d table scratch ≡ record { returned = fields (answer-number answer) turns 0; table = blanked table; scratch = cleared scratch }
+  pub holds : answer ≡ true → (ρ : Values) → inst ρ (source (named .equation) (named .direction)) ≻ inst ρ (target (named .equation) (named .direction))
+
+abbrev pub AlwaysDemanded : Type 0
+AlwaysDemanded = (sheet : List ℕ) (e d : ℕ) (table scratch : List ℕ) → Served (always-call sheet e d table scratch .returned) → AlwaysDemand sheet e d table scratch
+
+-- "with the same lent buffers and order of refusals": where always names a refusal, solve gives the same number and the same bytes.
+abbrev pub RefusedAsSolve : Type 0
+RefusedAsSolve = (sheet : List ℕ) (e d : ℕ) (table scratch : List ℕ) → ¬ Served (always-call sheet e d table scratch .returned) → always-call sheet e d table scratch ≡ solve-call sheet e d table scratch
+
+-- "Where solve succeeds, yes means exactly that its table has such a line": over what the two calls give, and over the walks.
+abbrev pub YesIsInTheTable : Type 0
+YesIsInTheTable =
+    (sheet : List ℕ) (e d : ℕ) (table scratch : List ℕ) → Served (solve-call sheet e d table scratch .returned) → (solved : TableDemand sheet e d table scratch)
+    → (turns : ℕ) × (turns ≤ solved .turns)
+    × (always-call sheet e d table scratch ≡ record { returned = fields (answer-number (has-empty (solved .lines))) turns 0; table = blanked table; scratch = cleared scratch })
+
+abbrev pub YesIsInTheWalk : Type 0
+YesIsInTheWalk = (q : Equation) (o : Direction) (solves : Solves q o) → (turns : ℕ) × (turns ≤ solves .turns) × (always q o ≡ answered (has-empty (solves .table)) turns)
+
+-- "says yes as soon as the whole table, looked over after each turn that is not refused, has a finished line with no binding and no element": the table after these
+-- turns has one, and no table before it.
+pub record ReachedFirst (q : Equation) (o : Direction) (turns : ℕ) : Type 0 where
+  pub table : List Line
+  pub comes : reached q o turns ≡ some table
+  pub has : has-empty table ≡ true
+  pub counted : (1 ≤ turns) × (turns ≤ max-turns)
+  pub none-earlier : (n : ℕ) (other : List Line) → n < turns → reached q o n ≡ some other → has-empty other ≡ false
+
+abbrev pub YesAsSoon : Type 0
+YesAsSoon = (q : Equation) (o : Direction) (turns : ℕ) → always q o ≡ answered true turns → ReachedFirst q o turns
+
+-- "A yes already reached stands though solve would later have given 8, 9 or 10": wherever the table after at most 10,000 turns has such a line, the answer is yes,
+-- after no more turns than that.
+abbrev pub YesStands : Type 0
+YesStands =
+    (q : Equation) (o : Direction) (n : ℕ) (table : List Line) → n ≤ max-turns → reached q o n ≡ some table → has-empty table ≡ true
+    → (turns : ℕ) × (turns ≤ n) × (always q o ≡ answered true turns)
+
+-- "else no when the walk ends": with the table and the turns of solve.
+abbrev pub NoAtTheEnd : Type 0
+NoAtTheEnd = (q : Equation) (o : Direction) (turns : ℕ) → always q o ≡ answered false turns → (table : List Line) × (solve q o ≡ solved table turns) × (has-empty table ≡ false)
+
+-- With buffers that are long enough always serves each direction for which there is an answer.
+abbrev pub AlwaysServes : Type 0
+AlwaysServes =
+    (sheet : List ℕ) (s : Sheet) (e d : ℕ) (q : Equation) (o : Direction) (answer : Bool) (turns : ℕ) (table scratch : List ℕ) → read sheet ≡ accepted s → entry (s .equations) e ≡ some q
+    → direction-of d ≡ some o → always q o ≡ answered answer turns → table-fits table scratch ≡ true → Served (always-call sheet e d table scratch .returned)
 
 -- Document 02, W10: "The syllabus states that ground reduction cannot go on forever, and we want it as a fact about our definitions."
 

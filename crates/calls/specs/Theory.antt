@@ -2,6 +2,8 @@
 pub mod Walks
 pub mod Determined
 pub mod Runs
+pub mod Directed
 pub mod Tables
+pub mod Always
 pub mod Verdicts
 pub mod Termination

@@ -9,8 +9,8 @@ use lib.Dec.{leb}
 use Rattle.format.specs.Limits.{table-bytes, scratch-bytes, term-bytes, log-bytes}
 use Rattle.format.specs.Buffer.{written}
 use Rattle.outcomes.specs.Buffer.{cleared, blanked}
-use Rattle.outcomes.specs.Asked.{asked, comparison-task, solve-directed, judgement-task, reduction-task}
-use Rattle.outcomes.specs.Outcome.{check-call, compare-answer, compare-call, table-fits, solve-answer, solve-call, judge-answer, judge-call, run-fits, run-answer, run-call}
+use Rattle.outcomes.specs.Asked.{asked, comparison-task, Directed, direction-asked, judgement-task, reduction-task}
+use Rattle.outcomes.specs.Outcome.{check-call, compare-answer, compare-call, TableOutcome, table-fits, directed-answer, directed-call, solve-directed, solve-call, always-directed, always-call, judge-answer, judge-call, run-fits, run-answer, run-call}
 use Rattle.cases.specs.Checked.{lines}
 
 abbrev P1-sheet : List String
@@ -21,7 +21,7 @@ check-P1 : check-call (lines P1-sheet) ≡ 0
 unfolding check-call lines
 check-P1 = refl
 
--- Every byte of scratch, once: "scratch's first 57,344 bytes are 00"; "Longer buffers are served and their excess is untouched."
+-- Every byte of scratch, once: "scratch's first 57,344 bytes are 00"; "Longer buffers are gives and their excess is untouched."
 compare-P1 : compare-call (lines P1-sheet) 2 (replicate 57346 0x55) ≡ record { returned = 2 * 2 ^ 8; scratch = replicate 57344 0 ++ replicate 2 0x55 }
 unfolding compare-call lines
 compare-P1 = refl
@@ -40,9 +40,20 @@ compare-fits : (sheet : List ℕ) (task : ℕ) (scratch : List ℕ) {b : Bool} �
 unfolding compare-call
 compare-fits sheet task scratch h = ap (λ b. compare-answer scratch (asked b sheet (comparison-task task))) h
 
-pub solve-fits : (sheet : List ℕ) (e d : ℕ) (table scratch : List ℕ) {b : Bool} → table-fits table scratch ≡ b → solve-call sheet e d table scratch ≡ solve-answer e table scratch (asked b sheet (solve-directed e d))
+pub directed-fits : (gives : Directed → TableOutcome) (sheet : List ℕ) (e d : ℕ) (table scratch : List ℕ) {b : Bool} → table-fits table scratch ≡ b
+    → directed-call gives sheet e d table scratch ≡ directed-answer gives table scratch (asked b sheet (direction-asked e d))
+unfolding directed-call
+directed-fits gives sheet e d table scratch h = ap (λ b. directed-answer gives table scratch (asked b sheet (direction-asked e d))) h
+
+pub solve-fits : (sheet : List ℕ) (e d : ℕ) (table scratch : List ℕ) {b : Bool} → table-fits table scratch ≡ b
+    → solve-call sheet e d table scratch ≡ directed-answer (solve-directed e table scratch) table scratch (asked b sheet (direction-asked e d))
 unfolding solve-call
-solve-fits sheet e d table scratch h = ap (λ b. solve-answer e table scratch (asked b sheet (solve-directed e d))) h
+solve-fits sheet e d table scratch h = directed-fits (solve-directed e table scratch) sheet e d table scratch h
+
+always-fits : (sheet : List ℕ) (e d : ℕ) (table scratch : List ℕ) {b : Bool} → table-fits table scratch ≡ b
+    → always-call sheet e d table scratch ≡ directed-answer (always-directed e table scratch) table scratch (asked b sheet (direction-asked e d))
+unfolding always-call
+always-fits sheet e d table scratch h = directed-fits (always-directed e table scratch) sheet e d table scratch h
 
 judge-fits : (sheet : List ℕ) (task : ℕ) (table scratch : List ℕ) {b : Bool} → table-fits table scratch ≡ b → judge-call sheet task table scratch ≡ judge-answer table scratch (asked b sheet (judgement-task task))
 unfolding judge-call
@@ -141,6 +152,23 @@ module _ (table scratch : List ℕ) where
       solve-absent-direction : solve-call (lines P1-sheet) 0 2 table scratch ≡ record { returned = 12; table = table; scratch = scratch }
       unfolding solve-call lines
       solve-absent-direction = solve-fits (lines P1-sheet) 0 2 table scratch fits
+
+      -- Always (W6): "Its fields are 1 or 0, and the turns taken by then. Table bytes are left ff, scratch 00." xa > x and, after as many turns as solve takes, xy > yx.
+      always-P7 : always-call (lines ("0103000002" ∷ "0202800080" ∷ [])) 0 0 table scratch ≡ record { returned = 1 * 2 ^ 8 + 1 * 2 ^ 24; table = blanked table; scratch = cleared scratch }
+      unfolding always-call lines
+      always-P7 = always-fits (lines ("0103000002" ∷ "0202800080" ∷ [])) 0 0 table scratch fits
+
+      always-P1 : always-call (lines P1-sheet) 0 0 table scratch ≡ record { returned = 8 * 2 ^ 24; table = blanked table; scratch = cleared scratch }
+      unfolding always-call lines
+      always-P1 = always-fits (lines P1-sheet) 0 0 table scratch fits
+
+      always-absent-equation : always-call (lines P1-sheet) 1 0 table scratch ≡ record { returned = 12; table = table; scratch = scratch }
+      unfolding always-call lines
+      always-absent-equation = always-fits (lines P1-sheet) 1 0 table scratch fits
+
+      always-forty-one : always-call (lines forty-one) 1 0 table scratch ≡ record { returned = 9 + 3 * 2 ^ 8; table = blanked table; scratch = cleared scratch }
+      unfolding always-call lines
+      always-forty-one = always-fits (lines forty-one) 1 0 table scratch fits
 
       -- Judge: "1 or 0, first holding line counted from 1 or 0"; "judge and run leave the table's first 22,695 bytes ff".
       judge-P1 : judge-call (lines P1-sheet) 1 table scratch ≡ record { returned = 0; table = blanked table; scratch = cleared scratch }

@@ -2,3 +2,4 @@ pub mod Calls
 pub mod Texts
 pub mod Walks
 pub mod Unlimited
+pub mod Always

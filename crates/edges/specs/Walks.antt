@@ -2,13 +2,14 @@
 use Prim.Native.Nat.{ℕ}
 use Prim.Native.String.{String}
 use mathlib.Core.Path.{_≡_, refl}
+use mathlib.Core.Bool.{false}
 use mathlib.Core.Option.{some}
 use mathlib.Core.List.{List, [], _∷_, _++_, map}
 use lib.ListN.{replicate}
 use Rattle.format.specs.declared.refusal.Refusal.the-variants.{TooManyTurns as too-many-turns, TooManyElements as too-many-elements, TooManyLines as too-many-lines}
 use Rattle.terms.specs.Equation.{Equation, view}
 use Rattle.solving.specs.Line.{Bindings, no-bindings, bind, equal, greater, Line, line}
-use Rattle.solving.specs.Walk.{enough, treat, becomes, reach, walk-from, Walked, solved, refused}
+use Rattle.solving.specs.Walk.{enough, treat, becomes, reach, over-limit, walk-until, Walked, solved, refused}
 use Rattle.cases.specs.Checked.{term}
 
 -- The walk, a turn at a time. c and a binary F.
@@ -25,8 +26,8 @@ abbrev opening : List Line
 opening = line no-bindings (greater 0 3 ∷ []) ∷ []
 
 unfoldable pub swap-from : (left : ℕ) → List Line → Walked
-unfolding walk-from view swap
-swap-from left table = walk-from enough (view swap) left 0 table
+unfolding walk-until over-limit view swap
+swap-from left table = walk-until enough (view swap) over-limit (λ table. false) left 0 table
 
 -- "8, a turn beyond 10,000": P1's 8 turns with 8 left, and with 7.
 eight-of-eight : swap-from 8 opening ≡ solved (line no-bindings (greater 1 4 ∷ []) ∷ []) 8

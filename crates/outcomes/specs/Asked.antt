@@ -45,7 +45,7 @@ unfoldable pub comparison-task : (task : ℕ) → Sheet → Option Pair
 unfolding comparison-in entry
 comparison-task task s = comparison-in (entry (s .tasks) task)
 
--- Solve asks for an equation in a direction.
+-- Solve and always ask for an equation in a direction.
 pub record Directed : Type 0 where
   pub equation : Equation
   pub direction : Direction
@@ -55,9 +55,9 @@ directed-in none d = none
 directed-in (some e) none = none
 directed-in (some e) (some d) = some (record { equation = e; direction = d })
 
-unfoldable pub solve-directed : (equation direction : ℕ) → Sheet → Option Directed
+unfoldable pub direction-asked : (equation direction : ℕ) → Sheet → Option Directed
 unfolding directed-in entry direction-of
-solve-directed e d s = directed-in (entry (s .equations) e) (direction-of d)
+direction-asked e d s = directed-in (entry (s .equations) e) (direction-of d)
 
 -- Judge asks for a task of an equation, a direction and values, over all equations of the sheet.
 pub record Judgement : Type 0 where

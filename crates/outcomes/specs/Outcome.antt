@@ -1,7 +1,7 @@
--- The outcome of each of the five calls (document 01, 'Calls and lent memory' and 'Who can cause a refusal'): from the sheet, the arguments and the
+-- The outcome of each of the six calls (document 01, 'Calls and lent memory' and 'Who can cause a refusal'; document 02, W6): from the sheet, the arguments and the
 -- former bytes of the lent buffers to the number returned and every byte of every buffer at exit. A buffer's length is that of its list.
 use Prim.Native.Nat.{ℕ, zero, suc}
-use mathlib.Core.Bool.{Bool, _&&_}
+use mathlib.Core.Bool.{Bool, true, false, _&&_}
 use mathlib.Core.Option.{Option, none, some}
 use mathlib.Core.List.{List, [], _∷_}
 use lib.ListN.{length}
@@ -17,10 +17,11 @@ use Rattle.sheet.specs.Sheet.{Sheet}
 use Rattle.sheet.specs.Reading.{Reading, refused-at, accepted, read}
 use Rattle.solving.specs.Line.{records}
 use Rattle.solving.specs.Walk.{Walked, solved, refused, solve}
+use Rattle.solving.specs.Always.{Answered, answered, unanswered, always}
 use Rattle.reducing.specs.Run.{Step, Run, ending-number, last-term}
 use Rattle.reducing.specs.Test.{holding-line, line-run}
 use Rattle.outcomes.specs.Buffer.{fields, refusal-number, cleared, blanked}
-use Rattle.outcomes.specs.Asked.{asked, Pair, comparison-task, Directed, solve-directed, Judgement, judgement-task, Reduction, reduction-task, equation-line, WalkRefusal, first-refusal}
+use Rattle.outcomes.specs.Asked.{asked, Pair, comparison-task, Directed, direction-asked, Judgement, judgement-task, Reduction, reduction-task, equation-line, WalkRefusal, first-refusal}
 
 -- Check: "(refusal, line)". It is lent nothing but the sheet.
 unfoldable pub check-answer : Reading Sheet → ℕ
@@ -46,7 +47,7 @@ unfoldable pub compare-call : (sheet : List ℕ) → (task : ℕ) → (scratch :
 unfolding compare-answer asked comparison-task
 compare-call sheet task scratch = compare-answer scratch (asked (leb scratch-bytes (length scratch)) sheet (comparison-task task))
 
--- Solve and judge are lent a table and scratch.
+-- Solve, always and judge are lent a table and scratch.
 pub record TableOutcome : Type 0 where
   pub returned : ℕ
   pub table : List ℕ
@@ -60,20 +61,47 @@ unfoldable pub table-unsolved : (table scratch : List ℕ) → Refusal → (line
 unfolding refusal-number blanked cleared
 table-unsolved table scratch r line = record { returned = refusal-number r line; table = blanked table; scratch = cleared scratch }
 
+-- Solve and always, with "the same lent buffers and order of refusals": `gives` is what the call gives where the sheet has the equation and the direction.
+unfoldable pub directed-answer : (gives : Directed → TableOutcome) → (table scratch : List ℕ) → Reading Directed → TableOutcome
+unfolding refusal-number
+directed-answer gives table scratch (refused-at r line) = record { returned = refusal-number r line; table = table; scratch = scratch }
+directed-answer gives table scratch (accepted q) = gives q
+
+unfoldable pub directed-call : (gives : Directed → TableOutcome) → (sheet : List ℕ) → (equation direction : ℕ) → (table scratch : List ℕ) → TableOutcome
+unfolding directed-answer asked direction-asked table-fits
+directed-call gives sheet e d table scratch = directed-answer gives table scratch (asked (table-fits table scratch) sheet (direction-asked e d))
+
 -- Solve: "lines, turns"; "solve's table holds its records, bytes beyond them unchanged".
 unfoldable pub solve-walked : (equation : ℕ) → (table scratch : List ℕ) → Walked → TableOutcome
 unfolding table-unsolved equation-line fields written records cleared
 solve-walked e table scratch (refused r) = table-unsolved table scratch r (equation-line e)
 solve-walked e table scratch (solved ls n) = record { returned = fields (length ls) n 0; table = written (records ls) table; scratch = cleared scratch }
 
-unfoldable pub solve-answer : (equation : ℕ) → (table scratch : List ℕ) → Reading Directed → TableOutcome
-unfolding refusal-number solve-walked solve
-solve-answer e table scratch (refused-at r line) = record { returned = refusal-number r line; table = table; scratch = scratch }
-solve-answer e table scratch (accepted q) = solve-walked e table scratch (solve (q .equation) (q .direction))
+unfoldable pub solve-directed : (equation : ℕ) → (table scratch : List ℕ) → Directed → TableOutcome
+unfolding solve-walked solve
+solve-directed e table scratch q = solve-walked e table scratch (solve (q .equation) (q .direction))
 
 unfoldable pub solve-call : (sheet : List ℕ) → (equation direction : ℕ) → (table scratch : List ℕ) → TableOutcome
-unfolding solve-answer asked solve-directed table-fits
-solve-call sheet e d table scratch = solve-answer e table scratch (asked (table-fits table scratch) sheet (solve-directed e d))
+unfolding directed-call solve-directed
+solve-call sheet e d table scratch = directed-call (solve-directed e table scratch) sheet e d table scratch
+
+-- Always: "Its fields are 1 or 0, and the turns taken by then. Table bytes are left ff, scratch 00."
+unfoldable pub answer-number : Bool → ℕ
+answer-number true = 1
+answer-number false = 0
+
+unfoldable pub always-answered : (equation : ℕ) → (table scratch : List ℕ) → Answered → TableOutcome
+unfolding table-unsolved equation-line fields answer-number blanked cleared
+always-answered e table scratch (unanswered r) = table-unsolved table scratch r (equation-line e)
+always-answered e table scratch (answered b n) = record { returned = fields (answer-number b) n 0; table = blanked table; scratch = cleared scratch }
+
+unfoldable pub always-directed : (equation : ℕ) → (table scratch : List ℕ) → Directed → TableOutcome
+unfolding always-answered always
+always-directed e table scratch q = always-answered e table scratch (always (q .equation) (q .direction))
+
+unfoldable pub always-call : (sheet : List ℕ) → (equation direction : ℕ) → (table scratch : List ℕ) → TableOutcome
+unfolding directed-call always-directed
+always-call sheet e d table scratch = directed-call (always-directed e table scratch) sheet e d table scratch
 
 -- Judge: "1 or 0, first holding line counted from 1 or 0"; "judge and run leave the table's first 22,695 bytes ff".
 unfoldable pub judge-fields : (holding : ℕ) → ℕ

@@ -1,1 +1,3 @@
+pub mod Directed
 pub mod SolveTask
+pub mod AlwaysTask

@@ -1,2 +1,3 @@
-// Solve on an accepted sheet: the lines and the turns of one direction of an equation, and its table.
+// Solve and always, by equation and direction, on an accepted sheet.
+pub mod always;
 pub mod solve;

@@ -18,8 +18,8 @@ ghost use Rattle.format.specs.Limits.{max-equations, table-bytes, scratch-bytes
 ghost use Rattle.terms.specs.Equation.{Equation, Direction, direction-of};
 ghost use Rattle.reading.specs.Contracts.Seek.{Accepts};
 ghost use Rattle.solving.specs.Walk.{solve};
-ghost use Rattle.outcomes.specs.Asked.{asked, solve-directed};
-ghost use Rattle.outcomes.specs.Outcome.{solve-walked, solve-answer};
+ghost use Rattle.outcomes.specs.Asked.{asked, direction-asked};
+ghost use Rattle.outcomes.specs.Outcome.{directed-answer, solve-walked, solve-directed};
 ghost use Rattle.solver.specs.Contracts.Equation.{EquationIs, HasEquation};
 
 // Solve on the bytes of equation `equation`.
@@ -58,7 +58,7 @@ fn solve_found(
 ) -> u64
     requires { ⌜ Accepts (now sheet) known × (equation < known .equations) × (direction < 2) ⌝ }
     requires { ⌜ (table-bytes ≤ length (now table)) × (scratch-bytes ≤ length (now scratch)) ⌝ }
-    ensures { λ r. ⌜ solve-answer equation (now (table .entry)) (now (scratch .entry)) (asked true (now (sheet .entry)) (solve-directed equation direction)) ≡ record { returned = r; table = now (table .exit); scratch = now (scratch .exit) } ⌝ }
+    ensures { λ r. ⌜ directed-answer (solve-directed equation (now (table .entry)) (now (scratch .entry))) (now (table .entry)) (now (scratch .entry)) (asked true (now (sheet .entry)) (direction-asked equation direction)) ≡ record { returned = r; table = now (table .exit); scratch = now (scratch .exit) } ⌝ }
 {
     let mut bytes = [0u8; Limits::POSITIONS];
     let n = equation_at(sheet, known, equation, &mut bytes);
@@ -84,7 +84,7 @@ pub fn solve_named(
 ) -> u64
     requires { ⌜ Accepts (now sheet) known ⌝ }
     requires { ⌜ (table-bytes ≤ length (now table)) × (scratch-bytes ≤ length (now scratch)) ⌝ }
-    ensures { λ r. ⌜ solve-answer equation (now (table .entry)) (now (scratch .entry)) (asked true (now (sheet .entry)) (solve-directed equation direction)) ≡ record { returned = r; table = now (table .exit); scratch = now (scratch .exit) } ⌝ }
+    ensures { λ r. ⌜ directed-answer (solve-directed equation (now (table .entry)) (now (scratch .entry))) (now (table .entry)) (now (scratch .entry)) (asked true (now (sheet .entry)) (direction-asked equation direction)) ≡ record { returned = r; table = now (table .exit); scratch = now (scratch .exit) } ⌝ }
 {
     if known.equations as u64 <= equation {
         return refusal_number(Refusal::AbsentArgument, 0);

@@ -1,19 +1,23 @@
 -- The walk from its first line to its end.
 use Prim.Native.Nat.{ℕ, _+_, _-_, _*_, _≤_, _<_}
 use mathlib.Core.Path.{_≡_, refl, sym, ap, subst, _∙_}
+use mathlib.Core.Bool.{Bool, true, false}
+use mathlib.Core.Option.{some}
 use mathlib.Core.List.{List, [], _∷_, _++_}
 use lib.ListN.{length, take, drop, replicate}
 use lib.Seq.{drop-length, take-append-le}
+use native.Mathlib.Decide.{decLt}
 use native.Mathlib.Omega.{arith}
 use Rattle.format.specs.Buffer.{written}
-use Rattle.format.specs.Limits.{variable-count, no-position, max-lines, max-turns, record-bytes}
+use Rattle.format.specs.Limits.{variable-count, no-position, max-lines, record-bytes}
 use Rattle.format.specs.declared.refusal.Refusal.{Refusal}
 use Rattle.solving.specs.Line.{no-bindings, records}
-use Rattle.solving.specs.Walk.{Walked, enough, walk-from, walk}
-use Rattle.solving.specs.Theory.Whole.{no-bindings-proper, walk-opens}
+use Rattle.solving.specs.Walk.{Walked, solved, enough, over-limit, opening, walk}
+use Rattle.solving.specs.Turns.{table-after}
+use Rattle.solving.specs.Theory.Turns.{same-table}
+use Rattle.solving.specs.Theory.Whole.{no-bindings-proper}
 use Rattle.walking.specs.declared.walk.Walk.{Walk}
 use Rattle.walking.specs.declared.walk.Advanced.{Advanced}
-use Rattle.walking.specs.declared.walk.Progress.{Progress}
 use Rattle.walking.specs.declared.walk.Progress.the-variants.{Going, Refused}
 use Rattle.solver.specs.declared.positions.WalkEnd.{WalkEnd}
 use Rattle.solver.specs.declared.positions.WalkEnd.the-variants.{Solved, Refused as Unsolved}
@@ -26,7 +30,8 @@ use Rattle.lines.specs.Contracts.Line.{opening-line}
 use Rattle.lines.specs.Contracts.Layout.{line-bytes, placed}
 use Rattle.lines.specs.Contracts.Room.{lines-bytes}
 use Rattle.walking.specs.Contracts.WellFormed.{WellFormed}
-use Rattle.walking.specs.Contracts.Walking.{memory-bytes, whole-walk, Walking, left-to-do, GoesOn, Advances, AdvancesAs, EndsAs, WalkEnds}
+use Rattle.walking.specs.Contracts.Walking.{memory-bytes, Walking}
+use Rattle.stopping.specs.Contracts.Ends.{stop-test, stopping-walk, EndsAt, EndsAs, WalkEnds}
 use Rattle.unifying.specs.Theory.PrefixForm.{form-layout}
 use Rattle.lines.specs.Theory.Placed.{placed-length, placed-back}
 use Rattle.lines.specs.Theory.Line.{opening-means}
@@ -51,7 +56,7 @@ module _ {nodes sizes : List ℕ} (laid : InPrefixForm nodes sizes) (s t : ℕ) 
 
   pub opening-walks : (memory memory′ line : List ℕ) → length memory ≡ memory-bytes → line ≡ resting-bytes (opening-line s t) → memory′ ≡ placed (first-place * line-bytes) line memory
       → Walking nodes sizes memory′ at-first
-  unfolding lines-bytes records
+  unfolding lines-bytes records table-after opening no-bindings
   opening-walks memory memory′ line l b e =
       let k : length line ≡ line-bytes = ap length b ∙ well-formed-length (opening-line s t) opening-well-formed in
       let room : first-place * line-bytes + length line ≡ length memory = omega arith in
@@ -74,66 +79,50 @@ module _ {nodes sizes : List ℕ} (laid : InPrefixForm nodes sizes) (s t : ℕ) 
           all-well-formed = (opening-well-formed, tt);
         };
         turns-within = omega arith;
-        leads = ap (λ l. walk-from enough (view-of nodes sizes) max-turns 0 (l ∷ [])) (opening-means s t) ∙ walk-opens enough (view-of nodes sizes) s t;
+        comes = ap (λ l. some (l ∷ [])) (sym (opening-means s t));
       }
 
--- 2. From turn to turn.
-pub record Underway (nodes sizes memory : List ℕ) (w v : Walk) : Type 0 where
-  pub walking : Walking nodes sizes memory v
-  pub same-source : v .source ≡ w .source
-  pub same-target : v .target ≡ w .target
-  pub top-within : v .top ≤ max-lines
+-- 2. The walk from its first line.
+pub ends-between : {nodes sizes memory : List ℕ} {stops : Bool} {s t source target : ℕ} {a : Advanced} → s ≡ source → t ≡ target → WalkEnds nodes sizes memory stops s t a → WalkEnds nodes sizes memory stops source target a
+ends-between {nodes = nodes} {sizes = sizes} {memory = memory} {stops = stops} {t = t} {source = source} {a = a} x y c =
+    subst (λ t. WalkEnds nodes sizes memory stops source t a) y (subst (λ s. WalkEnds nodes sizes memory stops s t a) x c)
 
-same-walk : (nodes sizes : List ℕ) (w v : Walk) → v .source ≡ w .source → v .target ≡ w .target → whole-walk nodes sizes v ≡ whole-walk nodes sizes w
-same-walk nodes sizes w v a b = rw (a, b)
+pub not-stopping : {A : Type 0} → false ≡ true → A
+not-stopping e = let z : _≡_ {A = ℕ} 0 1 = cc in absurd (omega arith)
 
-pub underway-falls : {nodes sizes memory′ : List ℕ} {v : Walk} (a : Advanced) → Advances nodes sizes memory′ v a → a .progress ≡ Going
-    → left-to-do (a .walk) < left-to-do v
-underway-falls {nodes = nodes} {sizes = sizes} {memory′ = memory′} {v = v} a s e =
-    let g : GoesOn nodes sizes memory′ v (a .walk) = subst (λ p. AdvancesAs nodes sizes memory′ v (a .walk) p) e (s .outcome) in
-    g .further .falls
+-- 3. The end of the walk, told. Nothing has stopped it, so that no line is left unfinished.
+module _ {nodes sizes memory : List ℕ} (source target : ℕ) (a : Advanced) (c : WalkEnds nodes sizes memory false source target a) where
+  comes-walk : stopping-walk false nodes sizes source target ≡ walk enough (view-of nodes sizes) source target
+  unfolding walk stop-test
+  comes-walk = refl
 
-module _ {nodes sizes : List ℕ} {w v : Walk} where
-  pub underway-on : {memory memory′ : List ℕ} → Underway nodes sizes memory w v → (a : Advanced) → Advances nodes sizes memory′ v a → a .progress ≡ Going
-      → Underway nodes sizes memory′ w (a .walk)
-  underway-on {memory′ = memory′} c a s e =
-      let g : GoesOn nodes sizes memory′ v (a .walk) = subst (λ p. AdvancesAs nodes sizes memory′ v (a .walk) p) e (s .outcome) in
-      record {
-        walking = g .walking;
-        same-source = g .further .same-source ∙ c .same-source;
-        same-target = g .further .same-target ∙ c .same-target;
-        top-within = g .further .top-within;
-      }
+  ended-at : a .progress ≡ Going → EndsAt nodes sizes memory false source target (a .walk)
+  ended-at e = subst (λ p. EndsAs nodes sizes memory false source target (a .walk) p) e (c .end)
 
-  pub underway-refused : {memory memory′ : List ℕ} → Underway nodes sizes memory w v → (a : Advanced) → Advances nodes sizes memory′ v a → (a .progress ≡ Going → ⊥) → WalkEnds nodes sizes memory′ w a
-  underway-refused {memory′ = memory′} c a s n = go (a .progress) refl (s .outcome)
+  all-finished : (k : EndsAt nodes sizes memory false source target (a .walk)) → max-lines ≤ a .walk .top
+  all-finished k = go (decLt (a .walk .top) max-lines)
     where
-      go : (p : Progress) → a .progress ≡ p → AdvancesAs nodes sizes memory′ v (a .walk) p → WalkEnds nodes sizes memory′ w a
-      go Going e o = absurd (n e)
-      go (Refused r) e o = record { end = subst (λ p. EndsAs nodes sizes memory′ w (a .walk) p) (sym e) (sym (same-walk nodes sizes w v (c .same-source) (c .same-target)) ∙ o) }
-
-  pub underway-ends : {memory : List ℕ} → Underway nodes sizes memory w v → max-lines ≤ v .top → WalkEnds nodes sizes memory w (record { progress = Going; walk = v })
-  underway-ends c h = record { end = (c .walking, h, same-walk nodes sizes w v (c .same-source) (c .same-target)) }
-
-pub underway-start : {nodes sizes memory : List ℕ} (w : Walk) → Walking nodes sizes memory w → Underway nodes sizes memory w w
-underway-start w k = record { walking = k; same-source = refl; same-target = refl; top-within = omega (arith, k .holds .top-is) }
-
--- 3. The end of the walk, told.
-module _ {nodes sizes memory : List ℕ} {w : Walk} (source target : ℕ) (same-source : w .source ≡ source) (same-target : w .target ≡ target) (a : Advanced) (c : WalkEnds nodes sizes memory w a) where
-  comes-walk : whole-walk nodes sizes w ≡ walk enough (view-of nodes sizes) source target
-  comes-walk = rw (same-source, same-target)
-
-  ended-as : a .progress ≡ Going → EndsAs nodes sizes memory w (a .walk) Going
-  ended-as e = subst (λ p. EndsAs nodes sizes memory w (a .walk) p) e (c .end)
+      go : Dec (a .walk .top < max-lines) → max-lines ≤ a .walk .top
+      go (yes l) = not-stopping (k .stopped l .0)
+      go (no l) = omega arith
 
   pub solved-leaves : a .progress ≡ Going → LeavesWalk nodes sizes source target memory (record { ending = Solved; lines = a .walk .done; turns = a .walk .turns })
   solved-leaves e =
-      let (k, h, s) = ended-as e in
-      let (x, y, z) = ended nodes sizes memory (a .walk) k h in
-      record { ends = (k .finished, sym comes-walk ∙ (sym s ∙ x), sym y, omega (arith, k .holds .ordered, k .holds .top-is), z) }
+      let k = ended-at e in
+      let x = ended nodes sizes memory (a .walk) (k .walking) (all-finished k) in
+      let same = same-table enough (view-of nodes sizes) over-limit variable-count (a .walk .source) (a .walk .target) (a .walk .turns) _ _ (k .walking .comes) (x .comes) in
+      record {
+        ends = (
+          k .walking .finished,
+          sym comes-walk ∙ (k .walked ∙ ap (λ t. solved t (a .walk .turns)) same),
+          sym (x .count-is),
+          omega (arith, k .walking .holds .ordered, k .walking .holds .top-is),
+          x .records-are,
+        );
+      }
 
   pub refused-leaves : (why : Refusal) → a .progress ≡ Refused why → LeavesWalk nodes sizes source target memory (record { ending = Unsolved why; lines = 0; turns = 0 })
-  refused-leaves why e = record { ends = sym comes-walk ∙ subst (λ p. EndsAs nodes sizes memory w (a .walk) p) e (c .end) }
+  refused-leaves why e = record { ends = sym comes-walk ∙ subst (λ p. EndsAs nodes sizes memory false source target (a .walk) p) e (c .end) }
 
 -- 4. The records are copied to the table.
 module _ {w : Walked} {memory : List ℕ} (r : Reported) (leaves : Leaves w memory r) where

@@ -1,9 +1,9 @@
 -- The variables of a term: its own, or those of its arguments.
 use Prim.Native.Nat.{ℕ, _+_, _-_, _≤_, _<_}
 use mathlib.Core.Path.{_≡_, _∙_}
-use mathlib.Core.List.{List}
+use mathlib.Core.List.{List, _++_}
 use mathlib.Core.Logic.{⊎-elim}
-use lib.ListN.{length, getD, set, length-set}
+use lib.ListN.{length, getD, set, length-set, length-append}
 use lib.Seq.{getD-set-same, getD-set-other}
 use native.Mathlib.Omega.{arith}
 use native.Mathlib.Decide.{ℕ-discrete, decLt}
@@ -90,3 +90,7 @@ filled-next {nodes} {sizes} {variables} {p} {s} l v own = record {
     go : (q : ℕ) → p ≤ q → q < length nodes → Dec (q ≡ p) → SetOf nodes q (q + getD sizes q 0) (getD (set variables p s) q 0)
     go q a b (yes e) = rw (e, getD-set-same variables p s 0 (omega (arith, v .same-length))) own
     go q a b (no n) = rw (getD-set-other variables p q s 0 n) (v .each q (omega arith) b)
+
+-- The variables' sets stand in the front of their array.
+pub front-fits : (xs ys : List ℕ) {n : ℕ} → length xs ≡ n → n ≤ length (xs ++ ys)
+front-fits xs ys e = omega (arith, length-append xs ys)

@@ -1,27 +1,30 @@
 -- Laws for the call solve: the walk over an equation's bytes is that of the equation.
 use Prim.Native.Nat.{ℕ, _≤_, _<_}
 use mathlib.Core.Path.{_≡_, refl, sym, ap, subst, _∙_}
+use mathlib.Core.Bool.{Bool, false}
 use mathlib.Core.Option.{some}
 use mathlib.Core.List.{List, _++_}
 use lib.ListN.{length, getD, take, drop}
 use lib.Seq.{slice, take-all, take-at, drop-at, length-take-le}
 use native.Mathlib.Omega.{arith}
-use Rattle.format.specs.Limits.{position-count}
+use Rattle.format.specs.Limits.{variable-count, position-count, max-turns}
 use Rattle.terms.specs.Term.{size}
-use Rattle.terms.specs.Equation.{Equation, Direction, left-right, right-left, direction-of, source-position, target-position}
+use Rattle.terms.specs.Equation.{Equation, Direction, left-right, right-left, direction-of, source-position, target-position, view}
 use Rattle.terms.specs.Prefix.{equation-bytes}
 use Rattle.terms.specs.Contracts.Limits.{positions}
 use Rattle.terms.specs.Theory.Limits.{positions-few}
 use Rattle.terms.specs.Theory.Position.{size-pos}
-use Rattle.terms.specs.Theory.Positions.{left-at}
+use Rattle.terms.specs.Theory.Positions.{left-at, source-within, target-within}
 use Rattle.terms.specs.Contracts.Sizes.{Whole, Measurable, node-sizes}
-use Rattle.solving.specs.Walk.{enough, walk, solve}
+use Rattle.solving.specs.Line.{Line}
+use Rattle.solving.specs.Walk.{enough, over-limit, walk-within, walk, solve}
 use Rattle.unifying.specs.Contracts.PrefixForm.{view-of, InPrefixForm}
 use Rattle.unifying.specs.Contracts.Equation.{equation-sizes}
-use Rattle.unifying.specs.Theory.Equation.{length-nodes, length-sizes, size-at, equation-walk, equation-form}
+use Rattle.unifying.specs.Theory.Equation.{length-nodes, length-sizes, size-at, equation-view, equation-form}
 use Rattle.solver.specs.declared.positions.WalkResult.{WalkResult as Reported}
 use Rattle.solver.specs.Contracts.Reports.{Leaves, LeavesWalk}
-use Rattle.solver.specs.Contracts.Equation.{EquationIs, SidesAre}
+use Rattle.solver.specs.Contracts.Equation.{EquationIs, SidesAre, EndsAre}
+use Rattle.solver.specs.declared.solve.Ends.{Ends}
 use Rattle.walking.specs.Contracts.Walking.{memory-bytes}
 use Rattle.solver.specs.Theory.Equation.{equation-whole, equation-measured}
 
@@ -51,27 +54,29 @@ module _ {nodes lengths : List ℕ} {e : Equation} (are : SidesAre nodes lengths
   pub sides-laid : InPrefixForm nodes lengths
   sides-laid = rw (are .measured, spelled) (equation-form e (are .arities) (are .is .few-symbols) (are .is .left-fits) (are .is .right-fits) (are .is .limits))
 
-  pub left-within : 0 < length nodes
-  left-within = omega (arith, nodes-count, size-pos (e .left))
+  pub ends-left : {n : ℕ} {d : Direction} (right : ℕ) → right ≡ getD lengths 0 0 → n ≡ 0 → direction-of n ≡ some d → EndsAre e d (record { source = 0; target = right })
+  unfolding source-position target-position
+  ends-left right r h x = subst (λ d. EndsAre e d (record { source = 0; target = right })) (sym (first-direction h x)) (record { source-is = refl; target-is = r ∙ right-start })
 
-  pub right-within : getD lengths 0 0 < length nodes
-  right-within = omega (arith, nodes-count, right-start, size-pos (e .right))
+  pub ends-right : {n : ℕ} {d : Direction} (right : ℕ) → right ≡ getD lengths 0 0 → n ≡ 1 → direction-of n ≡ some d → EndsAre e d (record { source = right; target = 0 })
+  unfolding source-position target-position
+  ends-right right r h x = subst (λ d. EndsAre e d (record { source = right; target = 0 })) (sym (second-direction h x)) (record { source-is = r ∙ right-start; target-is = refl })
 
-  walk-is : (d : Direction) (s t : ℕ) → s ≡ source-position e d → t ≡ target-position e d → walk enough (view-of nodes lengths) s t ≡ solve e d
-  walk-is d s t x y = rw (x, y, are .measured, spelled) (equation-walk e (are .arities) (are .is .few-symbols) (are .is .left-fits) (are .is .right-fits) d)
+  module _ (d : Direction) (ends : Ends) (at : EndsAre e d ends) where
+    -- They are positions of the equation.
+    pub ends-within : (ends .source < length nodes) × (ends .target < length nodes)
+    ends-within = (omega (arith, at .source-is, nodes-count, source-within e d), omega (arith, at .target-is, nodes-count, target-within e d))
 
-  module _ (n : ℕ) (d : Direction) (is-direction : direction-of n ≡ some d) (right : ℕ) (is-right : right ≡ getD lengths 0 0) (memory : List ℕ) (told : Reported) where
-    pub leaves-left : n ≡ 0 → LeavesWalk nodes lengths 0 right memory told → Leaves (solve e d) memory told
-    unfolding source-position target-position
-    leaves-left h t =
-        let x = first-direction h is-direction in
-        subst (λ d. Leaves (solve e d) memory told) (sym x) (subst (λ w. Leaves w memory told) (walk-is left-right 0 right refl (is-right ∙ right-start)) t)
+    -- The walk between them is that of the equation's direction, whatever stops it.
+    pub walk-is : (stop : List Line → Bool) → walk-within enough (view-of nodes lengths) over-limit stop max-turns variable-count (ends .source) (ends .target)
+        ≡ walk-within enough (view e) over-limit stop max-turns variable-count (source-position e d) (target-position e d)
+    walk-is stop =
+        rw (at .source-is, at .target-is, are .measured, spelled)
+        (ap (λ v. walk-within enough v over-limit stop max-turns variable-count (source-position e d) (target-position e d)) (equation-view e (are .arities) (are .is .few-symbols) (are .is .left-fits) (are .is .right-fits)))
 
-    pub leaves-right : n ≡ 1 → LeavesWalk nodes lengths right 0 memory told → Leaves (solve e d) memory told
-    unfolding source-position target-position
-    leaves-right h t =
-        let x = second-direction h is-direction in
-        subst (λ d. Leaves (solve e d) memory told) (sym x) (subst (λ w. Leaves w memory told) (walk-is right-left right 0 (is-right ∙ right-start) refl) t)
+    pub leaves-direction : (memory : List ℕ) (told : Reported) → LeavesWalk nodes lengths (ends .source) (ends .target) memory told → Leaves (solve e d) memory told
+    unfolding solve walk
+    leaves-direction memory told t = subst (λ w. Leaves w memory told) (walk-is (λ table. false)) t
 
 module _ {bytes arities : List ℕ} {e : Equation} (is : EquationIs bytes arities e) where
   bytes-count : length bytes ≡ positions e

@@ -5,16 +5,16 @@ use format::refusal::Refusal;
 use lines::edit::store;
 use lines::layout::LINE;
 use lines::line::Line;
+use stopping::walk::go_on;
 use walking::walk::Advanced;
 use walking::walk::Progress;
 use walking::walk::Walk;
-use walking::walk::going;
 ghost use mathlib.Core.Path.{_≡_};
 ghost use Prim.Native.Nat.{_<_};
 ghost use lib.ListN.{length};
 ghost use Rattle.unifying.specs.Contracts.PrefixForm.{InPrefixForm};
-ghost use Rattle.unifying.specs.Contracts.Sets.{HasVariables};
-ghost use Rattle.walking.specs.Contracts.Walking.{memory-bytes, Walking, WalkEnds};
+ghost use Rattle.walking.specs.Contracts.Walking.{memory-bytes, Walking};
+ghost use Rattle.stopping.specs.Contracts.Ends.{WalkEnds};
 ghost use Rattle.solver.specs.Contracts.Reports.{LeavesWalk};
 
 // The place of the first line: the last of the memory.
@@ -41,7 +41,7 @@ fn begin_walk(nodes: &[u8], sizes: &[u8], source: usize, target: usize, memory: 
     requires { ⌜ InPrefixForm (now nodes) (now sizes) × (source < length (now nodes)) × (target < length (now nodes)) ⌝ }
     requires { ⌜ length (now memory) ≡ memory-bytes ⌝ }
     ensures { λ r. ⌜ Walking (now (nodes .entry)) (now (sizes .entry)) (now (memory .exit)) r ⌝ }
-    ensures { λ r. ⌜ (r .source ≡ source) × (r .target ≡ target) ⌝ }
+    ensures { λ r. ⌜ (r .source ≡ source) × (r .target ≡ target) × (r .turns ≡ 0) ⌝ }
 {
     let opening = Line::opening(source as u8, target as u8);
     let mut line = [Limits::NO_POSITION; LINE];
@@ -56,24 +56,28 @@ fn begin_walk(nodes: &[u8], sizes: &[u8], source: usize, target: usize, memory: 
     }
 }
 
-// Turn after turn, until no line is unfinished or the walk is refused.
-fn go_on(walk: Walk, nodes: &[u8], sizes: &[u8], variables: &[u16], memory: &mut [u8]) -> Advanced
-    requires { ⌜ Walking (now nodes) (now sizes) (now memory) walk × HasVariables (now nodes) (now sizes) (now variables) ⌝ }
-    ensures { λ r. ⌜ WalkEnds (now (nodes .entry)) (now (sizes .entry)) (now (memory .exit)) walk r ⌝ }
+// Walks source > target over an equation's bytes and sizes, from its first line to its end. This is the one place that the loop is called from, so that it is
+// compiled into it.
+pub fn walk_between(
+    nodes: &[u8],
+    sizes: &[u8],
+    source: usize,
+    target: usize,
+    stops: bool,
+    memory: &mut [u8],
+) -> Advanced
+    requires { ⌜ InPrefixForm (now nodes) (now sizes) × (source < length (now nodes)) × (target < length (now nodes)) ⌝ }
+    requires { ⌜ length (now memory) ≡ memory-bytes ⌝ }
+    ensures { λ r. ⌜ WalkEnds (now (nodes .entry)) (now (sizes .entry)) (now (memory .exit)) stops source target r ⌝ }
 {
-    let mut cursor = walk;
-    while cursor.top < Limits::LINES {
-        let next = cursor.turn(nodes, sizes, variables, memory);
-        let progress = next.progress;
-        let Progress::Going = progress else {
-            return next;
-        };
-        cursor = next.walk;
-    }
-    going(cursor)
+    let n = nodes.len();
+    let mut variables = [0u16; Limits::POSITIONS];
+    collect_variables(nodes, sizes, &mut variables[..n]);
+    let first = begin_walk(nodes, sizes, source, target, memory);
+    go_on(first, stops, nodes, sizes, &variables[..n], memory)
 }
 
-// Walks source > target over an equation's bytes and sizes. The records of the solved lines stand first in `memory`.
+// Solves source > target over an equation's bytes and sizes. The records of the solved lines stand first in `memory`.
 pub fn walk_positions(
     nodes: &[u8],
     sizes: &[u8],
@@ -85,11 +89,7 @@ pub fn walk_positions(
     requires { ⌜ length (now memory) ≡ memory-bytes ⌝ }
     ensures { λ r. ⌜ LeavesWalk (now (nodes .entry)) (now (sizes .entry)) source target (now (memory .exit)) r ⌝ }
 {
-    let n = nodes.len();
-    let mut variables = [0u16; Limits::POSITIONS];
-    collect_variables(nodes, sizes, &mut variables[..n]);
-    let first = begin_walk(nodes, sizes, source, target, memory);
-    let last = go_on(first, nodes, sizes, &variables[..n], memory);
+    let last = walk_between(nodes, sizes, source, target, false, memory);
     let walk = last.walk;
     let progress = last.progress;
     match progress {

@@ -9,25 +9,47 @@ use format::limits::Limits;
 use terms::measure::measure;
 ghost use mathlib.Core.Path.{_≡_};
 ghost use mathlib.Core.Option.{some};
-ghost use Prim.Native.Nat.{_≤_, _<_};
+ghost use mathlib.Core.List.{List};
+ghost use Prim.Native.Nat.{ℕ, _≤_, _<_};
 ghost use lib.ListN.{length, drop};
 ghost use Rattle.format.specs.Limits.{table-bytes};
 ghost use Rattle.terms.specs.Equation.{Equation, Direction, direction-of};
 ghost use Rattle.solving.specs.Walk.{solve};
-ghost use Rattle.solver.specs.Contracts.Equation.{EquationIs, HasEquation, SidesAre, HasSides};
+ghost use Rattle.solver.specs.Contracts.Equation.{EquationIs, HasEquation, SidesAre, HasSides, EndsAre};
 ghost use Rattle.walking.specs.Contracts.Walking.{memory-bytes};
 ghost use Rattle.solver.specs.Contracts.Reports.{Reports, Leaves};
+
+// Where the two sides of a direction stand among the equation's positions.
+pub struct Ends {
+    pub source: usize,
+    pub target: usize,
+}
+
+// "Direction 00 is left > right, 01 is right > left"
+pub fn ends_of(sizes: &[u8], direction: usize) -> Ends
+    requires { ⌜ (0 < length (now sizes)) × (direction < 2) ⌝ }
+    ensures { λ r. ⌜ ((nodes : List ℕ) (e : Equation) (d : Direction) → SidesAre nodes (now (sizes .entry)) e → direction-of direction ≡ some d → EndsAre e d r) ⌝ }
+{
+    let right = wide(sizes[0]);
+    if direction == 0 {
+        return Ends {
+            source: 0,
+            target: right,
+        };
+    }
+    Ends {
+        source: right,
+        target: 0,
+    }
+}
 
 // The walk of one direction of the equation with these bytes and sizes. The records of the solved lines stand first in `memory`.
 pub fn walk_direction(nodes: &[u8], sizes: &[u8], direction: usize, memory: &mut [u8]) -> WalkResult
     requires { ⌜ HasSides (now nodes) (now sizes) × (direction < 2) × (length (now memory) ≡ memory-bytes) ⌝ }
     ensures { λ r. ⌜ ((e : Equation) (d : Direction) → SidesAre (now (nodes .entry)) (now (sizes .entry)) e → direction-of direction ≡ some d → Leaves (solve e d) (now (memory .exit)) r) ⌝ }
 {
-    let right = wide(sizes[0]);
-    if direction == 0 {
-        return walk_positions(nodes, sizes, 0, right, memory);
-    }
-    walk_positions(nodes, sizes, right, 0, memory)
+    let ends = ends_of(sizes, direction);
+    walk_positions(nodes, sizes, ends.source, ends.target, memory)
 }
 
 // Solves one direction of the equation with these bytes. The records of the solved lines stand first in `table`; a refused walk leaves it as it was. Scratch holds anything in the bytes that the walk works in.

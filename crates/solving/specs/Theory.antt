@@ -12,10 +12,13 @@ pub mod Complete
 pub mod Choices
 pub mod Lines
 pub mod Exact
+pub mod Turns
 pub mod Invariant
 pub mod Reduced
 pub mod Written
 pub mod Records
 pub mod Whole
 pub mod Solve
+pub mod Until
+pub mod Always
 pub mod Judge

@@ -108,6 +108,7 @@ in-front e (line θ es) = line θ (e ∷ es)
 unfoldable pub behind : List Element → Line → Line
 behind fs (line θ es) = line θ (es ++ fs)
 
+-- How a walk ends: with a table, the last one or the one at which a test stops it (`walk-until`), and the turns taken by then; or refused.
 pub data Walked : Type 0 where
   solved : List Line → ℕ → Walked
   refused : Refusal → Walked
@@ -196,11 +197,6 @@ module _ (fuel : Fuel) (view : ℕ → Node) where
         | none ↦ solved table taken
         | some new ↦ elim (over new) [ some r ↦ refused r | none ↦ elim (stop new) [ true ↦ solved new (suc taken) | false ↦ walk-until over stop left (suc taken) new ] ]
       ]
-
-  -- The walk of document 01 from a table: within its limits, and to its end.
-  unfoldable pub walk-from : (left taken : ℕ) → List Line → Walked
-  unfolding walk-until over-limit
-  walk-from = walk-until over-limit (λ table. false)
 
   -- The walk that solves s > t, for any limits on tables (`over`) and turns (`most`) and any test that stops it (`stop`). Each line has `vars` slots for bindings.
   unfoldable pub walk-within : (over : List Line → Option Refusal) → (stop : List Line → Bool) → (most vars : ℕ) → (s t : ℕ) → Walked

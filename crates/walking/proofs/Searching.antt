@@ -1,7 +1,8 @@
 -- The first unfinished line is filled in, and looked through for the leftmost element that is not fully reduced.
-use Prim.Native.Nat.{ℕ, zero, suc, _+_, _-_, _*_, _≤_, _<_}
+use Prim.Native.Nat.{ℕ, zero, suc, _+_, _*_, _≤_, _<_}
 use mathlib.Core.Path.{_≡_, refl, sym, ap, ap₂, subst, _∙_}
 use mathlib.Core.Logic.{_⊎_, inl, inr}
+use mathlib.Core.Option.{some}
 use mathlib.Core.List.{List, [], _∷_, _++_, map}
 use lib.ListN.{length, getD, set, take, drop, length-set, List·getD-map}
 use lib.Seq.{slice, take-take, take-suc, take-all, split-at, length-take-le, getD-take, getD-drop, getD-set-same, getD-set-other}
@@ -10,9 +11,7 @@ use native.Mathlib.Numerals.{add-one}
 use native.Mathlib.Omega.{arith}
 use Rattle.format.specs.Limits.{variable-count, max-elements, max-lines, max-turns}
 use Rattle.solving.specs.Line.{Element, greater, Line}
-use Rattle.solving.specs.Walk.{enough, walk-from}
 use Rattle.solving.specs.Contracts.Within.{Within, AllWithin}
-use Rattle.unifying.specs.Contracts.PrefixForm.{view-of}
 use Rattle.unifying.specs.Contracts.Bindings.{Readable}
 use Rattle.unifying.specs.Theory.Bindings.{readable-slots}
 use Rattle.lines.specs.declared.element.Element.{Element as Held}
@@ -28,7 +27,7 @@ use Rattle.treating.specs.declared.treat.Treatment.the-variants.{Reduced}
 use Rattle.walking.specs.declared.walk.Walk.{Walk}
 use Rattle.treating.specs.Contracts.Treatment.{Treated}
 use Rattle.walking.specs.Contracts.WellFormed.{KnownReduced, WellFormed}
-use Rattle.walking.specs.Contracts.Walking.{HoldsTable, whole-walk, Walking, Finishing, TreatingLine}
+use Rattle.walking.specs.Contracts.Walking.{HoldsTable, table-reached, Walking, Finishing, TreatingLine}
 use Rattle.walking.proofs.Walking.{first-there}
 
 pub below-limit : {n : ℕ} → n ≤ max-turns → (n ≡ max-turns → ⊥) → n < max-turns
@@ -53,7 +52,7 @@ pub record Open (nodes sizes memory : List ℕ) (w : Walk) : Type 0 where
   pub first : RestingLine
   pub others : List RestingLine
   pub holds : HoldsTable nodes sizes memory (w .done) (w .top) finished (first ∷ others)
-  pub leads : walk-from enough (view-of nodes sizes) (max-turns - w .turns) (w .turns) (finished ++ map line-of (first ∷ others)) ≡ whole-walk nodes sizes w
+  pub comes : table-reached nodes sizes w ≡ some (finished ++ map line-of (first ∷ others))
 
 -- 2. The elements from the first one that is not known to be reduced up to `i` are filled in.
 pub record Filling (memory : List ℕ) (place : ℕ) (start line : LineValue) (i : ℕ) : Type 0 where
@@ -94,12 +93,12 @@ filling-next {memory = memory} {place = place} {start = start} {line = line} {i 
 
 module _ {nodes sizes memory : List ℕ} {w : Walk} (k : Walking nodes sizes memory w) (h : w .top < max-lines) where
   pub opened : Open nodes sizes memory w
-  opened = go (k .unfinished) (k .holds) (k .leads)
+  opened = go (k .unfinished) (k .holds) (k .comes)
     where
       go : (ls : List RestingLine) → HoldsTable nodes sizes memory (w .done) (w .top) (k .finished) ls
-          → walk-from enough (view-of nodes sizes) (max-turns - w .turns) (w .turns) (k .finished ++ map line-of ls) ≡ whole-walk nodes sizes w → Open nodes sizes memory w
+          → table-reached nodes sizes w ≡ some (k .finished ++ map line-of ls) → Open nodes sizes memory w
       go [] m l = absurd (omega (arith, m .top-is))
-      go (first ∷ others) m l = record { finished = k .finished; first = first; others = others; holds = m; leads = l }
+      go (first ∷ others) m l = record { finished = k .finished; first = first; others = others; holds = m; comes = l }
 
   pub place-there : w .top * line-bytes + line-bytes ≤ length memory
   place-there = omega (arith, k .holds .length-is)
@@ -206,7 +205,7 @@ module _ {nodes sizes memory : List ℕ} {w : Walk} (k : Walking nodes sizes mem
     others = opened k h .others;
     holds = opened k h .holds;
     turns-within = k .turns-within;
-    leads = opened k h .leads;
+    comes = opened k h .comes;
     all-reduced = rw (take-all i (opened k h .first .elements) (omega (arith, own .count-is))) at (so-far .2);
   }
 
@@ -222,7 +221,7 @@ module _ {nodes sizes memory : List ℕ} {w : Walk} (k : Walking nodes sizes mem
           others = opened k h .others;
           holds = opened k h .holds;
           turns-within = k .turns-within;
-          leads = opened k h .leads;
+          comes = opened k h .comes;
           pre = take i (first .elements);
           element = getD (first .elements) i (greater 0 0);
           post = drop (suc i) (first .elements);

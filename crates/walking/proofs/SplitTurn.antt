@@ -11,7 +11,7 @@ use Rattle.format.specs.Lists.{any}
 use Rattle.format.specs.Limits.{position-count, max-elements}
 use Rattle.format.specs.declared.refusal.Refusal.the-variants.{TooManyElements as too-many-elements, TooManyLines as too-many-lines}
 use Rattle.solving.specs.Line.{Element, greater, Line, line as line-with}
-use Rattle.solving.specs.Walk.{enough, becomes, refused, argument-choices, choices, treat, treat-line, crowded}
+use Rattle.solving.specs.Walk.{enough, becomes, argument-choices, choices, treat, treat-line, crowded}
 use Rattle.solving.specs.Contracts.Within.{Within}
 use Rattle.treating.specs.declared.treat.Sides.{Sides}
 use Rattle.treating.specs.declared.treat.Treatment.the-variants.{Split}
@@ -25,7 +25,7 @@ use Rattle.lines.specs.Contracts.Room.{lines-bytes}
 use Rattle.treating.specs.Contracts.Treatment.{BothSymbols}
 use Rattle.treating.specs.Contracts.Children.{child}
 use Rattle.treating.specs.Contracts.Splitting.{AllLong, LastChoices, HasChoices, ChoicesOf, Splitting, ChoicesFit, PushesChoices}
-use Rattle.walking.specs.Contracts.Walking.{AllWellFormed, whole-walk, Treating, TreatingCount, GoesOn}
+use Rattle.walking.specs.Contracts.Walking.{AllWellFormed, Treating, TreatingCount, GoesOn, Earns}
 use Rattle.unifying.specs.Theory.PrefixForm.{arguments-there}
 use Rattle.unifying.specs.Theory.Bindings.{readable-slots}
 use Rattle.treating.proofs.Treatment.{split-becomes}
@@ -131,9 +131,9 @@ module _ {nodes sizes memory : List ℕ} {w : Walk} {count at : ℕ} {sides term
     right-few = omega (arith, right-count, row-fits right-row, split-ends .1)
 
     -- A line that is too long: "9 before 10".
-    pub split-too-long : 0 < (d .last) → max-elements < count - 1 + right → whole-walk nodes sizes w ≡ refused too-many-elements
+    pub split-too-long : 0 < (d .last) → max-elements < count - 1 + right → Earns nodes sizes w too-many-elements
     split-too-long h k =
-        refused-elements nodes sizes memory w (g .finished) (g .first) (g .others) (g .holds) (g .leads) (c .turns-below) new-lines line-treated
+        refused-elements nodes sizes memory w (g .finished) (g .first) (g .others) (g .holds) (g .comes) (c .turns-below) new-lines line-treated
         (ap (λ css. any crowded (map (around (g .pre) (g .post)) (map (line-with (bindings-of (g .first .bindings))) css))) (lasts-are .are)
         ∙ some-last (lasts-are .lasts) (lasts-are .long) (lasts-are .count))
       where
@@ -165,11 +165,11 @@ module _ {nodes sizes memory : List ℕ} {w : Walk} {count at : ℕ} {sides term
       well-formed-children = children-well-formed (g .first) (g .holds .all-well-formed .0) (g .pre) (g .element) (g .post) (g .split) (g .pre-reduced) all-choices treated-so all-fit
 
       -- "10, a table beyond 255 lines after a turn, finished ones counted"
-      pub split-too-many : w .top + 1 < w .done + (left + left + (d .last)) → whole-walk nodes sizes w ≡ refused too-many-lines
+      pub split-too-many : w .top + 1 < w .done + (left + left + (d .last)) → Earns nodes sizes w too-many-lines
       split-too-many h =
           let e = children-lines (g .first .bindings) (g .pre) (g .post) all-choices in
           let n : length new-lines ≡ left + left + (d .last) = ap length (sym e) ∙ (length-map children line-of ∙ (length-map all-choices (child (g .first .bindings) (g .pre) (g .post)) ∙ choices-number)) in
-          refused-lines nodes sizes memory w (g .finished) (g .first) (g .others) (g .holds) (g .leads) (c .turns-below) new-lines line-treated
+          refused-lines nodes sizes memory w (g .finished) (g .first) (g .others) (g .holds) (g .comes) (c .turns-below) new-lines line-treated
           (ap (any crowded) (sym e) ∙ well-formed-short nodes sizes children well-formed-children) (omega (arith, n))
 
       -- The lines are put.
@@ -212,7 +212,7 @@ module _ {nodes sizes memory : List ℕ} {w : Walk} {count at : ℕ} {sides term
 
         pub split-goes-on : (memory′ : List ℕ) (to : ℕ) → to ≡ new-place * line-bytes → PushesChoices sizes line memory d to memory′ → GoesOn nodes sizes memory′ w (after-turn w new-place)
         split-goes-on memory′ to e u =
-            turned nodes sizes memory w (g .finished) (g .first) (g .others) (g .holds) (g .leads) (c .turns-below) (g .laid) memory′ new-place children well-formed-children
+            turned nodes sizes memory w (g .finished) (g .first) (g .others) (g .holds) (g .comes) (c .turns-below) (g .laid) memory′ new-place children well-formed-children
             (omega (arith, length-map all-choices (child (g .first .bindings) (g .pre) (g .post)), choices-number)) (omega arith)
             (u .pushes (g .first .bindings) (g .pre) (g .post) left-arguments right-arguments (split-facts line own)
             ∙ ap₂ (λ i cs. placed i (lines-bytes (map (child (g .first .bindings) (g .pre) (g .post)) cs)) memory) e same-choices)

@@ -11,7 +11,7 @@ use native.Mathlib.Omega.{arith}
 use Rattle.format.specs.Limits.{variable-count, max-elements, max-lines, max-turns, no-position, record-bytes}
 use Rattle.format.specs.declared.refusal.Refusal.the-variants.{TooManyTurns as too-many-turns}
 use Rattle.solving.specs.Line.{Bindings, Element, equal, greater, line as line-with, record-of}
-use Rattle.solving.specs.Walk.{enough, becomes, refused, unified, unify, treat, treat-line}
+use Rattle.solving.specs.Walk.{enough, becomes, unified, unify, treat, treat-line}
 use Rattle.solving.specs.Contracts.Written.{Inequalities}
 use Rattle.solving.specs.Contracts.Within.{Within, AllWithin}
 use Rattle.unifying.specs.declared.unify.Answer.the-variants.{Unified, Failed}
@@ -37,7 +37,7 @@ use Rattle.walking.specs.declared.walk.Walk.{Walk}
 use Rattle.treating.specs.Contracts.Treatment.{Treated}
 use Rattle.treating.specs.Contracts.Children.{child}
 use Rattle.walking.specs.Contracts.WellFormed.{KnownReduced, WellFormed}
-use Rattle.walking.specs.Contracts.Walking.{whole-walk, Finishing, Treating, TreatingLine, TreatingCount, GoesOn}
+use Rattle.walking.specs.Contracts.Walking.{Finishing, Treating, TreatingLine, TreatingCount, GoesOn, Earns}
 use Rattle.treating.proofs.Treatment.{unified-not, asks-becomes}
 use Rattle.walking.proofs.Turn.{around}
 use Rattle.walking.proofs.Walking.{first-there, refused-turns, turned, finished-on}
@@ -86,7 +86,7 @@ module _ {nodes sizes memory : List ℕ} {w : Walk} (f : Finishing nodes sizes m
       front
       ∙ (ap (take record-bytes) there
       ∙ record-written (f .first) (readable-slots (s .readable)) (s .few) low (reduced-inequalities nodes sizes (f .first .bindings) (f .first .elements) (f .all-reduced))) in
-      finished-on nodes sizes memory w (f .finished) (f .first) (f .others) (f .holds) (f .leads) (f .laid) (f .turns-within) memory′ (f .all-reduced)
+      finished-on nodes sizes memory w (f .finished) (f .first) (f .others) (f .holds) (f .comes) (f .laid) (f .turns-within) memory′ (f .all-reduced)
       (e ∙ ap (λ part. placed (w .done * record-bytes) part memory) r)
 
 pub treating-as : {nodes sizes memory : List ℕ} {w : Walk} {l : LineValue} {at : ℕ} {t u : Treatment} → TreatingLine nodes sizes memory w l at t → t ≡ u → TreatingLine nodes sizes memory w l at u
@@ -113,10 +113,10 @@ module _ {nodes sizes memory : List ℕ} {w : Walk} {at : ℕ} {t : Treatment} (
   few-elements = omega (arith, well-formed-first .few, length-split (g .first) well-formed-first (g .pre) (g .element) (g .post) (g .split))
 
   -- "8, a turn beyond 10,000"
-  pub too-long-walk : (t ≡ Reduced → ⊥) → w .turns ≡ max-turns → whole-walk nodes sizes w ≡ refused too-many-turns
+  pub too-long-walk : (t ≡ Reduced → ⊥) → w .turns ≡ max-turns → Earns nodes sizes w too-many-turns
   too-long-walk n d =
       let (ms, b) = asks-becomes nodes sizes (g .first .bindings) (g .element) t (g .treated) n in
-      refused-turns nodes sizes memory w (g .finished) (g .first) (g .others) (g .holds) (g .leads) _
+      refused-turns nodes sizes memory w (g .finished) (g .first) (g .others) (g .holds) (g .comes) _
       (first-treated nodes sizes (g .first) (g .pre) (g .element) (g .post) ms (g .split) (g .pre-reduced) b) (omega arith)
 
   module _ (below : w .turns < max-turns) where
@@ -124,7 +124,7 @@ module _ {nodes sizes memory : List ℕ} {w : Walk} {at : ℕ} {t : Treatment} (
     goes-without : treat enough (view-of nodes sizes) (bindings-of (g .first .bindings)) (g .element) ≡ becomes [] → GoesOn nodes sizes memory w (after-turn w (w .top + 1))
     unfolding lines-bytes
     goes-without x =
-        turned nodes sizes memory w (g .finished) (g .first) (g .others) (g .holds) (g .leads) below (g .laid) memory (w .top + 1) [] tt (omega arith) (omega (arith, g .holds .ordered))
+        turned nodes sizes memory w (g .finished) (g .first) (g .others) (g .holds) (g .comes) below (g .laid) memory (w .top + 1) [] tt (omega arith) (omega (arith, g .holds .ordered))
         (sym (placed-none ((w .top + 1) * line-bytes) memory) ∙ no-lines)
         (first-treated nodes sizes (g .first) (g .pre) (g .element) (g .post) [] (g .split) (g .pre-reduced) x)
       where
@@ -136,7 +136,7 @@ module _ {nodes sizes memory : List ℕ} {w : Walk} {at : ℕ} {t : Treatment} (
         → memory′ ≡ placed (w .top * line-bytes) (resting-bytes l) memory → GoesOn nodes sizes memory′ w (after-turn w (w .top))
     unfolding lines-bytes
     goes-with memory′ l s x e =
-        turned nodes sizes memory w (g .finished) (g .first) (g .others) (g .holds) (g .leads) below (g .laid) memory′ (w .top) (l ∷ []) (s, tt) (omega arith) (g .holds .ordered)
+        turned nodes sizes memory w (g .finished) (g .first) (g .others) (g .holds) (g .comes) below (g .laid) memory′ (w .top) (l ∷ []) (s, tt) (omega arith) (g .holds .ordered)
         (e ∙ ap (λ part. placed (w .top * line-bytes) part memory) (sym (append-nil (resting-bytes l))))
         x
 

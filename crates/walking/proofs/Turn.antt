@@ -1,5 +1,5 @@
 -- A turn of the walk, seen from the first unfinished line.
-use Prim.Native.Nat.{ℕ, zero, suc, _≤_, _<_}
+use Prim.Native.Nat.{ℕ, _≤_, _<_}
 use mathlib.Core.Path.{_≡_, refl, ap, _∙_}
 use mathlib.Core.Bool.{Bool, true, false, _||_}
 use mathlib.Core.Option.{none, some}
@@ -9,11 +9,10 @@ use borrow.Author.Tests.{lt-ltb, le-ltb}
 use Rattle.format.specs.Lists.{any}
 use Rattle.format.specs.Theory.Lists.{any-append}
 use Rattle.format.specs.Limits.{max-lines}
-use Rattle.format.specs.declared.refusal.Refusal.{Refusal}
-use Rattle.format.specs.declared.refusal.Refusal.the-variants.{TooManyTurns as too-many-turns, TooManyElements as too-many-elements, TooManyLines as too-many-lines}
+use Rattle.format.specs.declared.refusal.Refusal.the-variants.{TooManyElements as too-many-elements, TooManyLines as too-many-lines}
 use Rattle.terms.specs.Position.{Node}
 use Rattle.solving.specs.Line.{Bindings, Element, Line, line}
-use Rattle.solving.specs.Walk.{enough, fully-reduced, becomes, in-front, behind, treat, treat-leftmost, treat-line, turn, crowded, over-limit, solved, refused, walk-until, walk-from}
+use Rattle.solving.specs.Walk.{enough, fully-reduced, becomes, in-front, behind, treat, treat-leftmost, treat-line, turn, crowded, over-limit}
 use Rattle.walking.specs.Contracts.Walking.{AllFinished}
 
 -- The line with the elements `pre` to the left and `post` to the right.
@@ -88,23 +87,3 @@ over-lines table h l = rw (h, lt-ltb max-lines (length table) l, over-limit)
 pub within-limits : (table : List Line) → any crowded table ≡ false → length table ≤ max-lines → over-limit table ≡ none
 unfolding over-limit
 within-limits table h l = rw (h, le-ltb max-lines (length table) l, over-limit)
-
--- The walk from a table, by its next turn.
-module _ (view : ℕ → Node) (table : List Line) (taken : ℕ) where
-  pub walk-ends : (left : ℕ) → turn enough view table ≡ none → walk-from enough view left taken table ≡ solved table taken
-  unfolding walk-from
-  walk-ends zero h = rw (h, walk-from, walk-until)
-  walk-ends (suc left) h = rw (h, walk-from, walk-until)
-
-  module _ (new : List Line) (h : turn enough view table ≡ some new) where
-    pub walk-too-long : walk-from enough view 0 taken table ≡ refused too-many-turns
-    unfolding walk-from
-    walk-too-long = rw (h, walk-from, walk-until)
-
-    pub walk-over : (left : ℕ) (r : Refusal) → over-limit new ≡ some r → walk-from enough view (suc left) taken table ≡ refused r
-    unfolding walk-from
-    walk-over left r x = rw (h, x, walk-from, walk-until)
-
-    pub walk-on : (left : ℕ) → over-limit new ≡ none → walk-from enough view (suc left) taken table ≡ walk-from enough view left (suc taken) new
-    unfolding walk-from
-    walk-on left x = rw (h, x, walk-from, walk-until)

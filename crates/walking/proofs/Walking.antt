@@ -1,19 +1,22 @@
 -- The memory of the walk from turn to turn.
 use Prim.Native.Nat.{ℕ, suc, _+_, _-_, _*_, _≤_, _<_}
 use mathlib.Core.Path.{_≡_, refl, sym, ap, _∙_}
-use mathlib.Core.Bool.{true, false}
-use mathlib.Core.Option.{some}
+use mathlib.Core.Bool.{Bool, true, false, _||_}
+use mathlib.Core.Option.{none, some}
 use mathlib.Core.List.{List, [], _∷_, _++_, map, map-append, append-assoc, append-nil}
 use lib.ListN.{length, take, drop, length-append, length-map}
 use lib.Seq.{slice, take-append-le, take-take, drop-at, take-at, drop-drop, length-take-le}
 use borrow.Author.Tests.{le-ltb}
 use native.Mathlib.Omega.{arith}
 use Rattle.format.specs.Lists.{any}
-use Rattle.format.specs.Limits.{max-elements, max-lines, max-turns, record-bytes}
+use Rattle.format.specs.Theory.Lists.{any-append}
+use Rattle.format.specs.Limits.{variable-count, max-elements, max-lines, max-turns, record-bytes}
 use Rattle.format.specs.declared.refusal.Refusal.{Refusal}
 use Rattle.format.specs.declared.refusal.Refusal.the-variants.{TooManyTurns as too-many-turns, TooManyElements as too-many-elements, TooManyLines as too-many-lines}
 use Rattle.solving.specs.Line.{Element, Line, record-of, records}
-use Rattle.solving.specs.Walk.{enough, treat-line, turn, crowded, over-limit, solved, refused, walk-from}
+use Rattle.terms.specs.Position.{Node}
+use Rattle.solving.specs.Walk.{enough, treat-line, turn, crowded, over-limit}
+use Rattle.solving.specs.Turns.{table-after}
 use Rattle.walking.specs.declared.walk.Walk.{Walk}
 use Rattle.unifying.specs.Contracts.PrefixForm.{view-of, InPrefixForm}
 use Rattle.unifying.specs.Contracts.Bindings.{bindings-of}
@@ -21,13 +24,14 @@ use Rattle.lines.specs.Contracts.Resting.{RestingLine, line-of, resting-bytes}
 use Rattle.lines.specs.Contracts.Layout.{line-bytes, placed}
 use Rattle.lines.specs.Contracts.Room.{lines-bytes}
 use Rattle.walking.specs.Contracts.WellFormed.{KnownReduced, WellFormed}
-use Rattle.walking.specs.Contracts.Walking.{AllWellFormed, HoldsTable, whole-walk, Walking, GoesOn}
+use Rattle.walking.specs.Contracts.Walking.{AllWellFormed, HoldsTable, table-reached, Walking, GoesOn, Earns}
+use Rattle.solving.specs.Theory.Turns.{until-too-long, until-over, after-turn, same-table}
 use Rattle.solving.specs.Theory.Records.{length-record-of}
 use Rattle.unifying.specs.Theory.Bindings.{length-bindings, readable-slots}
 use Rattle.lines.specs.Theory.Placed.{placed-length, placed-back, drop-placed}
 use Rattle.lines.specs.Theory.InPlace.{slice-is, lines-append}
 use Rattle.lines.specs.Theory.Resting.{length-resting}
-use Rattle.walking.proofs.Turn.{Settled, leftmost-none, finished-append, turn-none, turn-some, short-append, finished-short, crowded-middle, over-elements, over-lines, within-limits, walk-ends, walk-too-long, walk-over, walk-on}
+use Rattle.walking.proofs.Turn.{Settled, leftmost-none, finished-append, turn-none, turn-some, short-append, finished-short, crowded-middle, over-elements, over-lines, within-limits}
 
 -- 1. Parts of a buffer.
 pub placed-front : (k at : ℕ) (part buffer : List ℕ) → k ≤ at → at ≤ length buffer → take k (placed at part buffer) ≡ take k buffer
@@ -95,32 +99,54 @@ module _ {nodes sizes memory : List ℕ} {done top : ℕ} {finished : List Line}
         all-well-formed = well-formed-append nodes sizes children others s (m .all-well-formed .1);
       }
 
+-- What no line had before, only the new ones can have.
+no-line-had : (has : Line → Bool) (xs : List Line) (l : Line) (zs : List Line) → any has (xs ++ (l ∷ zs)) ≡ false → (any has xs ≡ false) × (any has zs ≡ false)
+unfolding any
+no-line-had has xs l zs h = go (any has xs) refl (has l) refl (sym (any-append has xs (l ∷ zs)) ∙ h)
+  where
+    go : (a : Bool) → any has xs ≡ a → (b : Bool) → has l ≡ b → (any has xs || (has l || any has zs)) ≡ false → (any has xs ≡ false) × (any has zs ≡ false)
+    go true x b y e = let z : _≡_ {A = ℕ} 0 1 = cc in absurd (omega arith)
+    go false x true y e = let z : _≡_ {A = ℕ} 0 1 = cc in absurd (omega arith)
+    go false x false y e = (x, sym (rw (x, y)) ∙ e)
+
+or-false : (b : Bool) → (b || false) ≡ b
+or-false true = refl
+or-false false = refl
+
+only-middle : (has : Line → Bool) (xs : List Line) (l : Line) (ys zs : List Line) → any has (xs ++ (l ∷ zs)) ≡ false → any has (xs ++ (ys ++ zs)) ≡ any has ys
+only-middle has xs l ys zs h =
+    let (a, b) = no-line-had has xs l zs h in
+    any-append has xs (ys ++ zs) ∙ (rw a (any-append has ys zs) ∙ (ap (any has ys ||_) b ∙ or-false (any has ys)))
+
 -- 4. The walk goes on from the new table, or is refused.
 module _ (nodes sizes memory : List ℕ) (w : Walk) (finished : List Line) (first : RestingLine) (others : List RestingLine) (m : HoldsTable nodes sizes memory (w .done) (w .top) finished (first ∷ others))
-    (leads : walk-from enough (view-of nodes sizes) (max-turns - w .turns) (w .turns) (finished ++ map line-of (first ∷ others)) ≡ whole-walk nodes sizes w) where
-  table-turns : (new : List Line) → treat-line enough (view-of nodes sizes) (line-of first) ≡ some new
-      → turn enough (view-of nodes sizes) (finished ++ map line-of (first ∷ others)) ≡ some (finished ++ (new ++ map line-of others))
-  table-turns new x = turn-some (view-of nodes sizes) finished (line-of first) (map line-of others) new (m .all-finished) x
+    (comes : table-reached nodes sizes w ≡ some (finished ++ map line-of (first ∷ others))) where
+  abbrev view : ℕ → Node
+  view = view-of nodes sizes
 
-  pub refused-turns : (new : List Line) → treat-line enough (view-of nodes sizes) (line-of first) ≡ some new → max-turns ≤ w .turns → whole-walk nodes sizes w ≡ refused too-many-turns
-  refused-turns new x h =
+  abbrev former : List Line
+  former = finished ++ map line-of (first ∷ others)
+
+  own-table : (table : List Line) → table-reached nodes sizes w ≡ some table → table ≡ former
+  own-table table c = same-table enough view over-limit variable-count (w .source) (w .target) (w .turns) table former c comes
+
+  table-turns : (new : List Line) → treat-line enough view (line-of first) ≡ some new → turn enough view former ≡ some (finished ++ (new ++ map line-of others))
+  table-turns new x = turn-some view finished (line-of first) (map line-of others) new (m .all-finished) x
+
+  pub refused-turns : (new : List Line) → treat-line enough view (line-of first) ≡ some new → max-turns ≤ w .turns → Earns nodes sizes w too-many-turns
+  refused-turns new x h table c stop =
       let e : max-turns - w .turns ≡ 0 = omega arith in
-      sym leads
-      ∙ (ap (λ n. walk-from enough (view-of nodes sizes) n (w .turns) (finished ++ map line-of (first ∷ others))) e
-      ∙ walk-too-long (view-of nodes sizes) (finished ++ map line-of (first ∷ others)) (w .turns) (finished ++ (new ++ map line-of others)) (table-turns new x))
+      rw (own-table table c, e) (until-too-long enough view over-limit stop (w .turns) former (finished ++ (new ++ map line-of others)) (table-turns new x))
 
   module _ (below : w .turns < max-turns) where
     one-left : max-turns - w .turns ≡ suc (max-turns - (w .turns + 1))
     one-left = omega arith
 
-    refused-over : (new : List Line) (r : Refusal) → treat-line enough (view-of nodes sizes) (line-of first) ≡ some new → over-limit (finished ++ (new ++ map line-of others)) ≡ some r
-        → whole-walk nodes sizes w ≡ refused r
-    refused-over new r x o =
-        sym leads
-        ∙ (ap (λ n. walk-from enough (view-of nodes sizes) n (w .turns) (finished ++ map line-of (first ∷ others))) one-left
-        ∙ walk-over (view-of nodes sizes) (finished ++ map line-of (first ∷ others)) (w .turns) (finished ++ (new ++ map line-of others)) (table-turns new x) (max-turns - (w .turns + 1)) r o)
+    refused-over : (new : List Line) (r : Refusal) → treat-line enough view (line-of first) ≡ some new → over-limit (finished ++ (new ++ map line-of others)) ≡ some r → Earns nodes sizes w r
+    refused-over new r x o table c stop =
+        rw (own-table table c, one-left) (until-over enough view over-limit stop (w .turns) former (finished ++ (new ++ map line-of others)) (table-turns new x) (max-turns - (w .turns + 1)) r o)
 
-    pub refused-elements : (new : List Line) → treat-line enough (view-of nodes sizes) (line-of first) ≡ some new → any crowded new ≡ true → whole-walk nodes sizes w ≡ refused too-many-elements
+    pub refused-elements : (new : List Line) → treat-line enough view (line-of first) ≡ some new → any crowded new ≡ true → Earns nodes sizes w too-many-elements
     refused-elements new x h = refused-over new too-many-elements x (over-elements (finished ++ (new ++ map line-of others)) (crowded-middle finished new (map line-of others) h))
 
     length-table : (new : List Line) → length (finished ++ (new ++ map line-of others)) ≡ w .done + length new + (max-lines - (w .top + 1))
@@ -133,8 +159,8 @@ module _ (nodes sizes memory : List ℕ) (w : Walk) (finished : List Line) (firs
         short-append finished (new ++ map line-of others) (finished-short (view-of nodes sizes) finished (m .all-finished))
         (short-append new (map line-of others) h (well-formed-short nodes sizes others (m .all-well-formed .1)))
 
-    pub refused-lines : (new : List Line) → treat-line enough (view-of nodes sizes) (line-of first) ≡ some new → any crowded new ≡ false → w .top + 1 < w .done + length new
-        → whole-walk nodes sizes w ≡ refused too-many-lines
+    pub refused-lines : (new : List Line) → treat-line enough view (line-of first) ≡ some new → any crowded new ≡ false → w .top + 1 < w .done + length new
+        → Earns nodes sizes w too-many-lines
     refused-lines new x h l =
         refused-over new too-many-lines x (over-lines (finished ++ (new ++ map line-of others)) (short-table new h) (omega (arith, length-table new, m .top-is)))
 
@@ -144,11 +170,23 @@ module _ (nodes sizes memory : List ℕ) (w : Walk) (finished : List Line) (firs
       abbrev further-on : Walk
       further-on = record { source = w .source; target = w .target; done = w .done; top = top′; turns = w .turns + 1 }
 
+      abbrev new-table : List Line
+      new-table = finished ++ (map line-of children ++ map line-of others)
+
+      turned-table : finished ++ map line-of (children ++ others) ≡ new-table
+      turned-table = ap (finished ++_) (map-append line-of children others)
+
+      -- The others have what they had.
+      turned-new : (has : Line → Bool) → ((table : List Line) → table-reached nodes sizes w ≡ some table → any has table ≡ false)
+          → any has (finished ++ map line-of (children ++ others)) ≡ any has (map line-of (take (w .top + 1 - top′) (children ++ others)))
+      turned-new has before =
+          let a : take (w .top + 1 - top′) (children ++ others) ≡ children = take-at children others (w .top + 1 - top′) (omega arith) in
+          ap (any has) turned-table ∙ (only-middle has finished (line-of first) (map line-of children) (map line-of others) (before former comes) ∙ ap (λ ls. any has (map line-of ls)) (sym a))
+
       pub turned : GoesOn nodes sizes memory′ w further-on
       turned =
-          let new = map line-of children in
           let l = length-map children line-of in
-          let o = within-limits (finished ++ (new ++ map line-of others)) (short-table new (well-formed-short nodes sizes children sound)) (omega (arith, length-table new, m .top-is)) in
+          let o = within-limits new-table (short-table (map line-of children) (well-formed-short nodes sizes children sound)) (omega (arith, length-table (map line-of children), m .top-is)) in
           let e : suc (w .turns) ≡ w .turns + 1 = omega arith in
           record {
             walking = record {
@@ -157,14 +195,13 @@ module _ (nodes sizes memory : List ℕ) (w : Walk) (finished : List Line) (firs
               unfinished = children ++ others;
               holds = replaced m memory′ top′ children sound count ordered placed-there;
               turns-within = omega arith;
-              leads =
-                  ap (λ t. walk-from enough (view-of nodes sizes) (max-turns - (w .turns + 1)) (w .turns + 1) (finished ++ t)) (map-append line-of children others)
-                  ∙ (ap (λ n. walk-from enough (view-of nodes sizes) (max-turns - (w .turns + 1)) n (finished ++ (new ++ map line-of others))) (sym e)
-                  ∙ (sym (walk-on (view-of nodes sizes) (finished ++ map line-of (first ∷ others)) (w .turns) (finished ++ (new ++ map line-of others)) (table-turns new x) (max-turns - (w .turns + 1)) o)
-                  ∙ (ap (λ n. walk-from enough (view-of nodes sizes) n (w .turns) (finished ++ map line-of (first ∷ others))) (sym one-left)
-                  ∙ leads)));
+              comes =
+                  ap (table-after enough view over-limit variable-count (w .source) (w .target)) (sym e)
+                  ∙ (after-turn enough view over-limit variable-count (w .source) (w .target) (w .turns) former new-table comes (table-turns (map line-of children) x) o
+                  ∙ ap some (sym turned-table));
             };
-            further = record { same-source = refl; same-target = refl; top-within = omega (arith, m .top-is); falls = omega (arith, m .top-is) };
+            further = record { same-source = refl; same-target = refl; top-within = omega (arith, m .top-is); one-turn = omega arith; falls = omega (arith, m .top-is) };
+            only-new = turned-new;
           }
 
 -- 5. The line is finished.
@@ -185,9 +222,12 @@ placed-through at part buffer l =
     ∙ take-at (take at buffer ++ part) (drop (at + length part) buffer) (at + length part) (length-append (take at buffer) part ∙ ap (_+ length part) e)
 
 module _ (nodes sizes memory : List ℕ) (w : Walk) (finished : List Line) (first : RestingLine) (others : List RestingLine) (m : HoldsTable nodes sizes memory (w .done) (w .top) finished (first ∷ others))
-    (leads : walk-from enough (view-of nodes sizes) (max-turns - w .turns) (w .turns) (finished ++ map line-of (first ∷ others)) ≡ whole-walk nodes sizes w) where
+    (comes : table-reached nodes sizes w ≡ some (finished ++ map line-of (first ∷ others))) where
   abbrev line-on : Walk
   line-on = record { source = w .source; target = w .target; done = w .done + 1; top = w .top + 1; turns = w .turns }
+
+  same-lines : (finished ++ (line-of first ∷ [])) ++ map line-of others ≡ finished ++ map line-of (first ∷ others)
+  same-lines = append-assoc finished (line-of first ∷ []) (map line-of others)
 
   pub finished-on : InPrefixForm nodes sizes → w .turns ≤ max-turns → (memory′ : List ℕ) → KnownReduced nodes sizes (first .bindings) (first .elements)
       → memory′ ≡ placed (w .done * record-bytes) (record-of (line-of first)) memory → GoesOn nodes sizes memory′ w line-on
@@ -225,24 +265,28 @@ module _ (nodes sizes memory : List ℕ) (w : Walk) (finished : List Line) (firs
             all-well-formed = m .all-well-formed .1;
           };
           turns-within = within;
-          leads = ap (walk-from enough (view-of nodes sizes) (max-turns - w .turns) (w .turns)) (append-assoc finished (line-of first ∷ []) (map line-of others)) ∙ leads;
+          comes = comes ∙ ap some (sym same-lines);
         };
-        further = record { same-source = refl; same-target = refl; top-within = omega (arith, m .top-is); falls = omega (arith, m .top-is) };
+        further = record { same-source = refl; same-target = refl; top-within = omega (arith, m .top-is); one-turn = omega arith; falls = omega (arith, m .top-is) };
+        only-new = λ has before. let z : w .top + 1 - (w .top + 1) ≡ 0 = omega arith in
+            ap (any has) same-lines ∙ (before _ comes ∙ ap (λ n. any has (map line-of (take n others))) (sym z));
       }
 
 -- 6. Where no line is left the walk has ended, and what it ended with stands in the memory.
-pub ended : (nodes sizes memory : List ℕ) (w : Walk) (k : Walking nodes sizes memory w) → max-lines ≤ w .top
-    → (whole-walk nodes sizes w ≡ solved (k .finished) (w .turns)) × (length (k .finished) ≡ w .done) × (take (w .done * record-bytes) memory ≡ records (k .finished))
+pub record EndedWith (nodes sizes memory : List ℕ) (w : Walk) (table : List Line) : Type 0 where
+  pub comes : table-reached nodes sizes w ≡ some table
+  pub no-turn : turn enough (view-of nodes sizes) table ≡ none
+  pub count-is : length table ≡ w .done
+  pub records-are : take (w .done * record-bytes) memory ≡ records table
+
+pub ended : (nodes sizes memory : List ℕ) (w : Walk) (k : Walking nodes sizes memory w) → max-lines ≤ w .top → EndedWith nodes sizes memory w (k .finished)
 ended nodes sizes memory w k h = go (k .unfinished) refl
   where
-    go : (ls : List RestingLine) → k .unfinished ≡ ls
-        → (whole-walk nodes sizes w ≡ solved (k .finished) (w .turns)) × (length (k .finished) ≡ w .done) × (take (w .done * record-bytes) memory ≡ records (k .finished))
-    go [] e =
-        let t : k .finished ++ map line-of (k .unfinished) ≡ k .finished = ap (λ l. k .finished ++ map line-of l) e ∙ append-nil (k .finished) in (
-          sym (k .leads)
-              ∙ (ap (walk-from enough (view-of nodes sizes) (max-turns - w .turns) (w .turns)) t
-              ∙ walk-ends (view-of nodes sizes) (k .finished) (w .turns) (max-turns - w .turns) (turn-none (view-of nodes sizes) (k .finished) (k .holds .all-finished))),
-          k .holds .done-is,
-          k .holds .records-are,
-        )
+    go : (ls : List RestingLine) → k .unfinished ≡ ls → EndedWith nodes sizes memory w (k .finished)
+    go [] e = record {
+      comes = k .comes ∙ ap some (ap (λ l. k .finished ++ map line-of l) e ∙ append-nil (k .finished));
+      no-turn = turn-none (view-of nodes sizes) (k .finished) (k .holds .all-finished);
+      count-is = k .holds .done-is;
+      records-are = k .holds .records-are;
+    }
     go (l ∷ ls) e = absurd (omega (arith, k .holds .top-is, ap length e))

@@ -6,9 +6,9 @@ use reference::limits::*;
 use reference::rewrite;
 use reference::sheet::{self, Task};
 use reference::special::{self, special};
-use reference::timing::time;
+use reference::timing::{time, times};
 use reference::walk::Walker;
-use reference::{check, compare, generate, judge, run, solve};
+use reference::{always, check, compare, generate, judge, run, solve};
 use std::hint::black_box;
 use std::time::Instant;
 
@@ -16,6 +16,7 @@ fn main() {
     clock();
     reading();
     walks();
+    walks_with_a_stop();
     comparisons();
     runs();
     calls();
@@ -72,6 +73,38 @@ fn walks() {
     }
 }
 
+/// The walks of always, beside those of solve.
+fn walks_with_a_stop() {
+    println!(
+        "walk until an empty line         answer  turns       ns   ns a turn   turns to the end       ns   ns a turn"
+    );
+    let mut walker = Walker::new();
+    for name in special::WALKS {
+        let sheet = sheet::read(&named(name)).unwrap();
+        let equation = rewrite::equation(&sheet, 0);
+        for direction in 0..2 {
+            let answer = match walker.always(&equation, direction) {
+                Ok((true, _)) => "yes".to_string(),
+                Ok((false, _)) => "no".to_string(),
+                Err(excess) => format!("({})", excess.refusal_number()),
+            };
+            let turns = walker.measure().turns;
+            _ = walker.walk(&equation, direction);
+            let all_turns = walker.measure().turns;
+            // In the same rounds, since the two are to be compared.
+            let [ns, all_ns] = times(|case| match case {
+                0 => walker.always(black_box(&equation), direction).is_ok(),
+                _ => walker.walk(black_box(&equation), direction).is_ok(),
+            });
+            println!(
+                "  {name:28} {direction} {answer:>7} {turns:6} {ns:8.0} {:11.1} {all_turns:18} {all_ns:8.0} {:11.1}",
+                ns / turns as f64,
+                all_ns / all_turns as f64
+            );
+        }
+    }
+}
+
 fn comparisons() {
     println!("comparison of two terms                               ns");
     let mut arities = [0; SYMBOLS];
@@ -110,11 +143,16 @@ fn calls() {
     let p1 = special::P1;
     let show = |name: &str, ns: f64| println!("  {name:46} {ns:8.0}");
     show("solve, P1", time(|| solve(p1, 0, 0, &mut table, &mut scratch)));
+    show("always, P1", time(|| always(p1, 0, 0, &mut table, &mut scratch)));
     show("judge, P1", time(|| judge(p1, 1, &mut table, &mut scratch)));
     show("run, P1", time(|| run(p1, 0, &mut table, &mut scratch, &mut term, &mut log)));
     show("compare, P1", time(|| compare(p1, 2, &mut scratch)));
     let ten_thousand = named("10,000 turns, 8 lines");
     show("solve, 10,000 turns", time(|| solve(&ten_thousand, 0, 1, &mut table, &mut scratch)));
+    show("always, 10,000 turns", time(|| always(&ten_thousand, 0, 1, &mut table, &mut scratch)));
+    let then_lines = named("always, then 256 lines");
+    show("solve, refused after 602 turns", time(|| solve(&then_lines, 0, 0, &mut table, &mut scratch)));
+    show("always, yes after 70 of them", time(|| always(&then_lines, 0, 0, &mut table, &mut scratch)));
     let median = named("median law, and below or");
     show("judge, median law", time(|| judge(&median, 0, &mut table, &mut scratch)));
     let sorting = named("sorting of 40 factors");

@@ -29,13 +29,17 @@ fn main() {
         for direction in 0..2 {
             let (outcome, measure, lines) = walks[direction];
             let other_solves = walks[1 - direction].0.is_ok_and(|turns| turns <= TURNS);
-            let Some(sort) = sort(outcome, measure, lines, other_solves) else { continue };
-            let found = finds.entry(sort).or_default();
-            *found += 1;
-            if *found <= SHOWN {
-                let frames = [signature.frame(), [&[2], &bytes[..]].concat()];
-                let text = String::from_utf8(generate::text(&frames)).unwrap().replace('\n', " ");
-                println!("{sort}: seed {seed} direction {direction} {text}{outcome:?} {measure:?} lines {lines}");
+            let always = walker.always_up_to(TURNS + 1, &equation, direction as u8);
+            let sorts = [sort(outcome, measure, lines, other_solves), sort_of_yes(always, outcome)];
+            for sort in sorts.into_iter().flatten() {
+                let found = finds.entry(sort).or_default();
+                *found += 1;
+                if *found <= SHOWN {
+                    let frames = [signature.frame(), [&[2], &bytes[..]].concat()];
+                    let text = String::from_utf8(generate::text(&frames)).unwrap().replace('\n', " ");
+                    print!("{sort}: seed {seed} direction {direction} {text}");
+                    println!("{outcome:?} {measure:?} lines {lines} always {always:?}");
+                }
             }
         }
     }
@@ -54,6 +58,19 @@ fn sort(outcome: Result<u32, Excess>, measure: Measure, lines: usize, other_solv
         Err(Excess::Elements(elements)) if elements == ELEMENTS + 1 => Some("one element too many"),
         Err(Excess::Lines(lines)) if lines == LINES + 1 => Some("one line too many"),
         _ => None,
+    }
+}
+
+/// The sort of a walk with an empty line at the limit of turns, or before a limit is passed.
+fn sort_of_yes(always: Result<(bool, u32), Excess>, outcome: Result<u32, Excess>) -> Option<&'static str> {
+    let Ok((true, turns)) = always else { return None };
+    match outcome {
+        _ if turns == TURNS + 1 => Some("empty line one turn too late"),
+        _ if turns == TURNS => Some("empty line in the last turn"),
+        Ok(turns) if turns <= TURNS => None,
+        Ok(_) | Err(Excess::Turns) => Some("empty line, then too many turns"),
+        Err(Excess::Elements(_)) => Some("empty line, then too many elements"),
+        Err(Excess::Lines(_)) => Some("empty line, then too many lines"),
     }
 }
 

@@ -65,6 +65,10 @@ impl Buffers {
         reference::solve(sheet, equation, direction, &mut self.table, &mut self.scratch)
     }
 
+    pub fn always(&mut self, sheet: &[u8], equation: u64, direction: u64) -> u64 {
+        reference::always(sheet, equation, direction, &mut self.table, &mut self.scratch)
+    }
+
     pub fn judge(&mut self, sheet: &[u8], task: u64) -> u64 {
         reference::judge(sheet, task, &mut self.table, &mut self.scratch)
     }

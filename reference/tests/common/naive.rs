@@ -225,24 +225,45 @@ pub struct Walk<'a> {
 impl Walk<'_> {
     /// The lines and the count of turns, or the refusal number.
     pub fn solve(&self, source: usize, target: usize) -> Result<(Vec<Line>, usize), u64> {
-        let opening = Line { bindings: [None; 8], elements: vec![Element::Inequality(source, target)] };
-        let mut table = vec![opening];
+        let mut table = opening_table(source, target);
         let mut turns = 0;
-        while let Some((at, index)) = self.first_open(&table) {
-            if turns == 10_000 {
-                return Err(8);
-            }
-            turns += 1;
-            let lines = self.turn(&table[at], index);
-            if lines.iter().any(|line| line.elements.len() > 40) {
-                return Err(9);
-            }
-            table.splice(at..at + 1, lines);
-            if table.len() > 255 {
-                return Err(10);
+        while self.take_turn(&mut table, &mut turns)? {}
+        Ok((table, turns))
+    }
+
+    /// Whether the table, looked over after each turn, came to have a finished line with no binding and no element, and
+    /// the count of turns by then; or the refusal number.
+    pub fn always(&self, source: usize, target: usize) -> Result<(bool, usize), u64> {
+        let mut table = opening_table(source, target);
+        let mut turns = 0;
+        while self.take_turn(&mut table, &mut turns)? {
+            if table.iter().any(|line| self.finished(line) && is_empty(line)) {
+                return Ok((true, turns));
             }
         }
-        Ok((table, turns))
+        Ok((false, turns))
+    }
+
+    /// Takes one turn and gives true, or gives false where all lines are finished; or gives the refusal number.
+    pub fn take_turn(&self, table: &mut Vec<Line>, turns: &mut usize) -> Result<bool, u64> {
+        let Some((at, index)) = self.first_open(table) else { return Ok(false) };
+        if *turns == 10_000 {
+            return Err(8);
+        }
+        *turns += 1;
+        let lines = self.turn(&table[at], index);
+        if lines.iter().any(|line| line.elements.len() > 40) {
+            return Err(9);
+        }
+        table.splice(at..at + 1, lines);
+        if table.len() > 255 {
+            return Err(10);
+        }
+        Ok(true)
+    }
+
+    fn finished(&self, line: &Line) -> bool {
+        line.elements.iter().all(|element| self.fully_reduced(line, element))
     }
 
     /// The first unfinished line and its leftmost element that is not fully reduced.
@@ -379,6 +400,16 @@ impl Walk<'_> {
             }
         }
     }
+}
+
+/// The table before the first turn.
+pub fn opening_table(source: usize, target: usize) -> Vec<Line> {
+    vec![Line { bindings: [None; 8], elements: vec![Element::Inequality(source, target)] }]
+}
+
+/// Whether a line has no binding and no element.
+pub fn is_empty(line: &Line) -> bool {
+    line.bindings.iter().all(Option::is_none) && line.elements.is_empty()
 }
 
 /// The records of a table.

@@ -4,11 +4,12 @@ use mathlib.Core.Path.{_≡_}
 use mathlib.Core.List.{List}
 use lib.ListN.{length}
 use Rattle.format.specs.Limits.{max-symbols}
-use Rattle.terms.specs.Equation.{Equation}
+use Rattle.terms.specs.Equation.{Equation, Direction, source-position, target-position}
 use Rattle.terms.specs.Prefix.{equation-bytes}
 use Rattle.terms.specs.Contracts.Limits.{WithinLimits}
 use Rattle.terms.specs.Contracts.Fits.{Fits}
 use Rattle.unifying.specs.Contracts.Equation.{equation-sizes}
+use Rattle.solver.specs.declared.solve.Ends.{Ends}
 
 module _ (bytes arities : List ℕ) where
   -- These are the bytes of this equation, which is over symbols with these arities and within the limits.
@@ -32,3 +33,8 @@ pub record SidesAre (nodes lengths : List ℕ) (e : Equation) : Type 0 where
 pub record HasSides (nodes lengths : List ℕ) : Type 0 where
   pub equation : Equation
   pub are : SidesAre nodes lengths equation
+
+-- The positions at which the sides of a direction start.
+pub record EndsAre (e : Equation) (d : Direction) (ends : Ends) : Type 0 where
+  pub source-is : ends .source ≡ source-position e d
+  pub target-is : ends .target ≡ target-position e d

@@ -1,6 +1,6 @@
 -- The laws of `solve`: what its table says at values of the variables, that fuel is no limit, and what its table looks like.
 use Prim.Native.Nat.{ℕ, _*_, _≤_}
-use mathlib.Core.Path.{_≡_}
+use mathlib.Core.Path.{_≡_, refl}
 use mathlib.Core.Logic.{_↔_}
 use mathlib.Core.Bool.{false}
 use mathlib.Core.List.{List}
@@ -43,17 +43,17 @@ module _ (e : Equation) (w : WithinLimits e) where
     module _ (table : List Line) (n : ℕ) (done : solve e d ≡ solved table n) where
       -- The source's instance exceeds the target's exactly if some line of the table holds.
       pub solve-exact : (ρ : Values) → (inst ρ (source e d) ≻ inst ρ (target e d)) ↔ SomeLineHolds ρ (value e ρ) table
-      unfolding solve value
+      unfolding solve walk value
       solve-exact ρ = rw (source-at e d, target-at e d) at
-          (walk-exact (layout e w) enough-here (source-position e d) (target-position e d) (source-within e d) (target-within e d) (model e ρ) table n done)
+          (walk-exact (layout e w) enough-here (source-position e d) (target-position e d) (source-within e d) (target-within e d) (λ table. false) (model e ρ) table n done)
 
-      ended : Ended enough (view e) (Kept (layout e w) enough-here (source-position e d) (target-position e d) (source-within e d) (target-within e d)) table n max-turns
-      unfolding solve
-      ended = walk-kept (layout e w) enough-here (source-position e d) (target-position e d) (source-within e d) (target-within e d) table n done
+      ended : Ended enough (view e) (λ table. false) (λ k. Kept (layout e w) enough-here (source-position e d) (target-position e d) (source-within e d) (target-within e d) (λ table. false)) table n 0 max-turns
+      unfolding solve walk
+      ended = walk-kept (layout e w) enough-here (source-position e d) (target-position e d) (source-within e d) (target-within e d) (λ table. false) table n done
 
       -- Every line is finished: its elements are fully reduced inequalities, seen through its bindings.
       pub solved-reduced : Finished (view e) table
-      solved-reduced = turn-none (layout e w) enough-here table (ended .has .proper) (ended .finished)
+      solved-reduced = turn-none (layout e w) enough-here table (ended .has .proper) (ended .finished refl)
 
       -- "up to 40 elements", "at most 255 lines", "At most 10,000 turns."
       pub solved-lines : WrittenLines (positions e) table

@@ -14,7 +14,7 @@ use Rattle.terms.specs.Position.{Node}
 use Rattle.terms.specs.Theory.View.{Layout, Model}
 use Rattle.ordering.specs.Order.{_≻_}
 use Rattle.solving.specs.Line.{no-bindings, unbound, lookup, greater, Line, line}
-use Rattle.solving.specs.Walk.{Fuel, solved, over-limit, opening, turn, walk-from, walk-within, walk}
+use Rattle.solving.specs.Walk.{Fuel, solved, over-limit, opening, turn, walk-within}
 use Rattle.solving.specs.Holds.{SomeLineHolds}
 use Rattle.solving.specs.Theory.Seen.{bound-variable}
 use Rattle.solving.specs.Theory.Reach.{Sufficient}
@@ -64,29 +64,26 @@ opening-says ρ value s t = (λ g. inl (bindings-hold ρ value (unbound variable
     back (inl h) = h .1 .0
     back (inr h) = absurd h
 
--- The walk of document 01 goes from the first table.
-pub walk-opens : (fuel : Fuel) (view : ℕ → Node) (s t : ℕ) → walk-from fuel view max-turns 0 (line no-bindings (greater s t ∷ []) ∷ []) ≡ walk fuel view s t
-unfolding walk walk-from no-bindings
-walk-opens fuel view s t = refl
-
--- The walk over `n` positions with fuel that suffices.
-module _ {fuel : Fuel} {view : ℕ → Node} {n : ℕ} (lay : Layout view variable-count n) (suf : Sufficient variable-count n fuel) (s t : ℕ) (i : s < n) (j : t < n) where
+-- The walk over `n` positions with fuel that suffices, whatever stops it.
+module _ {fuel : Fuel} {view : ℕ → Node} {n : ℕ} (lay : Layout view variable-count n) (suf : Sufficient variable-count n fuel) (s t : ℕ) (i : s < n) (j : t < n) (stop : List Line → Bool) where
   -- What every table of the walk has.
   pub record Kept (table : List Line) : Type 0 where
     pub proper : ProperTable view variable-count n table
     pub limits : InLimits table
 
-  pub walk-kept : (table : List Line) (turns : ℕ) → walk fuel view s t ≡ solved table turns → Ended fuel view Kept table turns max-turns
-  unfolding walk walk-from
-  walk-kept table turns e = walk-keeps fuel view Kept
-      (λ old new k x y. record { proper = turn-proper lay suf old new (k .proper) x; limits = limits-kept new y })
+  pub walk-kept : (table : List Line) (turns : ℕ) → walk-within fuel view over-limit stop max-turns variable-count s t ≡ solved table turns → Ended fuel view stop (λ k. Kept) table turns 0 max-turns
+  unfolding walk-within
+  walk-kept table turns e = walk-keeps fuel view over-limit stop (λ k. Kept)
+      (λ k old new h x y. record { proper = turn-proper lay suf old new (h .proper) x; limits = limits-kept new y })
       max-turns 0 (opening variable-count s t) table turns
       (record { proper = opening-proper lay s t i j; limits = record { short-lines = (omega arith, tt); few-lines = omega arith } })
       e
 
-  pub walk-exact : {ρ : Values} {value : ℕ → Term} → Model view ρ value → (table : List Line) (turns : ℕ) → walk fuel view s t ≡ solved table turns → value s ≻ value t ↔ SomeLineHolds ρ value table
-  unfolding walk walk-from
-  walk-exact {ρ} {value} m table turns e = walk-keeps fuel view TableSays keeps max-turns 0 (opening variable-count s t) table turns (opening-proper lay s t i j, opening-says ρ value s t) e .has .1
+  pub walk-exact : {ρ : Values} {value : ℕ → Term} → Model view ρ value → (table : List Line) (turns : ℕ) → walk-within fuel view over-limit stop max-turns variable-count s t ≡ solved table turns
+      → value s ≻ value t ↔ SomeLineHolds ρ value table
+  unfolding walk-within
+  walk-exact {ρ} {value} m table turns e =
+      walk-keeps fuel view over-limit stop (λ k. TableSays) (λ k. keeps) max-turns 0 (opening variable-count s t) table turns (opening-proper lay s t i j, opening-says ρ value s t) e .has .1
     where
       TableSays : List Line → Type 0
       TableSays table = ProperTable view variable-count n table × (value s ≻ value t ↔ SomeLineHolds ρ value table)

@@ -12,14 +12,13 @@ use Rattle.format.specs.Theory.Lists.{every-append, every-getD, getD-map}
 use Rattle.terms.specs.Term.{Term, Terms, var, app, nil, cons, size, sizes}
 use Rattle.terms.specs.Position.{subterms, subterms-of, starts, var-node, node-at}
 use Rattle.terms.specs.Prefix.{prefix, prefixes, equation-bytes}
-use Rattle.terms.specs.Equation.{Equation, Direction, term-at, source-position, target-position, view}
+use Rattle.terms.specs.Equation.{Equation, term-at, view}
 use Rattle.terms.specs.Contracts.Limits.{WithinLimits, positions}
 use Rattle.terms.specs.Theory.Limits.{positions-few}
 use Rattle.terms.specs.Theory.Position.{size-pos}
 use Rattle.terms.specs.Theory.Subterms.{subterms-have}
 use Rattle.terms.specs.Theory.Positions.{Segment, term-head, first-segment, rest-segment, all-subterms, length-all, past-end, arguments-at, segment-within}
 use Rattle.terms.specs.Contracts.Fits.{AllFit, Fits}
-use Rattle.solving.specs.Walk.{enough, walk, solve}
 use Rattle.unifying.specs.Contracts.PrefixForm.{row, arguments-of, view-of, Row, none, more, InPrefixForm}
 use Rattle.unifying.specs.Contracts.Equation.{equation-sizes}
 use Rattle.unifying.specs.Theory.PrefixForm.{row-ordered, row-empty, getD-any, symbol-seen, variable-seen}
@@ -128,10 +127,6 @@ module _ (e : Equation) where
 
     pub equation-view : view-of (equation-bytes e) (equation-sizes e) ≡ view e
     equation-view = fun-ext seen-at
-
-    pub equation-walk : (d : Direction) → walk enough (view-of (equation-bytes e) (equation-sizes e)) (source-position e d) (target-position e d) ≡ solve e d
-    unfolding solve
-    equation-walk d = ap (λ v. walk enough v (source-position e d) (target-position e d)) equation-view
 
     pub equation-form : WithinLimits e → InPrefixForm (equation-bytes e) (equation-sizes e)
     unfolding first-byte size

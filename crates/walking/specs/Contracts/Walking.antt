@@ -1,14 +1,17 @@
 -- The memory of the walk, and what it means.
 use Prim.Native.Nat.{ℕ, _+_, _-_, _*_, _≤_, _<_}
 use mathlib.Core.Path.{_≡_}
-use mathlib.Core.Bool.{false}
-use mathlib.Core.Option.{none}
+use mathlib.Core.Bool.{Bool, false}
+use mathlib.Core.Option.{Option, none, some}
 use mathlib.Core.List.{List, [], _∷_, _++_, map}
 use lib.ListN.{length, take, drop}
-use Rattle.format.specs.Limits.{max-lines, max-turns, record-bytes}
+use Rattle.format.specs.Limits.{variable-count, max-lines, max-turns, record-bytes}
+use Rattle.format.specs.declared.refusal.Refusal.{Refusal}
+use Rattle.format.specs.Lists.{any}
 use Rattle.solving.specs.Line.{Element, Line, records}
 use Rattle.terms.specs.Position.{Node}
-use Rattle.solving.specs.Walk.{enough, treat-line, crowded, Walked, refused, walk-from, walk}
+use Rattle.solving.specs.Walk.{enough, treat-line, crowded, refused, over-limit, walk-until}
+use Rattle.solving.specs.Turns.{table-after}
 use Rattle.treating.specs.declared.treat.Treatment.{Treatment}
 use Rattle.walking.specs.declared.walk.Walk.{Walk}
 use Rattle.walking.specs.declared.walk.Progress.{Progress}
@@ -52,18 +55,18 @@ pub record HoldsTable (nodes sizes memory : List ℕ) (done top : ℕ) (finished
   pub all-finished : AllFinished (view-of nodes sizes) finished
   pub all-well-formed : AllWellFormed nodes sizes unfinished
 
--- The walk as it is defined, from the positions that the cursor has.
-abbrev pub whole-walk : (nodes sizes : List ℕ) → Walk → Walked
-whole-walk nodes sizes w = walk enough (view-of nodes sizes) (w .source) (w .target)
+-- The table that the walk as it is defined comes to in as many turns as the cursor has counted, from the positions that it has.
+abbrev pub table-reached : (nodes sizes : List ℕ) → Walk → Option (List Line)
+table-reached nodes sizes w = table-after enough (view-of nodes sizes) over-limit variable-count (w .source) (w .target) (w .turns)
 
--- The walk has come so far: from the table in the memory it goes on as it is defined.
+-- The walk has come so far: that table is in the memory.
 pub record Walking (nodes sizes memory : List ℕ) (w : Walk) : Type 0 where
   pub laid : InPrefixForm nodes sizes
   pub finished : List Line
   pub unfinished : List RestingLine
   pub holds : HoldsTable nodes sizes memory (w .done) (w .top) finished unfinished
   pub turns-within : w .turns ≤ max-turns
-  pub leads : walk-from enough (view-of nodes sizes) (max-turns - w .turns) (w .turns) (finished ++ map line-of unfinished) ≡ whole-walk nodes sizes w
+  pub comes : table-reached nodes sizes w ≡ some (finished ++ map line-of unfinished)
 
 -- All elements of the first unfinished line are fully reduced.
 pub record Finishing (nodes sizes memory : List ℕ) (w : Walk) : Type 0 where
@@ -73,7 +76,7 @@ pub record Finishing (nodes sizes memory : List ℕ) (w : Walk) : Type 0 where
   pub others : List RestingLine
   pub holds : HoldsTable nodes sizes memory (w .done) (w .top) finished (first ∷ others)
   pub turns-within : w .turns ≤ max-turns
-  pub leads : walk-from enough (view-of nodes sizes) (max-turns - w .turns) (w .turns) (finished ++ map line-of (first ∷ others)) ≡ whole-walk nodes sizes w
+  pub comes : table-reached nodes sizes w ≡ some (finished ++ map line-of (first ∷ others))
   pub all-reduced : KnownReduced nodes sizes (first .bindings) (first .elements)
 
 -- Element number `at` of the first unfinished line is to be treated.
@@ -84,7 +87,7 @@ pub record Treating (nodes sizes memory : List ℕ) (w : Walk) (at : ℕ) (t : T
   pub others : List RestingLine
   pub holds : HoldsTable nodes sizes memory (w .done) (w .top) finished (first ∷ others)
   pub turns-within : w .turns ≤ max-turns
-  pub leads : walk-from enough (view-of nodes sizes) (max-turns - w .turns) (w .turns) (finished ++ map line-of (first ∷ others)) ≡ whole-walk nodes sizes w
+  pub comes : table-reached nodes sizes w ≡ some (finished ++ map line-of (first ∷ others))
   pub pre : List Element
   pub element : Element
   pub post : List Element
@@ -113,24 +116,26 @@ pub record Further (w v : Walk) : Type 0 where
   pub same-source : v .source ≡ w .source
   pub same-target : v .target ≡ w .target
   pub top-within : v .top ≤ max-lines
+  pub one-turn : v .turns ≤ w .turns + 1
   pub falls : left-to-do v < left-to-do w
 
--- The walk goes on from a new table, or it is refused.
+-- The walk goes on from a new table. Its new lines are those from the new first place up to the former one: what no line had before, a line has exactly if
+-- one of these has it.
 pub record GoesOn (nodes sizes memory : List ℕ) (w v : Walk) : Type 0 where
   pub walking : Walking nodes sizes memory v
   pub further : Further w v
+  pub only-new : (has : Line → Bool) → ((table : List Line) → table-reached nodes sizes w ≡ some table → any has table ≡ false)
+      → any has (walking .finished ++ map line-of (walking .unfinished)) ≡ any has (map line-of (take (w .top + 1 - v .top) (walking .unfinished)))
+
+-- The walk is refused at its next turn, whatever would stop it later.
+abbrev pub Earns : (nodes sizes : List ℕ) → Walk → Refusal → Type 0
+Earns nodes sizes w r =
+    (table : List Line) → table-reached nodes sizes w ≡ some table → (stop : List Line → Bool)
+    → walk-until enough (view-of nodes sizes) over-limit stop (max-turns - w .turns) (w .turns) table ≡ refused r
 
 abbrev pub AdvancesAs : (nodes sizes memory : List ℕ) (w v : Walk) → Progress → Type 0
 AdvancesAs nodes sizes memory w v Going = GoesOn nodes sizes memory w v
-AdvancesAs nodes sizes memory w v (Refused r) = whole-walk nodes sizes w ≡ refused r
+AdvancesAs nodes sizes memory w v (Refused r) = Earns nodes sizes w r
 
 pub record Advances (nodes sizes memory : List ℕ) (w : Walk) (a : Advanced) : Type 0 where
   pub outcome : AdvancesAs nodes sizes memory w (a .walk) (a .progress)
-
--- The walk has come to an end: no line is left unfinished, or it is refused.
-abbrev pub EndsAs : (nodes sizes memory : List ℕ) (w v : Walk) → Progress → Type 0
-EndsAs nodes sizes memory w v Going = Walking nodes sizes memory v × (max-lines ≤ v .top) × (whole-walk nodes sizes v ≡ whole-walk nodes sizes w)
-EndsAs nodes sizes memory w v (Refused r) = whole-walk nodes sizes w ≡ refused r
-
-pub record WalkEnds (nodes sizes memory : List ℕ) (w : Walk) (a : Advanced) : Type 0 where
-  pub end : EndsAs nodes sizes memory w (a .walk) (a .progress)

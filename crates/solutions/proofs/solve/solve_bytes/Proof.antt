@@ -1,7 +1,8 @@
 -- `solve_bytes` is solve on an equation's bytes.
 use native.Mathlib.Omega.{arith}
 use borrow.Author.Needs.{needs}
-use Rattle.solutions.proofs.SolveTask.{walk-cleared, walk-solved, walk-refused, lines-low}
+use Rattle.solutions.proofs.Directed.{walk-cleared}
+use Rattle.solutions.proofs.SolveTask.{walk-solved, walk-refused, lines-low}
 use Rattle.solver.specs.Theory.Equation.{some-direction}
 use Rattle.solutions.proofs.solve.solve_bytes.Statement.{statement}
 use Rattle.solutions.proofs.solve.solve_bytes.Tie as tie

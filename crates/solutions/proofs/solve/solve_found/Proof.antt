@@ -2,7 +2,8 @@
 use borrow.Author.Needs.{needs}
 use Rattle.reading.specs.Theory.Found.{equation-low}
 use Rattle.scanning.specs.Theory.Arities.{symbols-room, symbols-taken}
-use Rattle.solutions.proofs.SolveTask.{known-few, bytes-room, bytes-taken, equation-is, equation-has, equation-answer}
+use Rattle.outcomes.specs.Outcome.{solve-directed}
+use Rattle.solutions.proofs.Directed.{known-few, bytes-room, bytes-taken, equation-is, equation-has, equation-answer}
 use Rattle.solutions.proofs.solve.solve_found.Statement.{statement}
 use Rattle.solutions.proofs.solve.solve_found.Tie as tie
 
@@ -32,13 +33,14 @@ solve-bytes-requires c κs =
     ((equation-has _ _ _ (pre .0 .0) (pre .0 .1) _ _ _ (at-equation-at .equation-at .ensures), equation-low _ _ _ (pre .0 .0) (pre .0 .1), pre .0 .2), pre .1)
 
 returns : tie.Need-returns
+unfolding solve-directed
 returns c =
     let at-solve-bytes = c .before .before .before .before in
     let at-equation-at = at-solve-bytes .before .before .before .before .before .before .before in
     let start = at-equation-at .before .before .before .before .before in
     let pre = start .pre in
     let found = at-equation-at .equation-at in
-    equation-answer _ _ _ _ _ _ (pre .0 .0) (pre .0 .1) (pre .0 .2) _ _ (equation-is _ _ _ (pre .0 .0) (pre .0 .1) _ _ _ (found .ensures)) (at-solve-bytes .solve-bytes .ensures)
+    equation-answer _ _ _ _ _ _ _ (pre .0 .0) (pre .0 .1) (pre .0 .2) _ _ (equation-is _ _ _ (pre .0 .0) (pre .0 .1) _ _ _ (found .ensures)) (at-solve-bytes .solve-bytes .ensures)
 
 pub solve-found-spec : {M : Type 1} → statement M
 solve-found-spec =

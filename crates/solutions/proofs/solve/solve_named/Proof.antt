@@ -1,14 +1,14 @@
 -- `solve_named` is solve on an accepted sheet.
 use borrow.Author.Needs.{needs}
-use Rattle.solutions.proofs.SolveTask.{equation-absent, direction-absent}
+use Rattle.solutions.proofs.Directed.{equation-absent, direction-absent}
 use Rattle.solutions.proofs.solve.solve_named.Statement.{statement}
 use Rattle.solutions.proofs.solve.solve_named.Tie as tie
 
 returns : tie.Need-returns
-returns c = equation-absent _ _ _ _ _ _ (c .before .before .before .before .before .pre .0) (c .before .if1 .taken) (c .refusal-number .ensures)
+returns c = equation-absent _ _ _ _ _ _ _ (c .before .before .before .before .before .pre .0) (c .before .if1 .taken) (c .refusal-number .ensures)
 
 returns-2 : tie.Need-returns-2
-returns-2 c = direction-absent _ _ _ _ _ _ (c .before .before .before .before .before .before .pre .0) (c .before .before .if1 .left) (c .before .if2 .taken) (c .refusal-number2 .ensures)
+returns-2 c = direction-absent _ _ _ _ _ _ _ (c .before .before .before .before .before .before .pre .0) (c .before .before .if1 .left) (c .before .if2 .taken) (c .refusal-number2 .ensures)
 
 pub solve-named-spec : {M : Type 1} → statement M
 solve-named-spec =

@@ -39,7 +39,7 @@ returns c =
     let at-write = c .before .before .before .before .before .before in
     let at-opening = at-write .before .before in
     let start = at-opening .before .before .before .before in
-    (opening-walks (start .pre .0 .0) (start .args .source) (start .args .target) (start .pre .0 .1) (start .pre .0 .2) (start .args .memory .now) (c .before .before .store .last .1 .0) (at-write .write .last .1 .0) (start .pre .1) (at-write .write .ensures ∙ ap resting-bytes (at-opening .opening .ensures .0)) (c .before .before .store .ensures), (refl, refl))
+    (opening-walks (start .pre .0 .0) (start .args .source) (start .args .target) (start .pre .0 .1) (start .pre .0 .2) (start .args .memory .now) (c .before .before .store .last .1 .0) (at-write .write .last .1 .0) (start .pre .1) (at-write .write .ensures ∙ ap resting-bytes (at-opening .opening .ensures .0)) (c .before .before .store .ensures), (refl, refl, refl))
 
 pub begin-walk-spec : {M : Type 1} → statement M
 begin-walk-spec =
