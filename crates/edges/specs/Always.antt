@@ -56,6 +56,11 @@ binding-left : ask "000201" "018081" "01810281" ≡ answered false 11
 unfolding ask
 binding-left = refl
 
+-- P10, x > y: no turn is taken, and the first line has an element.
+no-turn : ask "00" "80" "81" ≡ answered false 0
+unfolding ask
+no-turn = refl
+
 -- g(x) > a with a above g: x > a or x = a holds at all ground values, and the answer is no, since no line is always true.
 two-lines : ask "0100" "0080" "01" ≡ answered false 2
 unfolding ask

@@ -25,7 +25,7 @@ fn empty_at(memory: &[u8], place: usize) -> bool
     true
 }
 
-// Whether one of the lines at the places from `first` up to `end` has no element and no binding.
+// Whether one of the lines at the places from `first` on, before `end`, has no element and no binding.
 pub fn any_empty(memory: &[u8], first: usize, end: usize) -> bool
     requires { ⌜ end * line-bytes ≤ length (now memory) ⌝ }
     ensures { λ r. ⌜ AnyEmpty (now (memory .entry)) first end r ⌝ }

@@ -12,7 +12,7 @@ ghost use Rattle.walking.specs.Contracts.Walking.{Walking};
 ghost use Rattle.stopping.specs.Contracts.Ends.{NoneEmpty, WalkEnds};
 
 // Until no line is unfinished, or the walk is refused; where it `stops`, also until a turn makes a line without binding and element, which is then left among
-// the unfinished ones. After a turn only its new lines are looked at: they stand at the places from the new first one to the former first one.
+// the unfinished ones. After a turn only its new lines are looked at: they stand from the new first place to the former first place.
 // Solve and always share this loop, so that the turn is compiled into it: called from two places it would take twice the time.
 pub fn go_on(
     walk: Walk,

@@ -17,7 +17,7 @@ use Rattle.walking.specs.Contracts.Walking.{AllWellFormed}
 pub record EmptyAt (memory : List ℕ) (place : ℕ) (r : Bool) : Type 0 where
   pub tells : (l : RestingLine) → length (l .bindings) ≡ variable-count → slice place (place + line-bytes) memory ≡ resting-bytes l → is-empty (line-of l) ≡ r
 
--- Whether one of the lines that rest from place `first` up to place `end` is empty.
+-- Whether one of the lines that rest from place `first` on, before place `end`, is empty.
 pub record AnyEmpty (memory : List ℕ) (first end : ℕ) (r : Bool) : Type 0 where
   pub tells : (nodes sizes : List ℕ) (ls : List RestingLine) → AllWellFormed nodes sizes ls → drop (first * line-bytes) memory ≡ lines-bytes ls
       → any is-empty (map line-of (take (end - first) ls)) ≡ r

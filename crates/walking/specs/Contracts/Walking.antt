@@ -119,8 +119,8 @@ pub record Further (w v : Walk) : Type 0 where
   pub one-turn : v .turns ≤ w .turns + 1
   pub falls : left-to-do v < left-to-do w
 
--- The walk goes on from a new table. Its new lines are those from the new first place up to the former one: what no line had before, a line has exactly if
--- one of these has it.
+-- The walk goes on from a new table. Its new lines are those from the new first place to the former first place, this one included: what no line had before, a line
+-- has exactly if one of these has it.
 pub record GoesOn (nodes sizes memory : List ℕ) (w v : Walk) : Type 0 where
   pub walking : Walking nodes sizes memory v
   pub further : Further w v
