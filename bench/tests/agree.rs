@@ -97,7 +97,8 @@ fn every_direction(call: [Directed; 2]) -> Vec<u64> {
             }
         }
     }
-    let given: Vec<usize> = (0..13).map(|refusal| numbers.iter().filter(|&number| number % 256 == refusal).count()).collect();
+    let given: Vec<usize> =
+        (0..13).map(|refusal| numbers.iter().filter(|&number| number % 256 == refusal).count()).collect();
     assert!(given.iter().all(|&times| 0 < times), "a refusal was never given: {given:?}");
     numbers
 }
