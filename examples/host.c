@@ -50,6 +50,7 @@ static const char *const refusals[] = {
 static const char *const directions[] = {"left > right", "right > left"};
 static const char *const endings[] = {"no further step", "step limit reached", "the next term is too large"};
 static const char *const verdicts[] = {"smaller", "equal", "greater"};
+static const char *const clauses[] = {"", ", by L1", ", by L2", ", by L3"};
 
 /* "1 line", "2 lines". */
 static void print_count(unsigned count, const char *what)
@@ -248,7 +249,7 @@ static void compare(struct host *host, unsigned task)
     fputs("\n  ", stdout);
     returned = neblinaro_compare(host->sheet, host->length, task, host->scratch, sizeof host->scratch);
     if (!print_refusal(host, returned))
-        puts(verdicts[neblinaro_compared_verdict(returned)]);
+        printf("%s%s\n", verdicts[neblinaro_compared_verdict(returned)], clauses[neblinaro_compared_clause(returned)]);
 }
 
 /* ---- the sheet ---- */

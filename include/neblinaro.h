@@ -172,9 +172,26 @@ static inline uint16_t neblinaro_run_term_bytes(uint64_t returned)
 /* Compare: the first term is smaller than the second, equal to it, or greater. */
 enum neblinaro_verdict { NEBLINARO_SMALLER = 0, NEBLINARO_EQUAL = 1, NEBLINARO_GREATER = 2 };
 
+/*
+ * The clause that decided: the first of L1, L2, L3 by which the greater term exceeds the other, and none where the terms
+ * are equal. With s = f(s1..sm) the greater term and t = g(t1..tn) the other:
+ */
+enum neblinaro_clause {
+    NEBLINARO_NO_CLAUSE = 0,
+    NEBLINARO_L1 = 1, /* some si exceeds t or equals it */
+    NEBLINARO_L2 = 2, /* f is above g in precedence, and s exceeds every tj */
+    NEBLINARO_L3 = 3 /* f is g; the first arguments that differ are sk > tk, and s exceeds every tj behind tk */
+};
+
 static inline uint16_t neblinaro_compared_verdict(uint64_t returned)
 {
     return neblinaro_field(returned, 0);
+}
+
+/* An enum neblinaro_clause. */
+static inline uint16_t neblinaro_compared_clause(uint64_t returned)
+{
+    return neblinaro_field(returned, 1);
 }
 
 /* ---- the calls. A length stands behind its pointer. ---- */
@@ -189,7 +206,7 @@ uint64_t neblinaro_check(const uint8_t *sheet, size_t sheet_length);
  * Compares the two ground terms of a task (frame 05).
  *
  * scratch: at least NEBLINARO_SCRATCH_BYTES; so many of its bytes are 00 afterwards.
- * Returns: neblinaro_compared_verdict. Refusals: 1 to 7, 11, 12; scratch is then as it was.
+ * Returns: neblinaro_compared_verdict, neblinaro_compared_clause. Refusals: 1 to 7, 11, 12; scratch is then as it was.
  */
 uint64_t neblinaro_compare(const uint8_t *sheet, size_t sheet_length, uint64_t task, uint8_t *scratch,
                            size_t scratch_length);

@@ -91,11 +91,12 @@ fn compare(rows: &mut Table) {
         let mut plain_scratch = scratch.clone();
         let number = calls::compare(&sheet, 0, &mut scratch);
         assert_eq!(number, reference::compare(&sheet, 0, &mut plain_scratch), "{name}");
-        assert_eq!(number, 256 * u64::from(memoised::verdict(&left, &right, arities, &mut plain_scratch)), "{name}");
+        let (verdict, clause) = memoised::compare(&left, &right, arities, &mut plain_scratch);
+        assert_eq!(number, u64::from(verdict) << 8 | u64::from(clause) << 24, "{name}");
         assert_eq!(scratch, plain_scratch, "{name}");
         let [proved, plain, other] = times(|case| match case {
             0 => calls::compare(&sheet, 0, &mut scratch),
-            1 => reference::check(&sheet) + u64::from(memoised::verdict(&left, &right, arities, &mut plain_scratch)),
+            1 => reference::check(&sheet) + u64::from(memoised::compare(&left, &right, arities, &mut plain_scratch).1),
             _ => reference::compare(&sheet, 0, &mut plain_scratch),
         });
         for (work, plain) in [("beside the same", plain), ("beside the reference", other)] {

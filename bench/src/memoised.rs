@@ -1,5 +1,5 @@
 //! The same memoised comparison in plain Rust: the symbols, then the one question that decides the pair, with one cell for each ordered
-//! pair of nodes. Equal symbols have equally many arguments here, so that both lists end together.
+//! pair of nodes; and behind it the clause that decided, of the two whole terms alone. Equal symbols have equally many arguments here, so that both lists end together.
 
 const NODES: usize = 224;
 const CELLS: usize = NODES * NODES;
@@ -11,8 +11,9 @@ struct Terms<'a> {
     cells: &'a mut [u8],
 }
 
-/// The verdict of two ground terms: 0 smaller, 1 equal, 2 greater. Leaves scratch's first 57,344 bytes 0.
-pub fn verdict(left: &[u8], right: &[u8], arities: &[u8], scratch: &mut [u8]) -> u8 {
+/// The verdict of two ground terms, 0 smaller, 1 equal, 2 greater, and the clause that decided, 1 to 3, or 0 for equal. Leaves scratch's
+/// first 57,344 bytes 0.
+pub fn compare(left: &[u8], right: &[u8], arities: &[u8], scratch: &mut [u8]) -> (u8, u8) {
     let mut terms = Terms { nodes: [0; NODES], sizes: [0; NODES], cells: &mut scratch[..CELLS] };
     terms.cells.fill(0);
     let end = SUBJECT + left.len() + right.len();
@@ -25,9 +26,11 @@ pub fn verdict(left: &[u8], right: &[u8], arities: &[u8], scratch: &mut [u8]) ->
         }
         terms.sizes[i] = (next - i) as u8;
     }
-    let verdict = terms.exceeds(SUBJECT, SUBJECT + left.len());
+    let (s, t) = (SUBJECT, SUBJECT + left.len());
+    let verdict = terms.exceeds(s, t);
+    let clause = terms.clause(verdict, s, t);
     scratch[..57_344].fill(0);
-    verdict
+    (verdict, clause)
 }
 
 impl Terms<'_> {
@@ -54,6 +57,19 @@ impl Terms<'_> {
             return greater_if(self.exceeds_from(s, t + 1, self.end(t)));
         }
         self.compare_arguments(s, t)
+    }
+
+    fn clause(&mut self, verdict: u8, s: usize, t: usize) -> u8 {
+        let by_argument = match verdict {
+            0 => !self.exceeds_from(s, t + 1, self.end(t)),
+            1 => return 0,
+            _ => self.reaches_from(s + 1, self.end(s), t),
+        };
+        match by_argument {
+            true => 1,
+            false if self.nodes[s] != self.nodes[t] => 2,
+            false => 3,
+        }
     }
 
     fn reaches_from(&mut self, mut k: usize, end: usize, t: usize) -> bool {

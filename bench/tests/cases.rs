@@ -38,15 +38,15 @@ fn solves(symbols: &str, equation: &str, turns: u64, records: &[Vec<u8>]) {
     both::everything(&sheet);
 }
 
-/// Two terms have this verdict. An equation is wanted in every sheet.
-fn compares(symbols: &str, terms: &str, verdict: u64) {
+/// Two terms have this verdict, by this clause. An equation is wanted in every sheet.
+fn compares(symbols: &str, terms: &str, verdict: u64, clause: u64) {
     let terms: String = terms.split_whitespace().collect();
     let sheet = sheet(&format!("{symbols} 028080 05{terms}"));
     let compared = both::compare(&sheet, 0);
-    assert_eq!(compared.fields(), [verdict, 0, 0]);
+    assert_eq!(compared.fields(), [verdict, clause, 0]);
     assert!(scratch_cleared(&compared));
     let listing = String::from_utf8(both::listing(&sheet)).expect("digits");
-    assert!(listing.contains(&format!("\n16{verdict:02x}\n")));
+    assert!(listing.contains(&format!("\n16{verdict:02x}{clause:02x}\n")));
 }
 
 /// What a run gives: steps, ending and bytes of the term; the term; the log.
@@ -61,7 +61,7 @@ fn runs(frames: &str, task: u64, fields: [u64; 3], term: &[u8], log: &[u8]) {
 
 #[test]
 fn p1() {
-    let expected = "110000010008 1200018081 110001010008 1200018180 14000000 130001020001 150000 1602 1f0001";
+    let expected = "110000010008 1200018081 110001010008 1200018180 14000000 130001020001 150000 160203 1f0001";
     assert_eq!(both::listing(&sheet(P1)), sheet(expected));
     assert_eq!(both::check(&sheet(P1)).returned, 0);
     let p1 = sheet(P1);
@@ -72,15 +72,15 @@ fn p1() {
     }
     runs(P1, 0, [1, 0, 3], &[2, 0, 1], &[0, 0, 0]);
     assert_eq!(both::judge(&p1, 1).fields(), [0, 0, 0]);
-    assert_eq!(both::compare(&p1, 2).fields(), [2, 0, 0]);
+    assert_eq!(both::compare(&p1, 2).fields(), [2, 3, 0]);
 }
 
 #[test]
 fn p2_to_p5() {
-    compares(SYMBOLS, "00 00", 1);
-    compares(SYMBOLS, "01 00", 2);
-    compares(SYMBOLS, "020001 01", 2);
-    compares(SYMBOLS, "020001 020100", 0);
+    compares(SYMBOLS, "00 00", 1, 0);
+    compares(SYMBOLS, "01 00", 2, 2);
+    compares(SYMBOLS, "020001 01", 2, 1);
+    compares(SYMBOLS, "020001 020100", 0, 3);
 }
 
 #[test]
@@ -133,7 +133,7 @@ fn p11() {
 #[test]
 fn p12() {
     // c, b, a, product, plus.
-    compares("01050000000202", "0402030100 0302040100", 2);
+    compares("01050000000202", "0402030100 0302040100", 2, 2);
 }
 
 #[test]
@@ -173,7 +173,21 @@ fn doubling() {
 /// L3: f(b, a) against f(a, g(a)), f above g. The left term exceeds g(a), its second argument does not.
 #[test]
 fn the_whole_left_term_after_k() {
-    compares("010400000102", "030100 03000200", 2);
+    compares("010400000102", "030100 03000200", 2, 3);
+}
+
+/// The first clause that applies, with each verdict: a, b, product and sum, in ascending order.
+#[test]
+fn the_clause_that_decided() {
+    let symbols = "010400000202";
+    let greater = [("020001", "01", 1), ("030001", "020100", 2), ("020100", "020001", 3)];
+    // L1 is named though L2, then L3, applies too: (ab)+b against ab, and (ab)b against ab.
+    let by_argument = [("0302000101", "020001", 1), ("0202000101", "020001", 1)];
+    for (s, t, clause) in greater.into_iter().chain(by_argument) {
+        compares(symbols, &format!("{s} {t}"), 2, clause);
+        compares(symbols, &format!("{t} {s}"), 0, clause);
+        compares(symbols, &format!("{s} {s}"), 1, 0);
+    }
 }
 
 /// f(x, y) > f(y, g(y)), g above f. In the line x > y, x = g(y) the binding makes the first element g(y) > y, which goes.

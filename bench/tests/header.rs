@@ -33,7 +33,7 @@ const CONSTANTS: [(&str, &str, usize); 20] = [
 ];
 
 /// The functions that take a number apart, with the bit where each field starts and the count of its bits.
-const FIELDS: [(&str, u32, u32); 12] = [
+const FIELDS: [(&str, u32, u32); 13] = [
     ("neblinaro_refusal_of", 0, 8),
     ("neblinaro_refused_line", 8, 16),
     ("neblinaro_solved_lines", 8, 16),
@@ -46,6 +46,7 @@ const FIELDS: [(&str, u32, u32); 12] = [
     ("neblinaro_run_ending", 24, 16),
     ("neblinaro_run_term_bytes", 40, 16),
     ("neblinaro_compared_verdict", 8, 16),
+    ("neblinaro_compared_clause", 24, 16),
 ];
 
 fn read(path: &str) -> String {
@@ -149,9 +150,11 @@ fn refusals() {
     for ((name, number), header) in library.into_iter().zip(header) {
         assert_eq!(header, number, "{name}");
     }
-    // Verdicts and endings as document 01 numbers them, and no refusal.
-    let named = ["SERVED", "SMALLER", "EQUAL", "GREATER", "NO_STEP", "STEP_LIMIT", "NODE_LIMIT"];
-    assert_eq!(printed("answers", &named.map(|name| format!("NEBLINARO_{name}"))), [0, 0, 1, 2, 0, 1, 2]);
+    // Verdicts and endings as document 01 numbers them, clauses as W8 of document 02 does, and no refusal.
+    let named =
+        ["SERVED", "SMALLER", "EQUAL", "GREATER", "NO_CLAUSE", "L1", "L2", "L3", "NO_STEP", "STEP_LIMIT", "NODE_LIMIT"];
+    let names = named.map(|name| format!("NEBLINARO_{name}"));
+    assert_eq!(printed("answers", &names), [0, 0, 1, 2, 0, 1, 2, 3, 0, 1, 2]);
 }
 
 #[test]

@@ -137,7 +137,7 @@ fn try_run(
     Ok(success([run.steps(), run.ending as usize, run.term().len()]))
 }
 
-/// Compares the two terms of a comparison. Gives 0 smaller, 1 equal, 2 greater.
+/// Compares the two terms of a comparison. Gives 0 smaller, 1 equal, 2 greater, and the clause, 1 to 3, or 0 for equal.
 pub fn compare(sheet: &[u8], task: u64, scratch: &mut [u8]) -> u64 {
     code(try_compare(sheet, task, scratch))
 }
@@ -150,9 +150,10 @@ fn try_compare(sheet: &[u8], task: u64, scratch: &mut [u8]) -> Result<u64, Refus
     let Some(Task::Comparison { left, right }) = find_task(&sheet, task) else {
         return Err(ABSENT);
     };
-    let order = ground::compare_terms(sheet.bytes(left), sheet.bytes(right), &sheet.arities, scratch);
+    let decision = ground::decide_terms(sheet.bytes(left), sheet.bytes(right), &sheet.arities, scratch);
     scratch[..SCRATCH_BYTES].fill(0);
-    Ok(success([(order as i8 + 1) as usize, 0, 0]))
+    let [verdict, clause] = decision.numbers();
+    Ok(success([verdict as usize, clause as usize, 0]))
 }
 
 /// An equation of the sheet and a direction of it, where these numbers name some.

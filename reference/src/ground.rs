@@ -5,6 +5,34 @@ use crate::nodes::{self, Equation, Node};
 use crate::walk::Line;
 use std::cmp::Ordering;
 
+/// A clause by which one term exceeds another.
+#[derive(Clone, Copy, Debug, PartialEq, Eq)]
+pub enum Clause {
+    L1 = 1,
+    L2 = 2,
+    L3 = 3,
+}
+
+/// What comes of a comparison: the verdict and, unless the terms are equal, the first clause by which the greater one
+/// exceeds the other.
+#[derive(Clone, Copy, Debug, PartialEq, Eq)]
+pub enum Decision {
+    Smaller(Clause),
+    Equal,
+    Greater(Clause),
+}
+
+impl Decision {
+    /// The verdict, 0 smaller, 1 equal, 2 greater, and the clause, 0 for equal.
+    pub fn numbers(self) -> [u8; 2] {
+        match self {
+            Decision::Smaller(clause) => [0, clause as u8],
+            Decision::Equal => [1, 0],
+            Decision::Greater(clause) => [2, clause as u8],
+        }
+    }
+}
+
 /// First position of the ground terms; the positions below it belong to an equation.
 pub const FIRST_GROUND: u8 = EQUATION_NODES as u8;
 
@@ -58,6 +86,16 @@ impl<'a> Ground<'a> {
         self.bytes[..terms.len()].copy_from_slice(terms);
         nodes::index(terms, arities, &mut self.nodes, FIRST_GROUND as usize);
         self.ready = [false; 256];
+    }
+
+    /// Sets two ground terms, together at most 160 nodes, and gives their positions.
+    fn set_pair(&mut self, left: &[u8], right: &[u8], arities: &[u8; SYMBOLS]) -> (u8, u8) {
+        let mut terms = [0; TASK_NODES];
+        let length = left.len() + right.len();
+        terms[..left.len()].copy_from_slice(left);
+        terms[left.len()..length].copy_from_slice(right);
+        self.set_terms(&terms[..length], arities);
+        (FIRST_GROUND, FIRST_GROUND + left.len() as u8)
     }
 
     /// Sets the equation and the positions of the values of its variables.
@@ -203,15 +241,51 @@ impl<'a> Ground<'a> {
         }
         Ordering::Equal
     }
+
+    /// How two positions without variables are ordered, and by which clause.
+    fn decision(&mut self, left: u8, right: u8) -> Decision {
+        match self.order(left, right) {
+            Ordering::Less => Decision::Smaller(self.clause(right, left)),
+            Ordering::Equal => Decision::Equal,
+            Ordering::Greater => Decision::Greater(self.clause(left, right)),
+        }
+    }
+
+    /// The first clause by which the term at one position exceeds that at another; that it does so is known.
+    ///
+    /// L1 applies unless the smaller term exceeds every argument of the greater one, and is asked about even where
+    /// another clause gave the verdict. Where it does not apply, the symbols tell which one does.
+    fn clause(&mut self, greater: u8, smaller: u8) -> Clause {
+        let (greater_node, smaller_node) = (self.node(greater), self.node(smaller));
+        let (mut argument, mut count) = (greater + 1, greater_node.arity);
+        let other = match greater_node.byte.cmp(&smaller_node.byte) {
+            Ordering::Less => return Clause::L1,
+            Ordering::Equal => {
+                // The arguments before the first that differ are the smaller term's own, so it exceeds them.
+                let mut own = smaller + 1;
+                while self.order(argument, own) == Ordering::Equal {
+                    argument = self.node(argument).next;
+                    own = self.node(own).next;
+                    count -= 1;
+                }
+                Clause::L3
+            }
+            Ordering::Greater => Clause::L2,
+        };
+        if self.exceeds_arguments(smaller, argument, count) { other } else { Clause::L1 }
+    }
 }
 
-/// Compares two ground terms in prefix form, together at most 160 nodes.
+/// Compares two ground terms in prefix form, together at most 160 nodes: the verdict alone.
 pub fn compare_terms(left: &[u8], right: &[u8], arities: &[u8; SYMBOLS], scratch: &mut [u8]) -> Ordering {
-    let mut terms = [0; TASK_NODES];
-    let length = left.len() + right.len();
-    terms[..left.len()].copy_from_slice(left);
-    terms[left.len()..length].copy_from_slice(right);
     let mut ground = Ground::new(scratch);
-    ground.set_terms(&terms[..length], arities);
-    ground.order(FIRST_GROUND, FIRST_GROUND + left.len() as u8)
+    let (left, right) = ground.set_pair(left, right, arities);
+    ground.order(left, right)
+}
+
+/// The same with the clause.
+pub fn decide_terms(left: &[u8], right: &[u8], arities: &[u8; SYMBOLS], scratch: &mut [u8]) -> Decision {
+    let mut ground = Ground::new(scratch);
+    let (left, right) = ground.set_pair(left, right, arities);
+    ground.decision(left, right)
 }

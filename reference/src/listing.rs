@@ -73,8 +73,8 @@ impl Listing {
                 }
                 Task::Comparison { left, right } => {
                     let (left, right) = (sheet.bytes(left), sheet.bytes(right));
-                    let order = ground::compare_terms(left, right, &sheet.arities, &mut scratch);
-                    self.frame(&[&[0x16, (order as i8 + 1) as u8]]);
+                    let decision = ground::decide_terms(left, right, &sheet.arities, &mut scratch);
+                    self.frame(&[&[0x16], &decision.numbers()]);
                 }
             }
         }

@@ -1,11 +1,14 @@
-//! Named sheets at the limits: long walks, full tables and lines, empty lines, longest texts, hard comparisons, long
-//! runs.
+//! Named sheets at the limits: long walks, full tables and lines, empty lines, longest texts, hard comparisons,
+//! comparisons by each clause, long runs.
 
 use crate::generate::{LONG_LINES, Sides, long_line, text};
 use crate::limits::SHEET_BYTES;
 
 /// A named sheet.
 pub type Named = (&'static str, Vec<u8>);
+
+/// Two terms.
+type Pair = (Vec<u8>, Vec<u8>);
 
 /// The special sheets whose first equation makes a walk worth timing.
 pub const WALKS: [&str; 19] = [
@@ -35,6 +38,7 @@ pub fn special() -> Vec<Named> {
     let mut sheets = walks();
     sheets.extend(empty_lines());
     sheets.extend(comparisons());
+    sheets.extend(clauses());
     sheets.extend(runs());
     sheets.extend(texts());
     sheets
@@ -265,13 +269,16 @@ fn no_empty_line() -> Vec<Named> {
     ]
 }
 
-/// Pairs of terms of together at most 160 nodes.
+/// Pairs of terms of together at most 160 nodes: hard to decide, or hard to ask about L1 where L2 or L3 is easy.
+///
+/// They are no more than 16, so that one sheet can compare them all in both directions.
 pub fn hard_pairs() -> Vec<(&'static str, Vec<u8>, Vec<u8>)> {
-    let last_changed = |term: &[u8]| {
-        let mut term = term.to_vec();
-        *term.last_mut().unwrap() = B;
-        term
-    };
+    let mut pairs = hard_verdicts();
+    pairs.extend(hard_clauses());
+    pairs
+}
+
+fn hard_verdicts() -> Vec<(&'static str, Vec<u8>, Vec<u8>)> {
     let right_comb = [&[H], &right_comb(39)[..]].concat();
     let left_comb = [&[H], &left_comb(39)[..]].concat();
     let mut left_comb_changed_first = left_comb.clone();
@@ -291,6 +298,51 @@ pub fn hard_pairs() -> Vec<(&'static str, Vec<u8>, Vec<u8>)> {
         ("two full trees of 63, first leaf differs", tree, tree_changed_first),
         ("two full trees of 63, symbols alternate", full_tree(&[F, G], 6), full_tree(&[G, F], 6)),
         ("a full tree and a comb", full_tree(&[F], 6), right_comb),
+    ]
+}
+
+/// Pairs of a greater and a smaller term. The last three are finds of a search: there L1 takes ten to twenty times as
+/// many pairs of positions as the verdict alone.
+fn hard_clauses() -> Vec<(&'static str, Vec<u8>, Vec<u8>)> {
+    let comb = right_comb(38);
+    vec![
+        ("L3 behind equal arguments of 77", binary(F, &comb, &[B]), binary(F, &comb, &[A])),
+        ("L1 by an equal argument of 77, besides L2", binary(G, &[A], &comb), comb),
+        (
+            "L2, but L1 is long to refute",
+            digits(
+                "0404040001020404000102040400010304040101040400010404000000040400010104040000030204040101040401010404\
+                 00010000",
+            ),
+            digits(
+                "0203010400030104020203020203020203030303020102010303030002000201020203010002020002020303020203020202\
+                 0302010002030303030003020002020200020001030302010300000003000103020000030302020002010202020201020302\
+                 010402010101",
+            ),
+        ),
+        (
+            "L3, but L1 is long to refute",
+            digits(
+                "0404040304010004010004040100010002040304040001040304000004010104040100000404010100040404010100040404\
+                 01000101",
+            ),
+            digits(
+                "0404030303030302020203020200030003010200020202020201020303030301000301010203010200030300010201020203\
+                 0303030203020000030203010002010302020202030202030102000103010003020201020102020303000001030203000104\
+                 020000010100",
+            ),
+        ),
+        (
+            "L1 long to confirm, besides L2",
+            digits(
+                "0303030401020004020102010400030203020202030300020100030302040003020302010202030303000102030102020000\
+                 030301020202010203010200030102010302020303020300020003000203020002020002010204030101000000",
+            ),
+            digits(
+                "0203030304010102030303040101040101040101030401010304010200040101030401000402010201020303030401010401\
+                 010401000304010003040100040101",
+            ),
+        ),
     ]
 }
 
@@ -316,6 +368,13 @@ fn left_comb(height: usize) -> Vec<u8> {
     [vec![F; height], vec![A; height + 1]].concat()
 }
 
+/// The term with another constant for its last leaf.
+fn last_changed(term: &[u8]) -> Vec<u8> {
+    let mut term = term.to_vec();
+    *term.last_mut().unwrap() = B;
+    term
+}
+
 /// A full binary tree of so many levels; the symbols of the levels are taken in turn.
 fn full_tree(symbols: &[u8], levels: usize) -> Vec<u8> {
     fn append(symbols: &[u8], level: usize, levels: usize, term: &mut Vec<u8>) {
@@ -337,17 +396,162 @@ pub fn compared_arities() -> &'static [u8] {
     &COMPARED
 }
 
+/// Two terms compared in both directions.
+fn compared(left: &[u8], right: &[u8]) -> [Vec<u8>; 2] {
+    [[&[5], left, right].concat(), [&[5], right, left].concat()]
+}
+
 fn comparisons() -> Vec<Named> {
     let mut all = vec![symbols(&COMPARED), equation(&[F, X, Y], &[F, Y, X])];
     let mut sheets = Vec::new();
     for (name, left, right) in hard_pairs() {
-        let both = [[&[5], &left[..], &right].concat(), [&[5], &right[..], &left].concat()];
+        let both = compared(&left, &right);
         let frames = [&all[..2], &both].concat();
         all.extend(both);
         sheets.push((name, text(&frames)));
     }
     sheets.push(("all hard comparisons", text(&all)));
     sheets
+}
+
+/// Symbols of the comparisons by each clause: those of the other comparisons, and a quaternary one above them.
+const DECIDED: [u8; 6] = [0, 0, 1, 2, 2, 4];
+const P: u8 = 5;
+
+/// Comparisons in both directions, sorted by which clauses apply to the greater and the smaller term. Where L1 applies
+/// it is the one to be named.
+fn clauses() -> Vec<Named> {
+    let sheet = |name: &'static str, pairs: Vec<Pair>| {
+        let mut frames = vec![symbols(&DECIDED), equation(&[F, X, Y], &[F, Y, X])];
+        frames.extend(pairs.iter().flat_map(|(greater, smaller)| compared(greater, smaller)));
+        (name, text(&frames))
+    };
+    vec![
+        sheet("L1 alone", l1_alone()),
+        sheet("L2 alone", l2_alone()),
+        sheet("L3 alone", l3_alone()),
+        sheet("L1 besides L2", l1_besides_l2()),
+        sheet("L1 besides L3", l1_besides_l3()),
+        sheet("equal terms", equal_terms()),
+    ]
+}
+
+/// A quaternary term with a term for one argument and constants for the others.
+fn quaternary(index: usize, argument: &[u8]) -> Vec<u8> {
+    [&[P], &vec![A; index][..], argument, &vec![A; 3 - index]].concat()
+}
+
+/// Where the symbol of the greater term is below that of the other, or the same and L3 fails.
+fn l1_alone() -> Vec<Pair> {
+    let mut pairs = vec![
+        (vec![F, G, A, A, A], vec![G, A, A]),
+        (vec![F, A, G, A, A], vec![G, A, A]),
+        (vec![H, F, B, B], vec![F, B, A]),
+        (vec![H, G, A, A], vec![F, A, B]),
+        (vec![H, H, H, F, A, A], vec![F, A, A]),
+        (vec![F, H, G, B, A, A], vec![G, A, B]),
+        (vec![F, A, F, B, A], vec![F, B, A]),
+        (vec![F, A, F, B, B], vec![F, B, A]),
+        (vec![F, A, G, A, A], vec![F, B, B]),
+    ];
+    let target = quaternary(0, &[B]);
+    pairs.extend((1..4).map(|index| (quaternary(index, &target), target.clone())));
+    pairs.extend((1..4).map(|index| (quaternary(index, &quaternary(0, &[H, A])), target.clone())));
+    pairs
+}
+
+fn l2_alone() -> Vec<Pair> {
+    vec![
+        (vec![B], vec![A]),
+        (vec![H, A], vec![B]),
+        (vec![F, A, A], vec![H, B]),
+        (vec![F, H, A, A], vec![H, H, A]),
+        (vec![G, A, A], vec![F, B, B]),
+        (vec![G, A, B], vec![H, H, H, B]),
+        (vec![G, B, F, A, A], vec![F, B, G, A, A]),
+        (vec![G, F, A, B, F, B, A], vec![F, F, B, A, F, A, B]),
+        (vec![P, A, A, A, A], vec![G, F, B, B, H, B]),
+        (vec![P, B, B, B, B], vec![H, P, A, A, A, A]),
+        (binary(G, &right_comb(18), &right_comb(18)), binary(F, &right_comb(18), &right_comb(18))),
+        (binary(G, &left_comb(18), &left_comb(18)), binary(F, &left_comb(18), &left_comb(18))),
+    ]
+}
+
+fn l3_alone() -> Vec<Pair> {
+    vec![
+        (vec![H, B], vec![H, A]),
+        (vec![F, B, A], vec![F, A, B]),
+        (vec![F, A, B], vec![F, A, A]),
+        (vec![F, H, A, A], vec![F, A, H, A]),
+        (vec![F, B, A], vec![F, A, H, A]),
+        (vec![F, A, H, A], vec![F, A, B]),
+        (vec![F, F, B, A, A], vec![F, F, A, B, B]),
+        (vec![P, B, A, A, A], vec![P, A, B, B, B]),
+        (vec![P, A, B, A, A], vec![P, A, A, B, B]),
+        (vec![P, A, A, B, A], vec![P, A, A, A, B]),
+        (vec![P, A, A, A, B], vec![P, A, A, A, A]),
+        (binary(F, &left_comb(38), &[B]), binary(F, &left_comb(38), &[A])),
+        (binary(F, &full_tree(&[G], 6), &[B]), binary(F, &full_tree(&[G], 6), &[A])),
+    ]
+}
+
+/// By each argument, which is the smaller term or exceeds it.
+fn l1_besides_l2() -> Vec<Pair> {
+    let mut pairs = vec![
+        (vec![H, A], vec![A]),
+        (vec![H, B], vec![A]),
+        (vec![F, A, B], vec![B]),
+        (vec![F, B, A], vec![B]),
+        (vec![F, H, H, A, A], vec![H, A]),
+        (vec![G, F, A, B, A], vec![F, A, B]),
+        (vec![G, A, F, A, B], vec![F, A, B]),
+        (vec![G, F, B, B, A], vec![F, B, A]),
+        (vec![G, A, G, A, A], vec![F, A, B]),
+        (vec![G, A, H, F, A, B], vec![F, A, B]),
+    ];
+    let target = vec![G, A, B];
+    pairs.extend((0..4).map(|index| (quaternary(index, &target), target.clone())));
+    pairs.push((quaternary(3, &[G, B, B]), target));
+    let tree = full_tree(&[F, G], 5);
+    pairs.push((binary(G, &tree, &last_changed(&tree)), binary(F, &tree, &tree)));
+    pairs
+}
+
+/// The same, with the same symbol.
+fn l1_besides_l3() -> Vec<Pair> {
+    let mut pairs = vec![
+        (vec![H, H, A], vec![H, A]),
+        (vec![H, H, H, A], vec![H, A]),
+        (vec![H, F, A, A], vec![H, B]),
+        (vec![F, F, A, B, A], vec![F, A, B]),
+        (vec![F, A, F, A, B], vec![F, A, B]),
+        (vec![F, A, F, A, B], vec![F, A, A]),
+        (vec![F, B, G, A, A], vec![F, A, B]),
+        (vec![F, G, A, A, A], vec![F, B, B]),
+        (vec![F, A, H, F, A, B], vec![F, A, B]),
+    ];
+    let target = quaternary(3, &[B]);
+    pairs.extend((0..4).map(|index| (quaternary(index, &target), target.clone())));
+    let comb = right_comb(18);
+    pairs.push((binary(F, &comb, &binary(F, &comb, &[B])), binary(F, &comb, &[A])));
+    let comb = right_comb(37);
+    pairs.push((binary(F, &comb, &[G, A, A]), binary(F, &comb, &[A])));
+    pairs
+}
+
+fn equal_terms() -> Vec<Pair> {
+    let terms = [
+        vec![A],
+        vec![B],
+        vec![H, A],
+        vec![F, A, B],
+        vec![F, B, A],
+        vec![G, F, A, B, H, B],
+        vec![P, A, B, A, B],
+        left_comb(39),
+        right_comb(39),
+    ];
+    terms.into_iter().map(|term| (term.clone(), term)).collect()
 }
 
 /// Runs of many steps and runs at the limits of size.

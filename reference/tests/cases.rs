@@ -52,10 +52,10 @@ fn always_greater(symbols: &str, terms: &str, answer: u64) {
     assert_eq!(fields(Buffers::new().always(&sheet, 0, 0))[0], answer);
 }
 
-fn compares(symbols: &str, terms: &str, verdict: u64) {
+fn compares(symbols: &str, terms: &str, verdict: u64, clause: u64) {
     let sheet = sheet(&format!("{symbols} 028080 05{}", terms.replace(' ', "")));
     let mut buffers = Buffers::new();
-    assert_eq!(fields(buffers.compare(&sheet, 0)), [verdict, 0, 0]);
+    assert_eq!(fields(buffers.compare(&sheet, 0)), [verdict, clause, 0]);
     buffers.assert_scratch_cleared();
     buffers.scratch = Buffers::new().scratch;
     buffers.assert_untouched();
@@ -63,7 +63,7 @@ fn compares(symbols: &str, terms: &str, verdict: u64) {
 
 #[test]
 fn p1_listing() {
-    let expected = "110000010008 1200018081 110001010008 1200018180 14000000 130001020001 150000 1602 1f0001";
+    let expected = "110000010008 1200018081 110001010008 1200018180 14000000 130001020001 150000 160203 1f0001";
     assert_eq!(listing(&sheet(P1)), expected);
 }
 
@@ -91,7 +91,9 @@ fn p1_calls() {
     buffers.assert_table_void();
     buffers.assert_scratch_cleared();
 
-    assert_eq!(fields(Buffers::new().compare(&sheet, 2)), [2, 0, 0]);
+    // ba against ab: neither b nor a reaches ab; b > a, and ba > b since b = b. So it is L3.
+    assert_eq!(fields(Buffers::new().compare(&sheet, 2)), [2, 3, 0]);
+    assert_eq!(Buffers::new().compare(&sheet, 2), 0x0300_0200);
 
     for direction in 0..2 {
         let mut buffers = Buffers::new();
@@ -103,10 +105,13 @@ fn p1_calls() {
 
 #[test]
 fn p2_to_p5_comparisons() {
-    compares(SYMBOLS_OF_P1, "00 00", 1);
-    compares(SYMBOLS_OF_P1, "01 00", 2);
-    compares(SYMBOLS_OF_P1, "020001 01", 2);
-    compares(SYMBOLS_OF_P1, "020001 020100", 0);
+    compares(SYMBOLS_OF_P1, "00 00", 1, 0);
+    // No argument, but b above a: L2.
+    compares(SYMBOLS_OF_P1, "01 00", 2, 2);
+    // The second argument is b: L1, though the product is above b, which has no argument, and L2 applies too.
+    compares(SYMBOLS_OF_P1, "020001 01", 2, 1);
+    // ba > ab by L3, as in P1.
+    compares(SYMBOLS_OF_P1, "020001 020100", 0, 3);
 }
 
 #[test]
@@ -174,7 +179,10 @@ fn p11_example_2_of_002() {
 #[test]
 fn p12_example_of_002() {
     // c, b, a, product, plus.
-    compares("01050000000202", "0402030100 0302040100", 2);
+    // a does not reach a(b+c), nor does bc, whose b is below a: not L1. The sum is above the product, a+(bc) > a since
+    // a = a, and a+(bc) > b+c since a > b and a+(bc) > c: L2.
+    compares("01050000000202", "0402030100 0302040100", 2, 2);
+    compares("01050000000202", "0302040100 0402030100", 0, 2);
     always_greater("01050000000202", "0402030100 0302040100", 1);
     always_greater("01050000000202", "0302040100 0402030100", 0);
 }
@@ -221,7 +229,7 @@ fn doubling() {
 #[test]
 fn l3_compares_the_whole_left_term_after_k() {
     // f(b, a) against f(a, g(a)), f above g: the left term exceeds g(a), its second argument does not.
-    compares("010400000102", "030100 03000200", 2);
+    compares("010400000102", "030100 03000200", 2, 3);
 }
 
 #[test]

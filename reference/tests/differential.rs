@@ -41,11 +41,11 @@ fn examine(text: &[u8], name: &str) {
         let number = number as u64;
         match task {
             Task::Comparison(left, right) => {
-                let verdict = Order::default().verdict(&sheet.arities, left, right);
+                let [verdict, clause] = Order::default().decision(&sheet.arities, left, right);
                 let mut buffers = Buffers::new();
-                assert_eq!(fields(buffers.compare(text, number)), [verdict, 0, 0], "{name}");
+                assert_eq!(fields(buffers.compare(text, number)), [verdict, clause, 0], "{name}");
                 buffers.assert_scratch_cleared();
-                frames.push(format!("16{verdict:02x}"));
+                frames.push(format!("16{verdict:02x}{clause:02x}"));
             }
             _ if refused.is_some() => check_refused_task(text, number, task, refused.unwrap(), name),
             Task::Judgement(equation, direction, values) => {
@@ -299,6 +299,63 @@ fn every_answer_of_always_occurs() {
     }
     println!("special sheets: {special:?}");
     assert!(special.yes >= 10 && special.no >= 10 && special.refused >= 10 && special.yes_before_refusal >= 5);
+}
+
+/// How often which clauses apply to the smaller and the greater term of a comparison, the left term being the smaller
+/// or the greater one, and how often the terms are equal.
+#[derive(Debug, Default)]
+struct Clauses {
+    l1_alone: [usize; 2],
+    l2_alone: [usize; 2],
+    l3_alone: [usize; 2],
+    l1_besides_l2: [usize; 2],
+    l1_besides_l3: [usize; 2],
+    equal: usize,
+}
+
+impl Clauses {
+    fn count(&mut self, text: &[u8]) {
+        let Ok(sheet) = naive::read(text) else { return };
+        for task in &sheet.tasks {
+            let Task::Comparison(left, right) = task else { continue };
+            let mut order = Order::default();
+            // First by which clauses the left term is smaller, then by which it is greater.
+            for (index, (s, t)) in [(right, left), (left, right)].into_iter().enumerate() {
+                match order.clauses(&sheet.arities, s, t) {
+                    [true, false, false] => self.l1_alone[index] += 1,
+                    [false, true, false] => self.l2_alone[index] += 1,
+                    [false, false, true] => self.l3_alone[index] += 1,
+                    [true, true, false] => self.l1_besides_l2[index] += 1,
+                    [true, false, true] => self.l1_besides_l3[index] += 1,
+                    [false, false, false] => {}
+                    [_, true, true] => panic!("L2 and L3 speak of different symbols"),
+                }
+            }
+            self.equal += (left == right) as usize;
+        }
+    }
+
+    fn least(&self) -> usize {
+        let counts = [self.l1_alone, self.l2_alone, self.l3_alone, self.l1_besides_l2, self.l1_besides_l3];
+        counts.into_iter().flatten().chain([self.equal]).min().unwrap()
+    }
+}
+
+/// The other tests would say little about the clause if one were missing among their sheets, or L1 besides another one.
+#[test]
+fn every_clause_occurs() {
+    let mut generated = Clauses::default();
+    for seed in 0..500 {
+        generated.count(&reference::generate::sheet(seed));
+    }
+    println!("generated sheets: {generated:?}");
+    assert!(generated.least() >= 10);
+    let mut special = Clauses::default();
+    for (_, sheet) in reference::special::special() {
+        special.count(&sheet);
+    }
+    println!("special sheets: {special:?}");
+    assert!(special.least() >= 10);
 }
 
 /// Takes some minutes.

@@ -2,38 +2,9 @@
 
 mod common;
 
-use common::naive::{self, Order};
+use common::naive::{self, Order, ground_terms};
 use common::{Buffers, bytes, fields, sheet};
 use reference::random::Random;
-
-/// Ground terms of at most `size` nodes over the symbols.
-fn ground_terms(arities: &[u8], size: usize) -> Vec<Vec<u8>> {
-    let mut by_size: Vec<Vec<Vec<u8>>> = vec![vec![]];
-    for nodes in 1..=size {
-        let mut terms = vec![];
-        for (symbol, &arity) in arities.iter().enumerate() {
-            for arguments in sequences(&by_size, arity as usize, nodes - 1) {
-                terms.push([&[symbol as u8], &arguments[..]].concat());
-            }
-        }
-        by_size.push(terms);
-    }
-    by_size.concat()
-}
-
-/// All sequences of `count` terms with `nodes` nodes together.
-fn sequences(by_size: &[Vec<Vec<u8>>], count: usize, nodes: usize) -> Vec<Vec<u8>> {
-    if count == 0 {
-        return if nodes == 0 { vec![vec![]] } else { vec![] };
-    }
-    let mut all = vec![];
-    for first in 1..=nodes.min(by_size.len() - 1) {
-        for rest in sequences(by_size, count - 1, nodes - first) {
-            all.extend(by_size[first].iter().map(|term| [&term[..], &rest].concat()));
-        }
-    }
-    all
-}
 
 /// What the printed solution says of values: `gt` is the ordering.
 type Solution = fn(gt: &mut dyn FnMut(&[u8], &[u8]) -> bool, values: &[Vec<u8>]) -> bool;
@@ -138,14 +109,14 @@ fn example_5() {
 
 #[test]
 fn ground_examples() {
-    // b, a, product: ab > ba.
+    // b, a, product: ab > ba, by L3.
     let first = sheet("0103000002 028080 05020100020001 05020001020100");
-    assert_eq!(fields(Buffers::new().compare(&first, 0))[0], 2);
-    assert_eq!(fields(Buffers::new().compare(&first, 1))[0], 0);
-    // c, b, a, product, plus: a(b + c) against a + bc.
+    assert_eq!(fields(Buffers::new().compare(&first, 0)), [2, 3, 0]);
+    assert_eq!(fields(Buffers::new().compare(&first, 1)), [0, 3, 0]);
+    // c, b, a, product, plus: a(b + c) against a + bc, which is greater by L2.
     let second = sheet("01050000000202 028080 0503020401000402030100 0504020301000302040100");
-    assert_eq!(fields(Buffers::new().compare(&second, 0))[0], 0);
-    assert_eq!(fields(Buffers::new().compare(&second, 1))[0], 2);
+    assert_eq!(fields(Buffers::new().compare(&second, 0)), [0, 2, 0]);
+    assert_eq!(fields(Buffers::new().compare(&second, 1)), [2, 2, 0]);
 }
 
 #[test]

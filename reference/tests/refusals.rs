@@ -231,7 +231,7 @@ fn a_refused_walk_voids_table_and_scratch() {
     assert_eq!(buffers.always(&text, 2, 0), 12);
     assert_eq!(buffers.always(&text, 1, 2), 12);
     buffers.assert_untouched();
-    assert_eq!(buffers.compare(&text, 1), 2 << 8);
+    assert_eq!(buffers.compare(&text, 1), 2 << 8 | 1 << 24);
     assert_eq!(listing(&text), "ff080003");
 }
 

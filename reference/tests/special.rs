@@ -2,8 +2,9 @@
 
 mod common;
 
+use common::naive::{self, Order, Task};
 use common::{Buffers, fields, listing};
-use reference::special::special;
+use reference::special::{compared_arities, hard_pairs, special};
 
 fn special_sheet(name: &str) -> Vec<u8> {
     special().into_iter().find(|(other, _)| *other == name).unwrap_or_else(|| panic!("no sheet {name}")).1
@@ -174,6 +175,78 @@ fn no_without_an_empty_line() {
     let everywhere = special_sheet("true everywhere without an empty line");
     assert_eq!(fields(Buffers::new().judge(&everywhere, 0)), [1, 2, 0]);
     assert_eq!(fields(Buffers::new().judge(&everywhere, 1)), [1, 1, 0]);
+}
+
+/// Verdict and clause of a comparison.
+fn compared(sheet: &[u8], task: usize) -> [u64; 2] {
+    let [verdict, clause, _] = fields(Buffers::new().compare(sheet, task as u64));
+    [verdict, clause]
+}
+
+#[test]
+fn clauses_of_hard_pairs() {
+    let expected = [
+        ("two towers of 80", [1, 0]),
+        ("two towers of 1 and 159", [0, 1]),
+        ("two towers of 79 and 81", [0, 1]),
+        // h(s) > h(t) by s > h(t), the symbol of s being above h.
+        ("two right combs of 80, last leaf differs", [0, 1]),
+        ("two left combs of 80, last leaf differs", [0, 1]),
+        ("two left combs of 80, first leaf differs", [0, 1]),
+        ("two equal full trees of 63", [1, 0]),
+        ("two full trees of 63, last leaf differs", [0, 3]),
+        ("two full trees of 63, first leaf differs", [0, 3]),
+        ("two full trees of 63, symbols alternate", [0, 2]),
+        ("a full tree and a comb", [2, 1]),
+        ("L3 behind equal arguments of 77", [2, 3]),
+        ("L1 by an equal argument of 77, besides L2", [2, 1]),
+        ("L2, but L1 is long to refute", [2, 2]),
+        ("L3, but L1 is long to refute", [2, 3]),
+        ("L1 long to confirm, besides L2", [2, 1]),
+    ];
+    assert_eq!(hard_pairs().len(), expected.len());
+    let all = special_sheet("all hard comparisons");
+    for (index, (name, left, right)) in hard_pairs().into_iter().enumerate() {
+        let (expected_name, [verdict, clause]) = expected[index];
+        assert_eq!(name, expected_name);
+        assert!(left.len() + right.len() <= 160);
+        assert_eq!(Order::default().decision(compared_arities(), &left, &right), [verdict, clause], "{name}");
+        for (sheet, task) in [(&special_sheet(name), 0), (&all, 2 * index)] {
+            assert_eq!(compared(sheet, task), [verdict, clause], "{name}");
+            assert_eq!(compared(sheet, task + 1), [2 - verdict, clause], "{name}");
+        }
+    }
+}
+
+/// Each pair of a sheet is compared in both directions, the greater term first.
+#[test]
+fn clauses_that_apply() {
+    let none = [false, false, false];
+    let applying = [
+        ("L1 alone", [true, false, false], 1),
+        ("L2 alone", [false, true, false], 2),
+        ("L3 alone", [false, false, true], 3),
+        ("L1 besides L2", [true, true, false], 1),
+        ("L1 besides L3", [true, false, true], 1),
+        ("equal terms", none, 0),
+    ];
+    for (name, clauses, named) in applying {
+        let text = special_sheet(name);
+        let sheet = naive::read(&text).unwrap();
+        for (index, task) in sheet.tasks.iter().enumerate() {
+            let Task::Comparison(left, right) = task else { panic!("{name} has another task") };
+            let (greater, smaller) = if index % 2 == 0 { (left, right) } else { (right, left) };
+            let mut order = Order::default();
+            assert_eq!(order.clauses(&sheet.arities, greater, smaller), clauses, "{name}, task {index}");
+            assert_eq!(order.clauses(&sheet.arities, smaller, greater), none, "{name}, task {index}");
+            let verdict = match index % 2 {
+                _ if named == 0 => 1,
+                0 => 2,
+                _ => 0,
+            };
+            assert_eq!(compared(&text, index), [verdict, named], "{name}, task {index}");
+        }
+    }
 }
 
 #[test]

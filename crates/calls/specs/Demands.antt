@@ -1,4 +1,4 @@
--- Demands 2 and 3 over what the calls give, and W6 and W10 of document 02, each a proposition beside its words. Theory proves them: Verdicts,
+-- Demands 2 and 3 over what the calls give, and W6, W8 and W10 of document 02, each a proposition beside its words. Theory proves them: Verdicts,
 -- Tables, Runs, Always, Termination. The contracts of the six calls (src/) equate what the code gives with these outcomes, so that the demands speak of the code.
 use Prim.Native.Nat.{ℕ, suc, _≤_, _<_}
 use mathlib.Core.Path.{_≡_}
@@ -17,6 +17,8 @@ use Rattle.terms.specs.Term.{Term, Ground, Values, inst}
 use Rattle.terms.specs.Equation.{Equation, Direction, direction-of, source, target, source-position, target-position, view, value}
 use Rattle.ordering.specs.Order.{_≻_}
 use Rattle.ordering.specs.Below.{Below}
+use Rattle.ordering.specs.declared.decision.Clause.the-variants.{L1 as by-L1, L2 as by-L2, L3 as by-L3}
+use Rattle.ordering.specs.Clause.{Applies}
 use Rattle.sheet.specs.Sheet.{Sheet, run, comparison}
 use Rattle.sheet.specs.Reading.{accepted, read}
 use Rattle.solving.specs.Line.{Bindings, Element, equal, greater, Line, line, records}
@@ -29,7 +31,7 @@ use Rattle.reducing.specs.Test.{line-run, reference-run, EverySolves}
 use Rattle.reducing.specs.Reduction.{Reduces}
 use Rattle.termination.specs.Walk.{slots, enough-for, no-limit, walk-allowed, WalkEnds}
 use Rattle.termination.specs.Run.{RunEnds}
-use Rattle.outcomes.specs.Buffer.{fields, refusal-byte, blanked, cleared}
+use Rattle.outcomes.specs.Buffer.{fields, first-field, refusal-byte, blanked, cleared}
 use Rattle.outcomes.specs.Outcome.{compare-call, table-fits, solve-call, answer-number, always-call, run-fits, run-done, run-call}
 
 -- The number that a call returns names no refusal.
@@ -48,13 +50,13 @@ pub record ComparisonTask (sheet : List ℕ) (task : ℕ) : Type 0 where
   pub first-ground : Ground (content .arities) first
   pub second-ground : Ground (content .arities) second
 
--- "0 smaller, 1 equal, 2 greater": 2 exactly if the first term exceeds the second by L1 to L3, 1 exactly if they are identical, 0 exactly if the second
--- exceeds the first.
+-- "0 smaller, 1 equal, 2 greater", in the first field: 2 exactly if the first term exceeds the second by L1 to L3, 1 exactly if they are identical, 0 exactly if
+-- the second exceeds the first. `ClauseDemand` (W8) below has the whole number.
 pub record VerdictDemand (sheet : List ℕ) (task : ℕ) (scratch : List ℕ) : Type 0 where
   pub named : ComparisonTask sheet task
-  pub greater-told : (compare-call sheet task scratch .returned ≡ fields 2 0 0) ↔ (named .first ≻ named .second)
-  pub equal-told : (compare-call sheet task scratch .returned ≡ fields 1 0 0) ↔ (named .first ≡ named .second)
-  pub smaller-told : (compare-call sheet task scratch .returned ≡ fields 0 0 0) ↔ (named .second ≻ named .first)
+  pub greater-told : (first-field (compare-call sheet task scratch .returned) ≡ 2) ↔ (named .first ≻ named .second)
+  pub equal-told : (first-field (compare-call sheet task scratch .returned) ≡ 1) ↔ (named .first ≡ named .second)
+  pub smaller-told : (first-field (compare-call sheet task scratch .returned) ≡ 0) ↔ (named .second ≻ named .first)
 
 abbrev pub VerdictsDemanded : Type 0
 VerdictsDemanded = (sheet : List ℕ) (task : ℕ) (scratch : List ℕ) → Served (compare-call sheet task scratch .returned) → VerdictDemand sheet task scratch
@@ -228,6 +230,25 @@ abbrev pub AlwaysServes : Type 0
 AlwaysServes =
     (sheet : List ℕ) (s : Sheet) (e d : ℕ) (q : Equation) (o : Direction) (answer : Bool) (turns : ℕ) (table scratch : List ℕ) → read sheet ≡ accepted s → entry (s .equations) e ≡ some q
     → direction-of d ≡ some o → always q o ≡ answered answer turns → table-fits table scratch ≡ true → Served (always-call sheet e d table scratch .returned)
+
+-- Document 02, W8: "Comparison of ground terms now yields with 'greater' the first of L1, L2, L3 that applies, and with 'smaller' the first that applies the other
+-- way round. ... the compare call a second field: 01, 02, 03, or 00 for equal."
+pub record ClauseDemand (sheet : List ℕ) (task : ℕ) (scratch : List ℕ) : Type 0 where
+  pub named : ComparisonTask sheet task
+  -- Greater: a clause applies to the first term and the second, and none before it does.
+  pub greater-by-L1 : (compare-call sheet task scratch .returned ≡ fields 2 1 0) ↔ Applies by-L1 (named .first) (named .second)
+  pub greater-by-L2 : (compare-call sheet task scratch .returned ≡ fields 2 2 0) ↔ ((¬ Applies by-L1 (named .first) (named .second)) × Applies by-L2 (named .first) (named .second))
+  pub greater-by-L3 : (compare-call sheet task scratch .returned ≡ fields 2 3 0)
+      ↔ ((¬ Applies by-L1 (named .first) (named .second)) × (¬ Applies by-L2 (named .first) (named .second)) × Applies by-L3 (named .first) (named .second))
+  pub equal-told : (compare-call sheet task scratch .returned ≡ fields 1 0 0) ↔ (named .first ≡ named .second)
+  -- Smaller: the same the other way round.
+  pub smaller-by-L1 : (compare-call sheet task scratch .returned ≡ fields 0 1 0) ↔ Applies by-L1 (named .second) (named .first)
+  pub smaller-by-L2 : (compare-call sheet task scratch .returned ≡ fields 0 2 0) ↔ ((¬ Applies by-L1 (named .second) (named .first)) × Applies by-L2 (named .second) (named .first))
+  pub smaller-by-L3 : (compare-call sheet task scratch .returned ≡ fields 0 3 0)
+      ↔ ((¬ Applies by-L1 (named .second) (named .first)) × (¬ Applies by-L2 (named .second) (named .first)) × Applies by-L3 (named .second) (named .first))
+
+abbrev pub ClausesDemanded : Type 0
+ClausesDemanded = (sheet : List ℕ) (task : ℕ) (scratch : List ℕ) → Served (compare-call sheet task scratch .returned) → ClauseDemand sheet task scratch
 
 -- Document 02, W10: "The syllabus states that ground reduction cannot go on forever, and we want it as a fact about our definitions."
 

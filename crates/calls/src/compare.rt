@@ -1,4 +1,4 @@
-// Compare: the verdict of a task of two ground terms.
+// Compare: the verdict of a task of two ground terms, with the clause that decided it.
 use answers::number::refusal_number;
 use comparisons::compare::compare_task;
 use format::limits::Limits;
@@ -8,7 +8,7 @@ use reading::read::read_sheet;
 ghost use mathlib.Core.Path.{_≡_};
 ghost use Rattle.outcomes.specs.Outcome.{compare-call};
 
-// 0 smaller, 1 equal, 2 greater, above the refusal's byte; scratch's first bytes are left 00, and as they were where the call is refused.
+// 0 smaller, 1 equal, 2 greater, above the refusal's byte, and above that the clause, 1 to 3, or 0 for equal; scratch's first bytes are left 00, and as they were where the call is refused.
 #[no_mangle]
 pub extern "C" fn neblinaro_compare(sheet: &[u8], task: u64, scratch: &mut [u8]) -> u64
     ensures { λ r. ⌜ compare-call (now (sheet .entry)) task (now (scratch .entry)) ≡ record { returned = r; scratch = now (scratch .exit) } ⌝ }

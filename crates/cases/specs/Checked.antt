@@ -8,11 +8,11 @@ use mathlib.Core.List.{List, [], _∷_, _++_, map}
 use Rattle.terms.specs.Term.{Term}
 use Rattle.terms.specs.Equation.{Equation, left-right}
 use Rattle.terms.specs.Prefix.{terms-of}
-use Rattle.ordering.specs.Verdict.{verdict, verdict-number}
+use Rattle.ordering.specs.Decision.{decision}
 use Rattle.solving.specs.Walk.{solve}
 use Rattle.sheet.specs.Text.{LF, bytes-of}
 use Rattle.sheet.specs.Frame.{first-term}
-use Rattle.listing.specs.Listing.{printed, table-frames, listing}
+use Rattle.listing.specs.Listing.{printed, table-frames, comparison-frame, listing}
 use Rattle.cases.specs.Cases.{Case, lists, compares, solves, cases}
 
 -- The bytes of a text, and of lines of it.
@@ -34,11 +34,11 @@ unfoldable pub term : (arities s : String) → Term
 unfolding hex first-term terms-of
 term arities s = first-term (terms-of (hex arities) (hex s))
 
--- What the definitions print for a case, and what document 01 does.
+-- What the definitions print for a case, and what is stated.
 unfoldable pub computed : Case → List ℕ
-unfolding lines listing printed term verdict verdict-number table-frames solve
+unfolding lines listing printed comparison-frame term decision table-frames solve
 computed (lists sheet out) = listing (lines sheet)
-computed (compares arities s t v) = printed ((0x16 ∷ verdict-number (verdict (term arities s) (term arities t)) ∷ []) ∷ [])
+computed (compares arities s t v) = printed (comparison-frame (decision (term arities s) (term arities t)) ∷ [])
 computed (solves arities l r table) = let e : Equation = record { left = term arities l; right = term arities r } in printed (table-frames 0 e left-right (solve e left-right))
 
 unfoldable pub stated : Case → List ℕ

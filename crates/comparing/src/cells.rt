@@ -1,4 +1,5 @@
-// The cells of a comparison, one for each pair of nodes: 0, or one more than the number of a verdict that is settled.
+// The cells of a comparison, one for each pair of nodes: 0, or one more than the number of a verdict that is settled, and the number of the clause that decided, where that was
+// asked for, times 4.
 // A row has the cells of the pairs with one first node. Its cells are read only where `ready` has a byte other than 0 at that node.
 use format::limits::Limits;
 use ordering::verdict::Verdict;
@@ -35,11 +36,15 @@ pub fn make_ready(ready: &mut [u8], cells: &mut [u8], s: usize)
     ready[s] = 1;
 }
 
+// What the number of a clause is multiplied by in a cell.
+pub const CLAUSE_UNIT: u8 = 4;
+
 // The verdict that a settled cell holds.
 pub fn held(cell: u8) -> Verdict
     ensures { λ r. ⌜ CellHolds cell r ⌝ }
 {
-    match cell {
+    let verdict = cell % CLAUSE_UNIT;
+    match verdict {
         1 => Verdict::Smaller,
         2 => Verdict::Equal,
         _ => Verdict::Greater,

@@ -100,7 +100,7 @@ fn behind_smaller(nodes: &[u8], row: Arguments, symbol: u8) -> Arguments
 }
 
 // L1: whether one of the terms in the row equals or exceeds the term at j. A term whose symbol is smaller than that at j does so if one of its arguments does.
-fn argument_reaches(
+pub fn argument_reaches(
     nodes: &[u8],
     sizes: &[u8],
     values: &[u8],
@@ -129,7 +129,7 @@ fn argument_reaches(
 }
 
 // Whether the term at i exceeds every term in the row. It exceeds a term whose symbol is smaller than its own if it exceeds every argument of that one.
-fn exceeds_arguments(
+pub fn exceeds_arguments(
     nodes: &[u8],
     sizes: &[u8],
     values: &[u8],

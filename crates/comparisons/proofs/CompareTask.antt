@@ -11,8 +11,8 @@ use Rattle.format.specs.Lists.{entry}
 use Rattle.format.specs.Theory.Lists.{entry-none, every-entry}
 use Rattle.terms.specs.Term.{Term, size, Ground}
 use Rattle.terms.specs.Prefix.{prefix}
-use Rattle.ordering.specs.declared.verdict.Verdict.{Verdict}
-use Rattle.ordering.specs.Verdict.{verdict, verdict-number}
+use Rattle.ordering.specs.declared.decision.Decision.{Decision}
+use Rattle.ordering.specs.Decision.{decision}
 use Rattle.scanning.specs.declared.known.Known.{Known}
 use Rattle.reading.specs.declared.seek.TaskFound.{TaskFound}
 use Rattle.reading.specs.declared.seek.TaskHead.the-variants.{Run, Judgement, Comparison}
@@ -24,9 +24,9 @@ use Rattle.reading.specs.Contracts.Seek.{Accepts, TaskIn, TaskAt, Spans, task-t
 use Rattle.sheet.specs.Contracts.Valid.{ValidTask}
 use Rattle.sheet.specs.Theory.Accepted.{accepted-valid}
 use Rattle.reading.specs.Theory.Found.{task-asked, is-run, is-judgement, is-comparison}
-use Rattle.outcomes.specs.Buffer.{fields, refusal-number, cleared}
+use Rattle.outcomes.specs.Buffer.{refusal-number, cleared}
 use Rattle.outcomes.specs.Asked.{found, find, asked, comparison-in, comparison-task}
-use Rattle.outcomes.specs.Outcome.{CompareOutcome, compare-answer}
+use Rattle.outcomes.specs.Outcome.{CompareOutcome, decision-fields, compare-answer}
 use Rattle.comparisons.specs.Contracts.Comparison.{PairIn}
 
 abbrev pub outcome : ℕ → List ℕ → CompareOutcome
@@ -96,15 +96,14 @@ module _ (sheet scratch : List ℕ) (task : ℕ) where
       pub pair-has : place .head ≡ Comparison → (s : Term) × (t : Term) × PairIn sheet (known-arities known) (place .from) (place .end) s t
       pair-has h = let f = pair-found h in (f .first, f .second, f .pair)
 
-      pub comparison-there : (h : place .head ≡ Comparison) (w : Verdict) (after : List ℕ) {n r : ℕ}
-          → ((s t : Term) → PairIn sheet (known-arities known) (place .from) (place .end) s t → w ≡ verdict s t) → r ≡ verdict-number w → n ≡ fields r 0 0
+      pub comparison-there : (h : place .head ≡ Comparison) (d : Decision) (after : List ℕ) {n : ℕ}
+          → ((s t : Term) → PairIn sheet (known-arities known) (place .from) (place .end) s t → d ≡ decision s t) → n ≡ decision-fields d
           → after ≡ cleared scratch → answered ≡ outcome n after
       unfolding compare-answer found comparison-in
-      comparison-there h w after {n} v x e c =
+      comparison-there h d after {n} v e c =
           let f = pair-found h in
           let (s, y, z) = f .is-task in
-          let told : fields (verdict-number (verdict (f .first) (f .second))) 0 0 ≡ n =
-          ap (λ v. fields (verdict-number v) 0 0) (sym (v (f .first) (f .second) (f .pair))) ∙ ap (λ r. fields r 0 0) (sym x) ∙ sym e in
+          let told : decision-fields (decision (f .first) (f .second)) ≡ n = ap decision-fields (sym (v (f .first) (f .second) (f .pair))) ∙ sym e in
           answer-of s y (some (comparison (f .first) (f .second))) z ∙ ap (λ n. outcome n (cleared scratch)) told ∙ ap (outcome n) (sym c)
 
     pub known-roomy : Roomy known

@@ -10,7 +10,7 @@ use Rattle.format.specs.Theory.Behind.{cells-there}
 use Rattle.terms.specs.Term.{Term, nil, cons}
 use Rattle.terms.specs.Contracts.Stored.{AllSymbols}
 use Rattle.comparing.specs.Contracts.Nodes.{TermAt, RowDenotes, more}
-use Rattle.comparing.specs.Contracts.Cells.{SettledCells}
+use Rattle.comparing.specs.Contracts.Cells.{BothGround, SettledCells}
 use Rattle.comparing.specs.Theory.Nodes.{ground-denotes}
 use Rattle.comparing.specs.Theory.Stored.{ground-row-denotes}
 use Rattle.comparing.specs.Theory.Cells.{none-ready, zero-bytes}
@@ -42,6 +42,9 @@ module _ {nodes lengths : List ℕ} {s t : Term} (p : PairLoaded nodes lengths s
   pair-stands second e =
       let l = p .loaded in
       two-at second e (ground-row-denotes (p .arities) (l .few-symbols) (cons s (cons t nil)) (l .ground) (l .bytes) (l .lengths-there) (omega (arith, l .few-nodes)))
+
+  pub pair-ground : BothGround s t
+  pair-ground = let (x, y) = p .loaded .ground in record { arities = p .arities; first = x; second = y .0 }
 
   pub no-row-ready : (values scratch : List ℕ) → length values ≡ variable-count → scratch-bytes ≤ length scratch → SettledCells nodes lengths values (replicate node-count 0) (take cell-count scratch)
   unfolding AllSymbols

@@ -15,9 +15,9 @@ use Rattle.stopping.specs.Contracts.Ends.{stop-test, stopping-walk, EndsAt, End
 use Rattle.solver.specs.declared.solve.Ends.{Ends}
 use Rattle.solver.specs.Contracts.Equation.{SidesAre, EndsAre}
 use Rattle.solver.proofs.Solving.{walk-is}
-use Rattle.deciding.specs.declared.decide.Decision.{Decision}
-use Rattle.deciding.specs.declared.decide.Decision.the-variants.{Refused as Unanswered}
-use Rattle.deciding.specs.Contracts.Decides.{decision-of, decided, Told}
+use Rattle.deciding.specs.declared.decide.Answer.{Answer}
+use Rattle.deciding.specs.declared.decide.Answer.the-variants.{Refused as Unanswered}
+use Rattle.deciding.specs.Contracts.Decides.{answered-as, decided, Told}
 
 module _ {nodes sizes memory : List ℕ} (source target : ℕ) (a : Advanced) (c : WalkEnds nodes sizes memory true source target a) where
   comes-walk : answer-of (stopping-walk true nodes sizes source target) ≡ decided nodes sizes source target
@@ -25,16 +25,16 @@ module _ {nodes sizes memory : List ℕ} (source target : ℕ) (a : Advanced) (c
   comes-walk = refl
 
   -- Yes or no, by what is left unfinished.
-  pub ended-decides : {r : Decision} → a .progress ≡ Going → Told (a .walk .top) (a .walk .turns) r → decision-of r ≡ decided nodes sizes source target
-  unfolding decision-of answer-of
+  pub ended-decides : {r : Answer} → a .progress ≡ Going → Told (a .walk .top) (a .walk .turns) r → answered-as r ≡ decided nodes sizes source target
+  unfolding answered-as answer-of
   ended-decides {r = r} e t = go (subst (λ p. EndsAs nodes sizes memory true source target (a .walk) p) e (c .end)) (decLt (a .walk .top) max-lines)
     where
-      go : EndsAt nodes sizes memory true source target (a .walk) → Dec (a .walk .top < max-lines) → decision-of r ≡ decided nodes sizes source target
-      go k (yes l) = ap decision-of (t .left l) ∙ (sym (ap answer-of (k .walked) ∙ ap (λ b. answered b (a .walk .turns)) (k .stopped l .1)) ∙ comes-walk)
-      go k (no l) = ap decision-of (t .none-left (omega arith)) ∙ (sym (ap answer-of (k .walked) ∙ ap (λ b. answered b (a .walk .turns)) (k .not-stopped (omega arith) refl)) ∙ comes-walk)
+      go : EndsAt nodes sizes memory true source target (a .walk) → Dec (a .walk .top < max-lines) → answered-as r ≡ decided nodes sizes source target
+      go k (yes l) = ap answered-as (t .left l) ∙ (sym (ap answer-of (k .walked) ∙ ap (λ b. answered b (a .walk .turns)) (k .stopped l .1)) ∙ comes-walk)
+      go k (no l) = ap answered-as (t .none-left (omega arith)) ∙ (sym (ap answer-of (k .walked) ∙ ap (λ b. answered b (a .walk .turns)) (k .not-stopped (omega arith) refl)) ∙ comes-walk)
 
-  pub refused-decides : (why : Refusal) → a .progress ≡ Refused why → decision-of (Unanswered why) ≡ decided nodes sizes source target
-  unfolding decision-of answer-of
+  pub refused-decides : (why : Refusal) → a .progress ≡ Refused why → answered-as (Unanswered why) ≡ decided nodes sizes source target
+  unfolding answered-as answer-of
   refused-decides why e = sym (ap answer-of (subst (λ p. EndsAs nodes sizes memory true source target (a .walk) p) e (c .end))) ∙ comes-walk
 
 -- The answer over an equation's bytes is that of the equation.

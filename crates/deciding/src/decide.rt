@@ -16,23 +16,23 @@ ghost use Rattle.solving.specs.Always.{always};
 ghost use Rattle.unifying.specs.Contracts.PrefixForm.{InPrefixForm};
 ghost use Rattle.walking.specs.Contracts.Walking.{memory-bytes};
 ghost use Rattle.solver.specs.Contracts.Equation.{EquationIs, HasEquation};
-ghost use Rattle.deciding.specs.Contracts.Decides.{decision-of, decided, Told};
+ghost use Rattle.deciding.specs.Contracts.Decides.{answered-as, decided, Told};
 
 // Yes or no, with "the turns taken by then".
-pub enum Decision {
+pub enum Answer {
     Yes(u16),
     No(u16),
     Refused(Refusal),
 }
 
 // A line is left unfinished exactly if the walk has stopped.
-fn told(top: usize, turns: u16) -> Decision
+fn told(top: usize, turns: u16) -> Answer
     ensures { λ r. ⌜ Told top turns r ⌝ }
 {
     if top < Limits::LINES {
-        return Decision::Yes(turns);
+        return Answer::Yes(turns);
     }
-    Decision::No(turns)
+    Answer::No(turns)
 }
 
 // The answer for source > target, over an equation's bytes and sizes. `memory` holds anything at exit.
@@ -42,29 +42,24 @@ fn decide_positions(
     source: usize,
     target: usize,
     memory: &mut [u8],
-) -> Decision
+) -> Answer
     requires { ⌜ InPrefixForm (now nodes) (now sizes) × (source < length (now nodes)) × (target < length (now nodes)) ⌝ }
     requires { ⌜ length (now memory) ≡ memory-bytes ⌝ }
-    ensures { λ r. ⌜ decision-of r ≡ decided (now (nodes .entry)) (now (sizes .entry)) source target ⌝ }
+    ensures { λ r. ⌜ answered-as r ≡ decided (now (nodes .entry)) (now (sizes .entry)) source target ⌝ }
 {
     let last = walk_between(nodes, sizes, source, target, true, memory);
     let walk = last.walk;
     let progress = last.progress;
     match progress {
         Progress::Going => told(walk.top, walk.turns),
-        Progress::Refused(why) => Decision::Refused(why),
+        Progress::Refused(why) => Answer::Refused(why),
     }
 }
 
 // The answer for one direction of the equation with these bytes. Scratch holds anything in the bytes that the walk works in.
-pub fn decide_equation(
-    bytes: &[u8],
-    arities: &[u8],
-    direction: usize,
-    scratch: &mut [u8],
-) -> Decision
+pub fn decide_equation(bytes: &[u8], arities: &[u8], direction: usize, scratch: &mut [u8]) -> Answer
     requires { ⌜ HasEquation (now bytes) (now arities) × (direction < 2) × (memory-bytes ≤ length (now scratch)) ⌝ }
-    ensures { λ r. ⌜ ((e : Equation) (d : Direction) → EquationIs (now (bytes .entry)) (now (arities .entry)) e → direction-of direction ≡ some d → decision-of r ≡ always e d) ⌝ }
+    ensures { λ r. ⌜ ((e : Equation) (d : Direction) → EquationIs (now (bytes .entry)) (now (arities .entry)) e → direction-of direction ≡ some d → answered-as r ≡ always e d) ⌝ }
     ensures { λ _. ⌜ drop memory-bytes (now (scratch .exit)) ≡ drop memory-bytes (now (scratch .entry)) ⌝ }
 {
     let mut sizes = [0u8; Limits::POSITIONS];

@@ -21,8 +21,8 @@ check-P1 : check-call (lines P1-sheet) ≡ 0
 unfolding check-call lines
 check-P1 = refl
 
--- Every byte of scratch, once: "scratch's first 57,344 bytes are 00"; "Longer buffers are gives and their excess is untouched."
-compare-P1 : compare-call (lines P1-sheet) 2 (replicate 57346 0x55) ≡ record { returned = 2 * 2 ^ 8; scratch = replicate 57344 0 ++ replicate 2 0x55 }
+-- Every byte of scratch, once: "scratch's first 57,344 bytes are 00"; "Longer buffers are served and their excess is untouched."
+compare-P1 : compare-call (lines P1-sheet) 2 (replicate 57346 0x55) ≡ record { returned = 2 * 2 ^ 8 + 3 * 2 ^ 24; scratch = replicate 57344 0 ++ replicate 2 0x55 }
 unfolding compare-call lines
 compare-P1 = refl
 

@@ -1,7 +1,9 @@
 // Frames of a fixed number of bytes. Each is appended to what stands first in a buffer: `at` bytes stand there before, and the number that is given stands there after.
 use format::refusal::Refusal;
 use format::refusal::number_of;
-use ordering::verdict::Verdict;
+use ordering::decision::Decision;
+use ordering::decision::clause_number_of;
+use ordering::decision::verdict_of;
 use ordering::verdict::number_of_verdict;
 use printing::digits::put_frame;
 use printing::kinds::PrintedKind;
@@ -10,8 +12,7 @@ ghost use mathlib.Core.List.{[], _∷_};
 ghost use Prim.Native.Nat.{_+_, _*_, _/_, _%_, _≤_, _<_};
 ghost use lib.ListN.{length};
 ghost use Rattle.format.specs.Limits.{max-text, max-equations, max-lines, max-tasks, max-steps};
-ghost use Rattle.ordering.specs.Verdict.{verdict-number};
-ghost use Rattle.listing.specs.Listing.{printed, two-bytes, refusal-frame, table-kind, judgement-frame, comparison-kind, total-kind};
+ghost use Rattle.listing.specs.Listing.{printed, two-bytes, refusal-frame, table-kind, judgement-frame, comparison-frame, total-kind};
 ghost use Rattle.printing.specs.Contracts.Appended.{Appended};
 ghost use Rattle.frames.specs.Contracts.Room.{refusal-room, table-room, judgement-room, comparison-room, total-room};
 
@@ -65,12 +66,13 @@ pub fn put_judgement(holding: usize, out: &mut [u8], at: usize) -> usize
     put_frame(&yes, out, at)
 }
 
-// "comparison, '16', 00 smaller, 01 equal, 02 greater"
-pub fn put_comparison(verdict: Verdict, out: &mut [u8], at: usize) -> usize
+// "comparison, '16', 00 smaller, 01 equal, 02 greater", and the clause, "01, 02, 03, or 00 for equal"
+pub fn put_comparison(decision: Decision, out: &mut [u8], at: usize) -> usize
     requires { ⌜ at + comparison-room ≤ length (now out) ⌝ }
-    ensures { λ r. ⌜ Appended (now (out .entry)) at (printed ((comparison-kind ∷ verdict-number verdict ∷ []) ∷ [])) (now (out .exit)) r ⌝ }
+    ensures { λ r. ⌜ Appended (now (out .entry)) at (printed (comparison-frame decision ∷ [])) (now (out .exit)) r ⌝ }
 {
-    let frame = [PrintedKind::COMPARISON, number_of_verdict(verdict)];
+    let verdict = number_of_verdict(verdict_of(decision));
+    let frame = [PrintedKind::COMPARISON, verdict, clause_number_of(decision)];
     put_frame(&frame, out, at)
 }
 

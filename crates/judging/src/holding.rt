@@ -1,7 +1,8 @@
 // Whether a line holds at values, and the first that does. The values are terms of the subject, and the equation's nodes stand before the subject's.
+// "All users of the comparison take the new result" (document 02, W8): of it the verdict alone is used here.
 use crate::trimmed::KeptLines;
 use crate::trimmed::trimmed_length;
-use comparing::comparison::exceeds;
+use clauses::compare::compare;
 use comparing::nodes::SUBJECT;
 use comparing::nodes::resolve;
 use format::byte::wide;
@@ -9,7 +10,7 @@ use format::limits::Limits;
 use lines::element::Relation;
 use lines::element::element_at;
 use lines::layout::FIRST_ELEMENT;
-use ordering::verdict::Verdict;
+use ordering::decision::Decision;
 ghost use mathlib.Core.Path.{_≡_};
 ghost use mathlib.Core.Logic.{_↔_};
 ghost use mathlib.Core.Bool.{true};
@@ -48,14 +49,14 @@ fn binding_holds(
     if nodes[s] != nodes[node] {
         return false;
     }
-    let verdict = exceeds(nodes, sizes, values, ready, cells, s, node);
-    let Verdict::Equal = verdict else {
+    let decision = compare(nodes, sizes, values, ready, cells, s, node);
+    let Decision::Equal = decision else {
         return false;
     };
     true
 }
 
-// "each inequality is true by L1 to L3": the terms at `p` and `q`, of which one is a term of the subject. The comparison asks for that one second. It is not made where
+// "each inequality is true by L1 to L3": the terms at `p` and `q`, of which one is a term of the subject. The comparison takes that one as its second. It is not made where
 // symbols and sizes tell: a constant exceeds no term unless the term's symbol is smaller, and is exceeded by every term whose symbol is greater.
 fn inequality_holds(
     nodes: &[u8],
@@ -84,14 +85,14 @@ fn inequality_holds(
         }
     }
     if t < SUBJECT {
-        let verdict = exceeds(nodes, sizes, values, ready, cells, t, s);
-        let Verdict::Smaller = verdict else {
+        let decision = compare(nodes, sizes, values, ready, cells, t, s);
+        let Decision::Smaller(_) = decision else {
             return false;
         };
         return true;
     }
-    let verdict = exceeds(nodes, sizes, values, ready, cells, s, t);
-    let Verdict::Greater = verdict else {
+    let decision = compare(nodes, sizes, values, ready, cells, s, t);
+    let Decision::Greater(_) = decision else {
         return false;
     };
     true

@@ -1,4 +1,4 @@
--- The program's listing (document 01, 'The program'): from the bytes of standard input to the bytes of standard output.
+-- The program's listing (document 01, 'The program'; document 02, W8): from the bytes of standard input to the bytes of standard output.
 use Prim.Native.Nat.{ℕ, zero, suc, _+_, _/_, _%_}
 use mathlib.Core.Bool.{true, false}
 use mathlib.Core.Option.{Option, none, some}
@@ -12,7 +12,9 @@ use Rattle.format.specs.Lists.{entry}
 use Rattle.terms.specs.Term.{Term, Values}
 use Rattle.terms.specs.Equation.{Equation, Direction, left-right, right-left, direction-number, term-at}
 use Rattle.terms.specs.Prefix.{prefix}
-use Rattle.ordering.specs.Verdict.{verdict, verdict-number}
+use Rattle.ordering.specs.declared.decision.Decision.{Decision}
+use Rattle.ordering.specs.Verdict.{verdict-number}
+use Rattle.ordering.specs.Decision.{decision, verdict-of, clause-number-of}
 use Rattle.sheet.specs.Text.{LF, base}
 use Rattle.sheet.specs.Sheet.{Task, run, judgement, comparison, Sheet}
 use Rattle.sheet.specs.Reading.{Reading, refused-at, accepted, read}
@@ -125,12 +127,16 @@ unfolding holding-line
 holding none d ρ = 0
 holding (some e) d ρ = holding-line e d ρ
 
--- "comparison, '16', 00 smaller, 01 equal, 02 greater"
+-- "comparison, '16', 00 smaller, 01 equal, 02 greater"; "frame 16 gains a byte ...: 01, 02, 03, or 00 for equal" (document 02, W8)
+unfoldable pub comparison-frame : Decision → List ℕ
+unfolding verdict-number verdict-of clause-number-of
+comparison-frame d = comparison-kind ∷ verdict-number (verdict-of d) ∷ clause-number-of d ∷ []
+
 unfoldable pub task-frames : List Equation → Task → List (List ℕ)
-unfolding run-frames line-run judgement-frame holding given-values entry verdict verdict-number
+unfolding run-frames line-run judgement-frame holding given-values entry comparison-frame decision
 task-frames es (run k s) = run-frames s (line-run es k s)
 task-frames es (judgement n d ts) = judgement-frame (holding (entry es n) d (given-values ts)) ∷ []
-task-frames es (comparison s t) = (comparison-kind ∷ verdict-number (verdict s t) ∷ []) ∷ []
+task-frames es (comparison s t) = comparison-frame (decision s t) ∷ []
 
 -- "steps of all runs"
 unfoldable pub steps-taken : List Equation → List Task → ℕ

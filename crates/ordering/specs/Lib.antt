@@ -1,4 +1,6 @@
 pub mod Order
 pub mod Below
+pub mod Clause
 pub mod Theory
 pub mod Verdict
+pub mod Decision

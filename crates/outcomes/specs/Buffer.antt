@@ -1,5 +1,5 @@
 -- Numbers returned and lent buffers (document 01, 'Calls and lent memory').
-use Prim.Native.Nat.{ℕ, _+_, _*_, _%_, _^_}
+use Prim.Native.Nat.{ℕ, _+_, _*_, _/_, _%_, _^_}
 use mathlib.Core.List.{List}
 use lib.ListN.{replicate}
 use Rattle.format.specs.Limits.{no-position, table-bytes, scratch-bytes}
@@ -14,6 +14,10 @@ field-limit = 2 ^ 16
 -- "Each returns one 64-bit number: lowest byte the refusal, or 0; above it 16-bit fields, lowest first, unused ones 0."
 unfoldable pub fields : (first second third : ℕ) → ℕ
 fields a b c = 2 ^ 8 * a + 2 ^ 24 * b + 2 ^ 40 * c
+
+-- The first field: "above it 16-bit fields, lowest first".
+unfoldable pub first-field : ℕ → ℕ
+first-field n = (n / 2 ^ 8) % field-limit
 
 -- "Refusal: line."
 unfoldable pub refusal-number : Refusal → (line : ℕ) → ℕ

@@ -1,4 +1,4 @@
--- The outcome of each of the six calls (document 01, 'Calls and lent memory' and 'Who can cause a refusal'; document 02, W6): from the sheet, the arguments and the
+-- The outcome of each of the six calls (document 01, 'Calls and lent memory' and 'Who can cause a refusal'; document 02, W6 and W8): from the sheet, the arguments and the
 -- former bytes of the lent buffers to the number returned and every byte of every buffer at exit. A buffer's length is that of its list.
 use Prim.Native.Nat.{ℕ, zero, suc}
 use mathlib.Core.Bool.{Bool, true, false, _&&_}
@@ -12,7 +12,9 @@ use Rattle.format.specs.declared.refusal.Refusal.{Refusal}
 use Rattle.terms.specs.Term.{Term, size}
 use Rattle.terms.specs.Equation.{direction-number}
 use Rattle.terms.specs.Prefix.{prefix}
-use Rattle.ordering.specs.Verdict.{verdict, verdict-number}
+use Rattle.ordering.specs.declared.decision.Decision.{Decision}
+use Rattle.ordering.specs.Verdict.{verdict-number}
+use Rattle.ordering.specs.Decision.{decision, verdict-of, clause-number-of}
 use Rattle.sheet.specs.Sheet.{Sheet}
 use Rattle.sheet.specs.Reading.{Reading, refused-at, accepted, read}
 use Rattle.solving.specs.Line.{records}
@@ -33,15 +35,20 @@ unfoldable pub check-call : (sheet : List ℕ) → ℕ
 unfolding check-answer read
 check-call sheet = check-answer (read sheet)
 
--- Compare: "0 smaller, 1 equal, 2 greater". Refusals write nothing.
+-- Compare: "0 smaller, 1 equal, 2 greater"; "the compare call a second field: 01, 02, 03, or 00 for equal" (W8).
+unfoldable pub decision-fields : Decision → ℕ
+unfolding fields verdict-number verdict-of clause-number-of
+decision-fields d = fields (verdict-number (verdict-of d)) (clause-number-of d) 0
+
 pub record CompareOutcome : Type 0 where
   pub returned : ℕ
   pub scratch : List ℕ
 
+-- Refusals write nothing.
 unfoldable pub compare-answer : (scratch : List ℕ) → Reading Pair → CompareOutcome
-unfolding refusal-number fields verdict verdict-number cleared
+unfolding refusal-number decision-fields decision cleared
 compare-answer scratch (refused-at r line) = record { returned = refusal-number r line; scratch = scratch }
-compare-answer scratch (accepted c) = record { returned = fields (verdict-number (verdict (c .first) (c .second))) 0 0; scratch = cleared scratch }
+compare-answer scratch (accepted c) = record { returned = decision-fields (decision (c .first) (c .second)); scratch = cleared scratch }
 
 unfoldable pub compare-call : (sheet : List ℕ) → (task : ℕ) → (scratch : List ℕ) → CompareOutcome
 unfolding compare-answer asked comparison-task

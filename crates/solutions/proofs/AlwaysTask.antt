@@ -5,23 +5,23 @@ use mathlib.Core.List.{List}
 use Rattle.format.specs.Limits.{no-position, table-bytes}
 use Rattle.format.specs.declared.refusal.Refusal.{Refusal}
 use Rattle.solving.specs.Always.{Answered}
-use Rattle.deciding.specs.declared.decide.Decision.{Decision}
-use Rattle.deciding.specs.declared.decide.Decision.the-variants.{Yes, No, Refused}
-use Rattle.deciding.specs.Contracts.Decides.{decision-of}
+use Rattle.deciding.specs.declared.decide.Answer.{Answer}
+use Rattle.deciding.specs.declared.decide.Answer.the-variants.{Yes, No, Refused}
+use Rattle.deciding.specs.Contracts.Decides.{answered-as}
 use Rattle.outcomes.specs.Buffer.{fields, refusal-number, filled, cleared, blanked}
 use Rattle.outcomes.specs.Asked.{equation-line}
 use Rattle.outcomes.specs.Outcome.{table-unsolved, answer-number, always-answered}
 use Rattle.answers.proofs.Outcomes.{table-outcome}
 
-module _ (equation : ℕ) (table scratch : List ℕ) {a : Answered} {r : Decision} (told : decision-of r ≡ a) {n : ℕ} {blank last : List ℕ} (b : blank ≡ filled table-bytes no-position table) (c : last ≡ cleared scratch) where
+module _ (equation : ℕ) (table scratch : List ℕ) {a : Answered} {r : Answer} (told : answered-as r ≡ a) {n : ℕ} {blank last : List ℕ} (b : blank ≡ filled table-bytes no-position table) (c : last ≡ cleared scratch) where
   pub always-yes : {turns : ℕ} → r ≡ Yes turns → n ≡ fields 1 turns 0 → always-answered equation table scratch a ≡ table-outcome n blank last
-  unfolding always-answered answer-number decision-of blanked
-  always-yes x e = let y = sym (ap decision-of x) ∙ told in rw (sym y, e, b, c)
+  unfolding always-answered answer-number answered-as blanked
+  always-yes x e = let y = sym (ap answered-as x) ∙ told in rw (sym y, e, b, c)
 
   pub always-no : {turns : ℕ} → r ≡ No turns → n ≡ fields 0 turns 0 → always-answered equation table scratch a ≡ table-outcome n blank last
-  unfolding always-answered answer-number decision-of blanked
-  always-no x e = let y = sym (ap decision-of x) ∙ told in rw (sym y, e, b, c)
+  unfolding always-answered answer-number answered-as blanked
+  always-no x e = let y = sym (ap answered-as x) ∙ told in rw (sym y, e, b, c)
 
   pub always-refused : {why : Refusal} → r ≡ Refused why → n ≡ refusal-number why (equation + 2) → always-answered equation table scratch a ≡ table-outcome n blank last
-  unfolding always-answered decision-of table-unsolved equation-line blanked
-  always-refused x e = let y = sym (ap decision-of x) ∙ told in rw (sym y, e, b, c)
+  unfolding always-answered answered-as table-unsolved equation-line blanked
+  always-refused x e = let y = sym (ap answered-as x) ∙ told in rw (sym y, e, b, c)

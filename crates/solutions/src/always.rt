@@ -3,7 +3,7 @@ use answers::buffer::fill;
 use answers::number::FIRST_EQUATION_LINE;
 use answers::number::fields_number;
 use answers::number::refusal_number;
-use deciding::decide::Decision;
+use deciding::decide::Answer;
 use deciding::decide::decide_equation;
 use format::limits::Limits;
 use format::refusal::Refusal;
@@ -39,9 +39,9 @@ fn always_bytes(
     fill(scratch, Limits::SCRATCH, 0);
     fill(table, Limits::TABLE, Limits::NO_POSITION);
     match decision {
-        Decision::Yes(turns) => fields_number(1, turns, 0),
-        Decision::No(turns) => fields_number(0, turns, 0),
-        Decision::Refused(why) => refusal_number(why, equation + FIRST_EQUATION_LINE),
+        Answer::Yes(turns) => fields_number(1, turns, 0),
+        Answer::No(turns) => fields_number(0, turns, 0),
+        Answer::Refused(why) => refusal_number(why, equation + FIRST_EQUATION_LINE),
     }
 }
 

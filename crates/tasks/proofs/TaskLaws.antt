@@ -12,8 +12,8 @@ use Rattle.format.specs.Theory.Lists.{entry-found, every-entry}
 use Rattle.terms.specs.Term.{Term, Terms, size, Ground, Grounds}
 use Rattle.terms.specs.Prefix.{prefix}
 use Rattle.terms.specs.Equation.{Equation, Direction}
-use Rattle.ordering.specs.Verdict.{verdict, verdict-number}
-use Rattle.ordering.specs.declared.verdict.Verdict.{Verdict}
+use Rattle.ordering.specs.declared.decision.Decision.{Decision}
+use Rattle.ordering.specs.Decision.{decision}
 use Rattle.sheet.specs.Sheet.{Task, run, judgement, comparison, Sheet}
 use Rattle.sheet.specs.Contracts.Valid.{ValidTask}
 use Rattle.scanning.specs.declared.known.Known.{Known}
@@ -27,7 +27,7 @@ use Rattle.rulewise.proofs.RulewiseLaws.{entry-solves}
 use Rattle.reducing.specs.Test.{holding-line, given-values}
 use Rattle.reductions.specs.Contracts.RunTerm.{LinesReady, RunTermIs, HasRunTerm}
 use Rattle.comparisons.specs.Contracts.Comparison.{PairIn}
-use Rattle.listing.specs.Listing.{printed, judgement-frame, comparison-kind, holding, task-frames}
+use Rattle.listing.specs.Listing.{printed, judgement-frame, comparison-frame, holding, task-frames}
 use Rattle.printing.specs.Contracts.Appended.{Appended}
 use Rattle.printing.specs.Theory.Appended.{appended-text}
 use Rattle.cursor.specs.Contracts.Stands.{Ready}
@@ -48,11 +48,11 @@ module _ {es : List Equation} {before after : List ℕ} {end : ℕ} where
       let b = appended-text (ap (λ q. printed (judgement-frame (holding q o (given-values ts)) ∷ [])) (sym x)) a in
       record { appended = b; steps-are = refl; few-steps = omega arith; within = appended-within b }
 
-  pub comparison-given : {u v : Term} {w : Verdict} → w ≡ verdict u v → Appended before 0 (printed ((comparison-kind ∷ verdict-number w ∷ []) ∷ [])) after end
+  pub comparison-given : {u v : Term} {w : Decision} → w ≡ decision u v → Appended before 0 (printed (comparison-frame w ∷ [])) after end
       → TaskGiven es (comparison u v) before after (record { bytes = end; steps = 0 })
   unfolding task-frames task-steps
   comparison-given x a =
-      let b = appended-text (ap (λ w. printed ((comparison-kind ∷ verdict-number w ∷ []) ∷ [])) x) a in
+      let b = appended-text (ap (λ w. printed (comparison-frame w ∷ [])) x) a in
       record { appended = b; steps-are = refl; few-steps = omega arith; within = appended-within b }
 
 module _ {sheet : List ℕ} {known : Known} {equations lengths bounds : List ℕ} {fits : Bool} {table : List ℕ} where
@@ -161,8 +161,8 @@ module _ {sheet : List ℕ} {known : Known} {equations lengths bounds : List ℕ
             let (o, ts, y, e, is, at) = found-judgement h in
             subst (λ t. TaskGiven (s .equations) t before after (record { bytes = end; steps = 0 })) (sym y) (judgement-given is (given k e o ts at))
 
-        pub comparison-printed : {w : Verdict} {end : ℕ} → place .head ≡ Comparison → ((u v : Term) → PairIn sheet (known-arities known) (place .from) (place .end) u v → w ≡ verdict u v)
-            → Appended before 0 (printed ((comparison-kind ∷ verdict-number w ∷ []) ∷ [])) after end → TaskGiven (s .equations) t before after (record { bytes = end; steps = 0 })
+        pub comparison-printed : {w : Decision} {end : ℕ} → place .head ≡ Comparison → ((u v : Term) → PairIn sheet (known-arities known) (place .from) (place .end) u v → w ≡ decision u v)
+            → Appended before 0 (printed (comparison-frame w ∷ [])) after end → TaskGiven (s .equations) t before after (record { bytes = end; steps = 0 })
         comparison-printed {end = end} h told a =
             let (u, v, e, is) = found-comparison h in
             subst (λ t. TaskGiven (s .equations) t before after (record { bytes = end; steps = 0 })) (sym e) (comparison-given (told u v is) a)

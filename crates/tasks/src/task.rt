@@ -186,8 +186,8 @@ pub fn list_task(
             }
         }
         TaskHead::Comparison => {
-            let verdict = compare_terms(sheet, known, found.from, found.end, scratch);
-            let bytes = put_comparison(verdict, out, 0);
+            let decision = compare_terms(sheet, known, found.from, found.end, scratch);
+            let bytes = put_comparison(decision, out, 0);
             TaskListed {
                 bytes: bytes,
                 steps: 0,

@@ -45,6 +45,11 @@ module _ {nodes arities lengths : List ℕ} {n next k : ℕ} (a : Added nodes ar
   pub added-all : n ≤ k → node-sizes arities nodes ≡ (next + 1) ∷ lengths
   added-all h = let e : k ≡ n = omega (arith, a .within) in rw (add-one, a .sum, e) (a .whole)
 
+  -- No argument, and the first.
+  pub added-zero : n ≡ 0 → node-sizes arities nodes ≡ 1 ∷ lengths
+  unfolding take-terms sizes
+  added-zero e = rw e at (a .whole)
+
   module _ (lt : k < n) where
     pub added-below : next < length lengths
     added-below = omega (arith, a .enough, a .sum, next-below (behind nodes arities) k (omega (arith, a .enough)), ap length (a .stored), length-node-sizes arities (drop 1 nodes))
@@ -59,3 +64,8 @@ module _ {nodes arities lengths : List ℕ} {n next k : ℕ} (a : Added nodes ar
       within = omega arith;
       sum = rw (add-one, a .sum, a .stored) (next-size (behind nodes arities) k (omega (arith, a .enough)));
     }
+
+pub added-first : {nodes arities lengths : List ℕ} {n last : ℕ} → Added nodes arities lengths n 0 0 → 0 < n → last ≡ getD lengths 0 0 → Added nodes arities lengths n last 1
+added-first {lengths = lengths} a h e =
+    let d : 0 + getD lengths 0 0 ≡ getD lengths 0 0 = omega arith in
+    rw (e, ← d) (added-more a h)

@@ -75,6 +75,9 @@ module _ {arities nodes before : List ℕ} {from end : ℕ} (m : Measurable arit
         rw (← slice-part (i - 1) end nodes, ← slice-part i end lengths)
         (whole-from (i - 1) (omega arith) (omega (arith, f .high)), (omega (arith, l, f .high), omega (arith, l, m .few)), rw (slice-rest (i - 1) end nodes, d) filled-part)
 
+    pub filled-asks : {last : ℕ} → last ≡ getD (slice i end lengths) 0 0 → last ≡ getD (take (end - i) (drop i lengths)) 0 0
+    filled-asks e = rw (← slice-part i end lengths) e
+
     pub filled-more : {r : ℕ} → from < i → node-sizes arities (take (end - (i - 1)) (drop (i - 1) nodes)) ≡ r ∷ take (end - i) (drop i lengths)
         → SizesFilled arities nodes before from end (set lengths (i - 1) r) (i - 1)
     filled-more {r} h d = record { low = omega arith; high = omega (arith, f .high); is = stored }
@@ -103,3 +106,8 @@ module _ {arities nodes before : List ℕ} {from end : ℕ} (m : Measurable arit
             ap (λ q. set q j r) split
             ∙ (set-at (take j before) (getD before j 0) rest r j l
             ∙ ap (λ q. take j before ++ (q ++ drop end before)) (sym (e ∙ ap (r ∷_) filled-part)))
+
+  -- The size that was put last is the first of those filled in.
+  pub filled-first : {lengths : List ℕ} {i : ℕ} (f : SizesFilled arities nodes before from end lengths i) {r : ℕ} → from < i
+      → node-sizes arities (take (end - (i - 1)) (drop (i - 1) nodes)) ≡ r ∷ take (end - i) (drop i lengths) → r ≡ getD (slice (i - 1) end (set lengths (i - 1) r)) 0 0
+  filled-first {i = i} f h d = sym (ap (λ l. getD l 0 0) (filled-part (filled-more f h d) ∙ (ap (node-sizes arities) (slice-part (i - 1) end nodes) ∙ d)))

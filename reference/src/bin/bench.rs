@@ -1,7 +1,7 @@
 //! Times of the parts: reading, walks, comparisons, runs, calls. Each figure is the least of several rounds, since
 //! other work on the machine can only lengthen a round.
 
-use reference::ground::compare_terms;
+use reference::ground::{compare_terms, decide_terms};
 use reference::limits::*;
 use reference::rewrite;
 use reference::sheet::{self, Task};
@@ -106,13 +106,18 @@ fn walks_with_a_stop() {
 }
 
 fn comparisons() {
-    println!("comparison of two terms                               ns");
+    println!("comparison of two terms                        numbers       ns   ns of the verdict alone");
     let mut arities = [0; SYMBOLS];
     arities[..special::compared_arities().len()].copy_from_slice(special::compared_arities());
     let mut scratch = vec![0; SCRATCH_BYTES];
     for (name, left, right) in special::hard_pairs() {
-        let ns = time(|| compare_terms(black_box(&left), black_box(&right), &arities, &mut scratch));
-        println!("  {name:46} {ns:8.0}");
+        let numbers = decide_terms(&left, &right, &arities, &mut scratch).numbers();
+        // In the same rounds, since the two are to be compared.
+        let [ns, verdict_ns] = times(|case| match case {
+            0 => decide_terms(black_box(&left), black_box(&right), &arities, &mut scratch).numbers()[0],
+            _ => compare_terms(black_box(&left), black_box(&right), &arities, &mut scratch) as u8,
+        });
+        println!("  {name:46} {numbers:?} {ns:8.0} {verdict_ns:25.0}");
     }
 }
 
@@ -159,6 +164,8 @@ fn calls() {
     show("run, sorting", time(|| run(&sorting, 0, &mut table, &mut scratch, &mut term, &mut log)));
     let towers = named("two towers of 80");
     show("compare, two towers of 80", time(|| compare(&towers, 0, &mut scratch)));
+    let long_l1 = named("L2, but L1 is long to refute");
+    show("compare, L2, but L1 is long to refute", time(|| compare(&long_l1, 0, &mut scratch)));
     let large = named("255 steps under large tables");
     let start = Instant::now();
     black_box(run(&large, 0, &mut table, &mut scratch, &mut term, &mut log));

@@ -161,6 +161,80 @@ pub fn term_end(arities: &[u8], bytes: &[u8], start: usize) -> usize {
     end
 }
 
+/// Ground terms of at most `size` nodes over the symbols.
+pub fn ground_terms(arities: &[u8], size: usize) -> Vec<Vec<u8>> {
+    let mut by_size: Vec<Vec<Vec<u8>>> = vec![vec![]];
+    for nodes in 1..=size {
+        let mut terms = vec![];
+        for (symbol, &arity) in arities.iter().enumerate() {
+            for arguments in sequences(&by_size, arity as usize, nodes - 1) {
+                terms.push([&[symbol as u8], &arguments[..]].concat());
+            }
+        }
+        by_size.push(terms);
+    }
+    by_size.concat()
+}
+
+/// All sequences of `count` terms with `nodes` nodes together.
+fn sequences(by_size: &[Vec<Vec<u8>>], count: usize, nodes: usize) -> Vec<Vec<u8>> {
+    if count == 0 {
+        return if nodes == 0 { vec![vec![]] } else { vec![] };
+    }
+    let mut all = vec![];
+    for first in 1..=nodes.min(by_size.len() - 1) {
+        for rest in sequences(by_size, count - 1, nodes - first) {
+            all.extend(by_size[first].iter().map(|term| [&term[..], &rest].concat()));
+        }
+    }
+    all
+}
+
+/// L1, L2 or L3: whether it applies to s > t. The last argument is the ordering, which it goes by.
+type Clause = fn(&[u8], &[u8], &[u8], &mut dyn FnMut(&[u8], &[u8]) -> bool) -> bool;
+
+const CLAUSES: [Clause; 3] = [l1, l2, l3];
+
+fn l1(arities: &[u8], s: &[u8], t: &[u8], exceeds: &mut dyn FnMut(&[u8], &[u8]) -> bool) -> bool {
+    arguments(arities, s).iter().any(|si| exceeds(si, t) || si == &t)
+}
+
+fn l2(arities: &[u8], s: &[u8], t: &[u8], exceeds: &mut dyn FnMut(&[u8], &[u8]) -> bool) -> bool {
+    s[0] > t[0] && arguments(arities, t).iter().all(|tj| exceeds(s, tj))
+}
+
+fn l3(arities: &[u8], s: &[u8], t: &[u8], exceeds: &mut dyn FnMut(&[u8], &[u8]) -> bool) -> bool {
+    let (si, ti) = (arguments(arities, s), arguments(arities, t));
+    s[0] == t[0]
+        && (0..ti.len()).any(|k| {
+            si[..k] == ti[..k] && exceeds(si[k], ti[k]) && ti[k + 1..].iter().all(|argument| exceeds(s, argument))
+        })
+}
+
+/// Which of L1 to L3 apply to s > t. Nothing is remembered, so this is for small terms.
+pub fn clauses(arities: &[u8], s: &[u8], t: &[u8]) -> [bool; 3] {
+    CLAUSES.map(|clause| clause(arities, s, t, &mut |s, t| exceeds(arities, s, t)))
+}
+
+/// Whether s > t. Nothing is remembered, so this is for small terms.
+pub fn exceeds(arities: &[u8], s: &[u8], t: &[u8]) -> bool {
+    CLAUSES.iter().any(|clause| clause(arities, s, t, &mut |s, t| exceeds(arities, s, t)))
+}
+
+/// The verdict, 0 smaller, 1 equal, 2 greater, and the first clause that applies, 1 to 3, or 0 for equal. `clauses`
+/// tells which ones apply.
+pub fn decision(s: &[u8], t: &[u8], mut clauses: impl FnMut(&[u8], &[u8]) -> [bool; 3]) -> [u64; 2] {
+    let first = |clauses: [bool; 3]| clauses.iter().position(|&applies| applies).map(|index| index as u64 + 1);
+    if s == t {
+        return [1, 0];
+    }
+    match (first(clauses(s, t)), first(clauses(t, s))) {
+        (Some(clause), None) => [2, clause],
+        (None, Some(clause)) => [0, clause],
+        both => panic!("of two different terms one is greater, but the clauses are {both:?}"),
+    }
+}
+
 /// L1 to L3, each pair of terms decided once.
 #[derive(Default)]
 pub struct Order {
@@ -173,34 +247,19 @@ impl Order {
         if let Some(&known) = self.known.get(&key) {
             return known;
         }
-        let answer = self.decide(arities, s, t);
+        let answer = self.clauses(arities, s, t).contains(&true);
         self.known.insert(key, answer);
         answer
     }
 
-    fn decide(&mut self, arities: &[u8], s: &[u8], t: &[u8]) -> bool {
-        let (f, g) = (s[0], t[0]);
-        let (si, ti) = (arguments(arities, s), arguments(arities, t));
-        let first = si.iter().any(|argument| argument == &t || self.exceeds(arities, argument, t));
-        let second = f > g && ti.iter().all(|argument| self.exceeds(arities, s, argument));
-        let third = f == g
-            && (0..ti.len()).any(|k| {
-                si[..k] == ti[..k]
-                    && self.exceeds(arities, si[k], ti[k])
-                    && ti[k + 1..].iter().all(|argument| self.exceeds(arities, s, argument))
-            });
-        first || second || third
+    /// Which of L1 to L3 apply to s > t.
+    pub fn clauses(&mut self, arities: &[u8], s: &[u8], t: &[u8]) -> [bool; 3] {
+        CLAUSES.map(|clause| clause(arities, s, t, &mut |s, t| self.exceeds(arities, s, t)))
     }
 
-    /// 0 smaller, 1 equal, 2 greater.
-    pub fn verdict(&mut self, arities: &[u8], s: &[u8], t: &[u8]) -> u64 {
-        if s == t {
-            1
-        } else if self.exceeds(arities, s, t) {
-            2
-        } else {
-            0
-        }
+    /// Verdict and clause.
+    pub fn decision(&mut self, arities: &[u8], s: &[u8], t: &[u8]) -> [u64; 2] {
+        decision(s, t, |s, t| self.clauses(arities, s, t))
     }
 }
 

@@ -11,9 +11,8 @@ use Rattle.format.specs.Byte.{class-of}
 use Rattle.format.specs.Theory.Byte.{class-variable}
 use Rattle.terms.specs.Term.{Term, Terms}
 use Rattle.terms.specs.Contracts.Stored.{AllSymbols}
-use Rattle.ordering.specs.Verdict.{verdict, verdict-number}
 use Rattle.comparing.specs.Contracts.Nodes.{TermAt, Denotes, symbol-node, variable-node, RowDenotes, none, more}
-use Rattle.comparing.specs.Contracts.Cells.{SettledCells, Cleared, MadeReady}
+use Rattle.comparing.specs.Contracts.Cells.{Settles, SettledCells, Cleared, MadeReady}
 use Rattle.comparing.specs.Theory.Nodes.{within}
 
 -- No row is ready.
@@ -81,7 +80,7 @@ next-match {nodes} {lengths} {values} {ready} {cells} {nodes-after} {lengths-aft
 }
   where
     settled : (i j : ℕ) (s t : Term) → 0 < getD ready-after i 0 → position-count ≤ j → TermAt nodes-after lengths-after values-after i s → TermAt nodes-after lengths-after values-after j t
-        → (getD cells (i * node-count + j) 0 ≡ 0) ⊎ (getD cells (i * node-count + j) 0 ≡ verdict-number (verdict s t) + 1)
+        → (getD cells (i * node-count + j) 0 ≡ 0) ⊎ Settles (getD cells (i * node-count + j) 0) s t
     settled i j s t h k a b = elim (decLt i position-count) [
       | yes lt ↦ absurd (omega (arith, r .inside i (omega arith) lt))
       | no ge ↦

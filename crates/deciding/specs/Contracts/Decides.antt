@@ -7,19 +7,19 @@ use Rattle.format.specs.Limits.{max-lines}
 use Rattle.solving.specs.Walk.{enough}
 use Rattle.solving.specs.Always.{always-walk, Answered, answered, unanswered, answer-of}
 use Rattle.unifying.specs.Contracts.PrefixForm.{view-of}
-use Rattle.deciding.specs.declared.decide.Decision.{Decision}
-use Rattle.deciding.specs.declared.decide.Decision.the-variants.{Yes, No, Refused}
+use Rattle.deciding.specs.declared.decide.Answer.{Answer}
+use Rattle.deciding.specs.declared.decide.Answer.the-variants.{Yes, No, Refused}
 
-unfoldable pub decision-of : Decision → Answered
-decision-of (Yes turns) = answered true turns
-decision-of (No turns) = answered false turns
-decision-of (Refused r) = unanswered r
+unfoldable pub answered-as : Answer → Answered
+answered-as (Yes turns) = answered true turns
+answered-as (No turns) = answered false turns
+answered-as (Refused r) = unanswered r
 
 -- The answer for source > target as it is defined, over an equation's bytes and sizes.
 abbrev pub decided : (nodes sizes : List ℕ) (source target : ℕ) → Answered
 decided nodes sizes source target = answer-of (always-walk enough (view-of nodes sizes) source target)
 
 -- Yes where a line is left unfinished, and else no.
-pub record Told (top turns : ℕ) (r : Decision) : Type 0 where
+pub record Told (top turns : ℕ) (r : Answer) : Type 0 where
   pub left : top < max-lines → r ≡ Yes turns
   pub none-left : max-lines ≤ top → r ≡ No turns

@@ -15,7 +15,7 @@ abbrev pub judgement-room : ℕ
 judgement-room = frame-room 3
 
 abbrev pub comparison-room : ℕ
-comparison-room = frame-room 2
+comparison-room = frame-room 3
 
 abbrev pub total-room : ℕ
 total-room = frame-room 3

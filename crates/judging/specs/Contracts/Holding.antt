@@ -7,17 +7,12 @@ use mathlib.Core.List.{List, [], _∷_, map}
 use lib.ListN.{length, getD}
 use lib.Seq.{slice}
 use Rattle.format.specs.Limits.{position-count, variable-count, max-elements}
-use Rattle.terms.specs.Term.{Term, Values, Ground}
+use Rattle.terms.specs.Term.{Term, Values}
 use Rattle.solving.specs.Line.{Bindings, Element, equal, greater, Line, line, binding-byte, element-bytes}
 use Rattle.comparing.specs.Contracts.Nodes.{TermAt, resolved}
+use Rattle.comparing.specs.Contracts.Cells.{BothGround}
 use Rattle.judging.specs.declared.trimmed.KeptLines.{KeptLines}
 use Rattle.judging.specs.Contracts.Trimmed.{trimmed, trimmed-lines}
-
--- Two ground terms over the same symbols. Of such terms one exceeds the other, or they are identical.
-pub record BothGround (s t : Term) : Type 0 where
-  pub arities : List ℕ
-  pub first : Ground arities s
-  pub second : Ground arities t
 
 module _ (nodes lengths values : List ℕ) (ρ : Values) (value : ℕ → Term) where
   -- The node of position `p` stands for the instance of the equation's term there.

@@ -1,11 +1,12 @@
--- The ordering is decided by a function that computes.
-use Prim.Native.Nat.{ℕ, _<_}
+-- The ordering, and each of its clauses, is decided by a function that computes.
+use Prim.Native.Nat.{ℕ}
 use mathlib.Core.Path.{_≡_, refl}
 use native.Mathlib.Decide.{ℕ-discrete, decLt}
-use native.Mathlib.Omega.{arith}
 use Rattle.terms.specs.Term.{Term, Terms, var, app, nil, cons, identical?}
 use Rattle.terms.specs.Theory.Induction.{Each, each-nil, each-cons, term-ind}
-use Rattle.ordering.specs.Order.{_≻_, L1, L2, L3, SomeReaches, here-equal, here-greater, there, ExceedsAll, none, more, Lexicographic, at-first, at-later}
+use Rattle.ordering.specs.Order.{_≻_, SomeReaches, here-equal, here-greater, there, ExceedsAll, none, more, Lexicographic, at-first, at-later}
+use Rattle.ordering.specs.Clause.{Clause, by-L1, by-L2, by-L3, Applies}
+use Rattle.ordering.specs.Theory.Clause.{none-applies, L1-asks, L2-asks, L3-asks, var-not-L2, var-not-L3}
 use Rattle.ordering.specs.Theory.Subterm.{var-exceeds-nothing}
 use Rattle.ordering.specs.Theory.Laws.{≻-irrefl}
 
@@ -78,34 +79,55 @@ lexicographic? (each-cons {t = s} p ps) (each-cons {t = t} q qs) =
       ]
     ]
 
--- L1, L2 and L3 together.
-pub var-not : {f v : ℕ} {ss : Terms} → ¬ SomeReaches ss (var v) → ¬ (app f ss ≻ var v)
-var-not n (L1 p) = n p
+-- Does a clause apply? Each is decided by itself.
+var-applies? : {f : ℕ} {ss : Terms} (c : Clause) → Each DecidedFrom ss → (v : ℕ) → Dec (Applies c (app f ss) (var v))
+var-applies? by-L1 ps v = elim (some-reaches? ps (var v)) [ yes p ↦ yes (L1-asks .1 p) | no n ↦ no (λ x. n (L1-asks .0 x)) ]
+var-applies? by-L2 ps v = no var-not-L2
+var-applies? by-L3 ps v = no var-not-L3
 
-pub app-not : {f g : ℕ} {ss ts : Terms} → ¬ SomeReaches ss (app g ts) → (g < f → ¬ ExceedsAll (app f ss) ts) → (f ≡ g → ¬ Lexicographic (app f ss) ss ts)
-    → ¬ (app f ss ≻ app g ts)
-app-not a b c (L1 p) = a p
-app-not a b c (L2 i x) = b i x
-app-not a b c (L3 l) = c refl l
-
-exceeds-var? : {f : ℕ} {ss : Terms} → Each DecidedFrom ss → (v : ℕ) → Decided (app f ss) (var v)
-exceeds-var? ps v = elim (some-reaches? ps (var v)) [ yes p ↦ yes (L1 p) | no n ↦ no (var-not n) ]
-
-exceeds-app? : {f g : ℕ} {ss ts : Terms} → Each DecidedFrom ss → Each (Decided (app f ss)) ts → Decided (app f ss) (app g ts)
-exceeds-app? {f} {g} {ss} {ts} ps qs =
-    elim (some-reaches? ps (app g ts)) [
-      | yes p ↦ yes (L1 p)
-      | no n ↦ elim (decLt g f) [
-        | yes i ↦ elim (exceeds-all? qs) [ yes a ↦ yes (L2 i a) | no k ↦ no (app-not n (λ j a. k a) (λ e l. omega arith)) ]
-        | no i ↦ elim (ℕ-discrete f g) [
-          | yes e ↦ elim (lexicographic? ps qs) [ yes l ↦ yes (rw (← e) (L3 l)) | no k ↦ no (app-not n (λ j a. i j) (λ d l. k l)) ]
-          | no d ↦ no (app-not n (λ j a. i j) (λ e l. d e))
-        ]
-      ]
+app-applies? : {f g : ℕ} {ss ts : Terms} (c : Clause) → Each DecidedFrom ss → Each (Decided (app f ss)) ts → Dec (Applies c (app f ss) (app g ts))
+app-applies? {g = g} {ts = ts} by-L1 ps qs = elim (some-reaches? ps (app g ts)) [ yes p ↦ yes (L1-asks .1 p) | no n ↦ no (λ x. n (L1-asks .0 x)) ]
+app-applies? {f} {g} by-L2 ps qs =
+    elim (decLt g f) [
+      | yes i ↦ elim (exceeds-all? qs) [ yes a ↦ yes (L2-asks .1 (i, a)) | no k ↦ no (λ x. k (L2-asks .0 x .1)) ]
+      | no i ↦ no (λ x. i (L2-asks .0 x .0))
+    ]
+app-applies? {f} {g} by-L3 ps qs =
+    elim (ℕ-discrete f g) [
+      | yes e ↦ elim (lexicographic? ps qs) [ yes l ↦ yes (L3-asks .1 (e, l)) | no k ↦ no (λ x. k (L3-asks .0 x .1)) ]
+      | no d ↦ no (λ x. d (L3-asks .0 x .0))
     ]
 
+-- s > t is decided by asking the three clauses one after the other.
+any-applies? : {s t : Term} → ((c : Clause) → Dec (Applies c s t)) → Decided s t
+any-applies? {s} {t} d =
+    elim (d by-L1) [
+      | yes x ↦ yes (x .shown)
+      | no n ↦ elim (d by-L2) [
+        | yes x ↦ yes (x .shown)
+        | no m ↦ elim (d by-L3) [ yes x ↦ yes (x .shown) | no k ↦ no (none-applies (not-any n m k)) ]
+      ]
+    ]
+  where
+    not-any : ¬ Applies by-L1 s t → ¬ Applies by-L2 s t → ¬ Applies by-L3 s t → (c : Clause) → ¬ Applies c s t
+    not-any n m k by-L1 = n
+    not-any n m k by-L2 = m
+    not-any n m k by-L3 = k
+
 unfoldable pub exceeds? : (s t : Term) → Dec (s ≻ t)
-unfolding term-ind exceeds-var? exceeds-app? some-reaches? exceeds-all? lexicographic? identical? ℕ-discrete decLt
+unfolding term-ind any-applies? var-applies? app-applies? some-reaches? exceeds-all? lexicographic? identical? ℕ-discrete decLt
 exceeds? =
     term-ind DecidedFrom (λ v t. no var-exceeds-nothing) (λ f ss ps.
-    term-ind (Decided (app f ss)) (λ v. exceeds-var? ps v) (λ g ts qs. exceeds-app? ps qs))
+    term-ind (Decided (app f ss)) (λ v. any-applies? (λ c. var-applies? c ps v)) (λ g ts qs. any-applies? (λ c. app-applies? c ps qs)))
+
+-- What holds of every term holds of each of a list.
+unfoldable each : {P : Term → Type 0} → ((t : Term) → P t) → (ts : Terms) → Each P ts
+each p nil = each-nil
+each p (cons t ts) = each-cons (p t) (each p ts)
+
+-- Whether a clause applies to two terms.
+unfoldable pub applies? : (c : Clause) (s t : Term) → Dec (Applies c s t)
+unfolding exceeds? each var-applies? app-applies? some-reaches? exceeds-all? lexicographic? identical? ℕ-discrete decLt
+applies? c (var v) t = no (λ x. var-exceeds-nothing (x .shown))
+applies? c (app f ss) (var v) = var-applies? c (each exceeds? ss) v
+applies? c (app f ss) (app g ts) = app-applies? c (each exceeds? ss) (each (exceeds? (app f ss)) ts)

@@ -1,10 +1,12 @@
--- The relation is L1 to L3 word for word: for s = f(s1..sm), t = g(t1..tn), with arguments counted from 0.
+-- The relation, and each clause by itself, is L1 to L3 word for word: for s = f(s1..sm), t = g(t1..tn), with arguments counted from 0.
 use Prim.Native.Nat.{ℕ, zero, suc, _<_}
 use mathlib.Core.Path.{_≡_, refl}
 use mathlib.Core.Logic.{_⊎_, inl, inr, _↔_}
 use native.Mathlib.Omega.{arith}
 use Rattle.terms.specs.Term.{Term, Terms, app, nil, cons, count, nth}
-use Rattle.ordering.specs.Order.{_≻_, L1, L2, L3, SomeReaches, here-equal, here-greater, there, ExceedsAll, none, more, Lexicographic, at-first, at-later}
+use Rattle.ordering.specs.Clause.{Clause, by-L1, by-L2, by-L3, clause-of, Applies}
+use Rattle.ordering.specs.Theory.Clause.{applied, L1-asks, L2-asks, L3-asks}
+use Rattle.ordering.specs.Order.{_≻_, SomeReaches, here-equal, here-greater, there, ExceedsAll, none, more, Lexicographic, at-first, at-later}
 
 -- s is `app f ss` and t is `app g ts`; m is `count ss` and n is `count ts`; si is `nth ss i d` and ti is `nth ts i d`.
 -- (`nth` gives `d` beyond the end of a list, and no place beyond the end is asked for.)
@@ -83,16 +85,33 @@ module _ (d : Term) where
   lexicographic-from (cons s ss) (cons t ts) (suc k) x y b g c =
       rw (b zero (omega arith)) (at-later (lexicographic-from ss ts k (omega arith) (omega arith) (λ i l. b (suc i) (omega arith)) g (λ i l h. c (suc i) (omega arith) (omega arith))))
 
-  literal-to : {f g : ℕ} {ss ts : Terms} → app f ss ≻ app g ts → Rule1 f ss g ts d ⊎ Rule2 f ss g ts d ⊎ Rule3 f ss g ts d
-  literal-to (L1 p) = inl (some-to p)
-  literal-to (L2 i a) = inr (inl (i, all-to a))
-  literal-to (L3 l) = let (k, x, y, b, g, c) = lexicographic-to l in inr (inr (refl, k, x, y, b, g, c))
+-- Each clause by itself: it applies exactly if its words hold.
+module _ {f g : ℕ} {ss ts : Terms} (d : Term) where
+  pub literal-L1 : Applies by-L1 (app f ss) (app g ts) ↔ Rule1 f ss g ts d
+  literal-L1 = (λ x. some-to d (L1-asks .0 x), λ r. L1-asks .1 (some-from d ss (r .0) (r .1) (r .2)))
 
-  literal-from : {f g : ℕ} {ss ts : Terms} → Rule1 f ss g ts d ⊎ Rule2 f ss g ts d ⊎ Rule3 f ss g ts d → app f ss ≻ app g ts
-  literal-from {ss = ss} (inl r) = L1 (some-from ss (r .0) (r .1) (r .2))
-  literal-from {ts = ts} (inr (inl r)) = L2 (r .0) (all-from ts (r .1))
-  literal-from {ss = ss} {ts = ts} (inr (inr r)) = let (e, k, x, y, b, g, c) = r in rw (← e) (L3 (lexicographic-from ss ts k x y b g c))
+  pub literal-L2 : Applies by-L2 (app f ss) (app g ts) ↔ Rule2 f ss g ts d
+  literal-L2 = (λ x. let (i, a) = L2-asks .0 x in (i, all-to d a), λ r. L2-asks .1 (r .0, all-from d ts (r .1)))
+
+  pub literal-L3 : Applies by-L3 (app f ss) (app g ts) ↔ Rule3 f ss g ts d
+  literal-L3 = (
+    λ x. let (e, l) = L3-asks .0 x in let (k, m, n, b, h, c) = lexicographic-to d l in (e, k, m, n, b, h, c),
+    λ r. let (e, k, m, n, b, h, c) = r in L3-asks .1 (e, lexicographic-from d ss ts k m n b h c),
+  )
 
 -- "s > t exactly if" L1 or L2 or L3.
 pub ≻-literal : (f : ℕ) (ss : Terms) (g : ℕ) (ts : Terms) (d : Term) → (app f ss ≻ app g ts) ↔ (Rule1 f ss g ts d ⊎ Rule2 f ss g ts d ⊎ Rule3 f ss g ts d)
-≻-literal f ss g ts d = (literal-to d, literal-from d)
+≻-literal f ss g ts d = (to, from)
+  where
+    to : app f ss ≻ app g ts → Rule1 f ss g ts d ⊎ Rule2 f ss g ts d ⊎ Rule3 f ss g ts d
+    to h = by-clause (clause-of h) (applied h)
+      where
+        by-clause : (c : Clause) → Applies c (app f ss) (app g ts) → Rule1 f ss g ts d ⊎ Rule2 f ss g ts d ⊎ Rule3 f ss g ts d
+        by-clause by-L1 x = inl (literal-L1 d .0 x)
+        by-clause by-L2 x = inr (inl (literal-L2 d .0 x))
+        by-clause by-L3 x = inr (inr (literal-L3 d .0 x))
+
+    from : Rule1 f ss g ts d ⊎ Rule2 f ss g ts d ⊎ Rule3 f ss g ts d → app f ss ≻ app g ts
+    from (inl r) = literal-L1 d .1 r .shown
+    from (inr (inl r)) = literal-L2 d .1 r .shown
+    from (inr (inr r)) = literal-L3 d .1 r .shown

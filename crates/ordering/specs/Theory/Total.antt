@@ -5,7 +5,7 @@ use mathlib.Core.Logic.{_⊎_, inl, inr, _↔_}
 use mathlib.Core.List.{List}
 use native.Mathlib.Decide.{ℕ-discrete, decLt}
 use native.Mathlib.Omega.{arith}
-use Rattle.terms.specs.Term.{Term, Terms, app, cons, count, Ground, Grounds, identical?}
+use Rattle.terms.specs.Term.{Term, Terms, app, nil, cons, count, Ground, Grounds, identical?}
 use Rattle.terms.specs.Theory.Induction.{Each, each-nil, each-cons, each-map, term-ind}
 use Rattle.ordering.specs.Order.{_≻_, L1, L2, L3, SomeReaches, here-equal, here-greater, there, ExceedsAll, none, more, Lexicographic, at-first, at-later}
 use Rattle.ordering.specs.Verdict.{Verdict, smaller, equal, greater, verdict}
@@ -96,6 +96,19 @@ module _ (arities : List ℕ) where
       term-ind (λ s. Ground arities s → Compared s) (λ v x. absurd x) (λ f ss ps x.
       term-ind (λ t. Ground arities t → Trichotomy (app f ss) t) (λ v y. absurd y) (λ g ts rs y.
       app-app x y (each-ground ps (x .2)) (each-ground rs (y .2)))) s x t y
+
+  each-compared : {s : Term} → Ground arities s → (ts : Terms) → Grounds arities ts → Each (λ t. Trichotomy t s) ts
+  each-compared x nil y = each-nil
+  each-compared x (cons t ts) y = each-cons (trichotomy (y .0) x) (each-compared x ts (y .1))
+
+  -- Of ground terms one reaches s, or s exceeds them all; not both, by `exceeded-not-reached`.
+  pub reached-or-exceeded : {s : Term} → Ground arities s → (ts : Terms) → Grounds arities ts → SomeReaches ts s ⊎ ExceedsAll s ts
+  reached-or-exceeded x ts y = some-or-all (each-compared x ts y)
+
+pub exceeded-not-reached : {s : Term} {ts : Terms} → ExceedsAll s ts → ¬ SomeReaches ts s
+exceeded-not-reached (more g a) here-equal = ≻-irrefl g
+exceeded-not-reached (more g a) (here-greater h) = ≻-asym g h
+exceeded-not-reached (more g a) (there p) = exceeded-not-reached a p
 
 -- What a verdict says of two terms.
 abbrev pub VerdictSays : Verdict → Term → Term → Type 0

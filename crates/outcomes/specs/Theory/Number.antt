@@ -5,7 +5,7 @@ use native.Mathlib.Omega.{arith}
 use Rattle.format.specs.Refusal.{number}
 use Rattle.format.specs.declared.refusal.Refusal.{Refusal}
 use Rattle.format.specs.declared.refusal.Refusal.the-variants.{TextLength as text-length, Digits as digits, FrameOrder as frame-order, SymbolFrame as symbol-frame, FrameBytes as frame-bytes, NotGround as not-ground, AbsentDirection as absent-direction, TooManyTurns as too-many-turns, TooManyElements as too-many-elements, TooManyLines as too-many-lines, ShortBuffer as short-buffer, AbsentArgument as absent-argument}
-use Rattle.outcomes.specs.Buffer.{field-limit, fields, refusal-number, refusal-byte}
+use Rattle.outcomes.specs.Buffer.{field-limit, fields, first-field, refusal-number, refusal-byte}
 
 pub number-range : (r : Refusal) → (1 ≤ number r) × (number r ≤ 12)
 number-range text-length = omega arith
@@ -31,6 +31,10 @@ refused-byte r line = omega (arith, number-range r)
 
 pub refused-not-zero : (r : Refusal) (line : ℕ) → refusal-byte (refusal-number r line) ≡ 0 → ⊥
 refused-not-zero r line e = omega (arith, refused-byte r line, number-range r)
+
+pub first-field-of : (a b c : ℕ) → a < field-limit → first-field (fields a b c) ≡ a
+unfolding first-field fields
+first-field-of a b c h = omega arith
 
 -- Fields that are 16-bit numbers make one 64-bit number.
 pub fields-fit : (a b c : ℕ) → a < field-limit → b < field-limit → c < field-limit → fields a b c < 2 ^ 64

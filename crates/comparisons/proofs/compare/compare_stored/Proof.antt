@@ -1,27 +1,28 @@
--- `compare_stored` gives the verdict of the two terms that stand in the nodes.
+-- `compare_stored` gives the decision on the two terms that stand in the nodes.
 use Prim.Native.Nat.{_+_}
 use mathlib.Core.Path.{refl, sym, ap, _∙_}
 use native.Mathlib.Omega.{arith}
 use borrow.Author.Needs.{needs}
 use Rattle.format.specs.Limits.{position-count}
 use Rattle.format.specs.Theory.Behind.{cells-there}
-use Rattle.comparisons.proofs.Stored.{pair-stands, no-row-ready, scratch-cleared}
+use Rattle.comparisons.proofs.Stored.{pair-stands, pair-ground, no-row-ready, scratch-cleared}
 use Rattle.comparisons.proofs.compare.compare_stored.Statement.{statement}
 use Rattle.comparisons.proofs.compare.compare_stored.Tie as tie
 
 shared-slice-read-wide : tie.Need-shared-slice-read-wide
 shared-slice-read-wide c = let (s, t, p) = c .before .before .before .before .pre .0 in omega (arith, p .loaded .lengths-length)
 
-slice-aggregate-exceeds-3 : tie.Need-slice-aggregate-exceeds-3
-slice-aggregate-exceeds-3 c = let start = c .before .before .before .before .before .before .before .before in sym (cells-there (start .args .scratch .now) (start .pre .1))
+slice-aggregate-compare-3 : tie.Need-slice-aggregate-compare-3
+slice-aggregate-compare-3 c = let start = c .before .before .before .before .before .before .before .before in sym (cells-there (start .args .scratch .now) (start .pre .1))
 
-exceeds-requires : tie.Need-exceeds-requires
-exceeds-requires c κs =
+compare-requires : tie.Need-compare-requires
+compare-requires c κs =
     let start = c .before .before .before .before .before .before .before .before in
     let (s, t, p) = start .pre .0 in
-    let two = pair-stands p _ (ap (position-count +_) (c .before .before .before .wide .ensures .0)) in (
-      no-row-ready p _ (start .args .scratch .now) refl (start .pre .1),
-      (record { term = s; denotes = two .first-stands _ }, (record { term = t; denotes = two .second-stands _ }, two .second-low)),
+    let two = pair-stands p _ (ap (position-count +_) (c .before .before .before .wide .ensures .0)) in
+    let none = no-row-ready p _ (start .args .scratch .now) refl (start .pre .1) in (
+      none,
+      ((record { term = s; denotes = two .first-stands _ }, none .symbols position-count (omega arith)), (record { term = t; denotes = two .second-stands _ }, two .second-low)),
     )
 
 fill-requires : tie.Need-fill-requires
@@ -32,12 +33,12 @@ same-length c = c .before .scratch2 .given ∙ c .before .before .before .before
 
 returns : tie.Need-returns
 returns c =
-    let at-exceeds = c .before .before .before .before .before .before .before in
-    let at-wide = at-exceeds .before .before .before .before in
+    let at-compare = c .before .before .before .before .before .before .before in
+    let at-wide = at-compare .before .before .before .before in
     let start = at-wide .before .before .before .before .before in
-    let exceeds = at-exceeds .exceeds in (
-      λ s t p. let two = pair-stands p _ (ap (position-count +_) (at-wide .wide .ensures .0)) in exceeds .ensures .0 .is s t (two .first-stands _) (two .second-stands _),
-      scratch-cleared (start .args .scratch .now) (exceeds .last .1 .1 .1 .1 .0) _ (start .pre .1) (exceeds .kept .1 .1 .1 .1 .0) (c .before .before .fill .ensures),
+    let compared = at-compare .compare in (
+      λ s t p. let two = pair-stands p _ (ap (position-count +_) (at-wide .wide .ensures .0)) in compared .ensures .0 .is s t (two .first-stands _) (two .second-stands _) (pair-ground p),
+      scratch-cleared (start .args .scratch .now) (compared .last .1 .1 .1 .1 .0) _ (start .pre .1) (compared .kept .1 .1 .1 .1 .0) (c .before .before .fill .ensures),
     )
 
 pub compare-stored-spec : {M : Type 1} → statement M
@@ -50,8 +51,8 @@ compare-stored-spec =
     (λ c. search needs)
     (λ c. search needs)
     (λ c. search needs)
-    slice-aggregate-exceeds-3
-    exceeds-requires
+    slice-aggregate-compare-3
+    compare-requires
     fill-requires
     same-length
     returns)

@@ -25,14 +25,8 @@ compare-terms-requires c κs =
       (known-roomy _ (start .args .scratch .now) (start .args .task) _ (start .pre .0), start .pre .1),
     )
 
-number-of-verdict-requires : tie.Need-number-of-verdict-requires
-number-of-verdict-requires c κs = search needs
-
-cast-fields-number : tie.Need-cast-fields-number
-cast-fields-number c = search needs
-
-fields-number-requires : tie.Need-fields-number-requires
-fields-number-requires c κs = search needs
+decision-number-requires : tie.Need-decision-number-requires
+decision-number-requires c κs = search needs
 
 enum-told-2 : tie.Need-enum-told-2
 enum-told-2 c = search needs
@@ -51,12 +45,12 @@ same-length c = search needs
 
 returns-2 : tie.Need-returns-2
 returns-2 c =
-    let told = c .before .before .before .before in
+    let told = c .before .before .before in
     let found = told .before .before .before .before in
     let start = found .before .before .before .before in
     let compared = told .compare-terms in
     comparison-there _ (start .args .scratch .now) _ _ (start .pre .0) (found .before .if1 .left) (found .find-task .result) (found .find-task .ensures) (told .before .before .enum-told .given .1)
-    (compared .result) _ (compared .ensures .0) (c .before .number-of-verdict .ensures) (c .fields-number .ensures) (compared .ensures .1)
+    (compared .result) _ (compared .ensures .0) (c .decision-number .ensures) (compared .ensures .1)
 
 returns-3 : tie.Need-returns-3
 returns-3 c =
@@ -79,9 +73,7 @@ compare-task-spec =
     find-task-requires
     enum-told
     compare-terms-requires
-    number-of-verdict-requires
-    cast-fields-number
-    fields-number-requires
+    decision-number-requires
     enum-told-2
     refusal-number-requires-2
     enum-told-3

@@ -1,4 +1,4 @@
--- `compare_terms` gives the verdict of the two terms that the digits write.
+-- `compare_terms` gives the decision on the two terms that the digits write.
 use mathlib.Core.Path.{refl}
 use borrow.Author.Needs.{needs}
 use Rattle.format.specs.Limits.{node-count}

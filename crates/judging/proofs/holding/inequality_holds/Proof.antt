@@ -3,6 +3,7 @@ use Prim.Native.Nat.{ℕ}
 use mathlib.Core.Path.{_≡_}
 use mathlib.Core.Logic.{inl, inr}
 use native.Mathlib.Omega.{arith}
+use Rattle.ordering.specs.Theory.Decision.{verdict-of-smaller, verdict-of-greater, is-smaller, is-greater}
 use Rattle.judging.proofs.Answer.{so, not-so}
 use Rattle.judging.proofs.Terms.{resolvable, readable, measurable, instance-node, has-instance, one-low, inequality-fails, inequality-told, inequality-greater, inequality-not-greater, inequality-smaller, inequality-not-smaller}
 use borrow.Author.Needs.{needs}
@@ -63,45 +64,45 @@ returns-2 c =
     let at-t = at-size .before .before .before .before in
     (λ ρ value x. so (inequality-told x (at-t .before .resolve .ensures) (at-t .resolve2 .ensures) (at-size .if3 .taken) (c .if4 .taken)), at-t .before .before .before .before .before .before .before .pre .0)
 
-exceeds-requires : tie.Need-exceeds-requires
-exceeds-requires c κs =
+compare-requires : tie.Need-compare-requires
+compare-requires c κs =
     let at-t = c .before .before .before .before .before .before .before in
     let start = at-t .before .before .before .before .before .before .before in
     let x = start .pre .1 .testable in
     let s = at-t .before .resolve .ensures in
     let t = at-t .resolve2 .ensures in
-    (start .pre .0, (has-instance (x .1) t, (has-instance (x .0) s, one-low x s t (c .before .before .if5 .taken))))
+    (start .pre .0, ((has-instance (x .1) t, instance-node (x .1) t .symbol), (has-instance (x .0) s, one-low x s t (c .before .before .if5 .taken))))
 
 returns-3 : tie.Need-returns-3
 returns-3 c =
-    let at-exceeds = c .before .before .before .before .before in
-    let at-t = at-exceeds .before .before .before .before .before .before .before .before in
-    (λ ρ value x. not-so (inequality-not-smaller x (at-t .before .resolve .ensures) (at-t .resolve2 .ensures) (at-exceeds .exceeds .ensures .0) (λ e. elim (c .match .keys2) [ inl k ↦ (let z : _≡_ {A = ℕ} 0 1 = rw e at k in omega arith) | inr k ↦ (let z : _≡_ {A = ℕ} 0 2 = rw e at k in omega arith) ])), at-exceeds .exceeds .ensures .1)
+    let at-compare = c .before .before .before .before .before in
+    let at-t = at-compare .before .before .before .before .before .before .before .before in
+    (λ ρ value x. not-so (inequality-not-smaller x (at-t .before .resolve .ensures) (at-t .resolve2 .ensures) (at-compare .compare .ensures .0 .verdict-is) (λ e. let (b, d) = is-smaller (at-compare .compare .result) e in elim (c .match .keys2) [ inl k ↦ (let z : _≡_ {A = ℕ} 0 1 = rw d at k in omega arith) | inr k ↦ (let z : _≡_ {A = ℕ} 0 2 = rw d at k in omega arith) ])), at-compare .compare .ensures .1)
 
 returns-4 : tie.Need-returns-4
 returns-4 c =
-    let at-exceeds = c .before .before .before .before .before .before in
-    let at-t = at-exceeds .before .before .before .before .before .before .before .before in
-    (λ ρ value x. so (inequality-smaller x (at-t .before .resolve .ensures) (at-t .resolve2 .ensures) (at-exceeds .exceeds .ensures .0) (c .enum-told .given .1)), at-exceeds .exceeds .ensures .1)
+    let at-compare = c .before .before .before .before .before .before in
+    let at-t = at-compare .before .before .before .before .before .before .before .before in
+    (λ ρ value x. so (inequality-smaller x (at-t .before .resolve .ensures) (at-t .resolve2 .ensures) (at-compare .compare .ensures .0 .verdict-is) (verdict-of-smaller (c .enum-told .given .1))), at-compare .compare .ensures .1)
 
-exceeds-requires-2 : tie.Need-exceeds-requires-2
-exceeds-requires-2 c κs =
+compare-requires-2 : tie.Need-compare-requires-2
+compare-requires-2 c κs =
     let at-t = c .before .before .before .before .before .before .before in
     let start = at-t .before .before .before .before .before .before .before in
     let x = start .pre .1 .testable in
-    (start .pre .0, (has-instance (x .0) (at-t .before .resolve .ensures), (has-instance (x .1) (at-t .resolve2 .ensures), c .before .before .if5 .left)))
+    (start .pre .0, ((has-instance (x .0) (at-t .before .resolve .ensures), instance-node (x .0) (at-t .before .resolve .ensures) .symbol), (has-instance (x .1) (at-t .resolve2 .ensures), c .before .before .if5 .left)))
 
 returns-5 : tie.Need-returns-5
 returns-5 c =
-    let at-exceeds = c .before .before .before .before .before in
-    let at-t = at-exceeds .before .before .before .before .before .before .before .before in
-    (λ ρ value x. not-so (inequality-not-greater x (at-t .before .resolve .ensures) (at-t .resolve2 .ensures) (at-exceeds .exceeds2 .ensures .0) (λ e. elim (c .match2 .keys2) [ inl k ↦ (let z : _≡_ {A = ℕ} 2 0 = rw e at k in omega arith) | inr k ↦ (let z : _≡_ {A = ℕ} 2 1 = rw e at k in omega arith) ])), at-exceeds .exceeds2 .ensures .1)
+    let at-compare = c .before .before .before .before .before in
+    let at-t = at-compare .before .before .before .before .before .before .before .before in
+    (λ ρ value x. not-so (inequality-not-greater x (at-t .before .resolve .ensures) (at-t .resolve2 .ensures) (at-compare .compare2 .ensures .0 .verdict-is) (λ e. let (b, d) = is-greater (at-compare .compare2 .result) e in elim (c .match2 .keys2) [ inl k ↦ (let z : _≡_ {A = ℕ} 2 0 = rw d at k in omega arith) | inr k ↦ (let z : _≡_ {A = ℕ} 2 1 = rw d at k in omega arith) ])), at-compare .compare2 .ensures .1)
 
 returns-6 : tie.Need-returns-6
 returns-6 c =
-    let at-exceeds = c .before .before .before .before .before .before in
-    let at-t = at-exceeds .before .before .before .before .before .before .before .before in
-    (λ ρ value x. so (inequality-greater x (at-t .before .resolve .ensures) (at-t .resolve2 .ensures) (at-exceeds .exceeds2 .ensures .0) (c .enum-told2 .given .1)), at-exceeds .exceeds2 .ensures .1)
+    let at-compare = c .before .before .before .before .before .before in
+    let at-t = at-compare .before .before .before .before .before .before .before .before in
+    (λ ρ value x. so (inequality-greater x (at-t .before .resolve .ensures) (at-t .resolve2 .ensures) (at-compare .compare2 .ensures .0 .verdict-is) (verdict-of-greater (c .enum-told2 .given .1))), at-compare .compare2 .ensures .1)
 
 pub inequality-holds-spec : {M : Type 1} → statement M
 inequality-holds-spec =
@@ -117,7 +118,7 @@ inequality-holds-spec =
     shared-slice-read-if4
     shared-slice-read-if4-2
     returns-2
-    exceeds-requires
+    compare-requires
     (λ c. search needs)
     (λ c. search needs)
     (λ c. search needs)
@@ -125,7 +126,7 @@ inequality-holds-spec =
     (λ c. search needs)
     (λ c. search needs)
     returns-4
-    exceeds-requires-2
+    compare-requires-2
     (λ c. search needs)
     (λ c. search needs)
     (λ c. search needs)

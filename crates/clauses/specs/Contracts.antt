@@ -1,0 +1,3 @@
+-- What the code of the comparison with its clause cites.
+pub mod Clauses
+pub mod Kept

@@ -1,0 +1,3 @@
+// The comparison of two whole terms, with the clause that decided it.
+pub mod compare;
+pub mod kept;
