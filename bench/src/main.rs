@@ -133,8 +133,7 @@ fn solve(rows: &mut Table) {
                 sheet: format!("{name}, {}", ["left > right", "right > left"][usize::from(direction)]),
                 work: format!("{}, {ended}", counted(turns as usize, "turn")),
                 whole: Pair { proved, plain },
-                // The difference of two calls does not tell what few turns take.
-                unit: (100 <= turns).then_some(("turn", Pair { proved: one, plain: plain_one })),
+                unit: (TOLD_TURNS <= turns).then_some(("turn", Pair { proved: one, plain: plain_one })),
             });
         }
     }
@@ -156,20 +155,29 @@ fn always(rows: &mut Table) {
     }
 }
 
-/// Where always says no it takes as many turns as solve: beside solve, both proved.
+/// Where always says no it takes as many turns as solve: beside solve, both proved. The whole calls, of which always leaves the table's bytes ff
+/// besides; and a turn alone, by what a call takes beyond that on an equation that takes no turn.
 fn no_beside_solve(rows: &mut Table) {
     let [mut table, mut scratch, ..] = lent();
     for (name, sheet) in asked() {
+        let sheet = beside_no_turn(&sheet);
         for direction in 0..2 {
             let number = calls::always(&sheet, 0, direction, &mut table, &mut scratch);
             if number & 0xff_ffff != 0 {
                 continue;
             }
-            let [proved, plain] = times(|case| match case {
+            let turns = (number >> 24) as f64;
+            let [always, solve, always_none, solve_none] = times(|case| match case {
                 0 => calls::always(&sheet, 0, direction, &mut table, &mut scratch),
-                _ => calls::solve(&sheet, 0, direction, &mut table, &mut scratch),
+                1 => calls::solve(&sheet, 0, direction, &mut table, &mut scratch),
+                2 => calls::always(&sheet, 1, direction, &mut table, &mut scratch),
+                _ => calls::solve(&sheet, 1, direction, &mut table, &mut scratch),
             });
-            rows.add(always_row("as solve", name, direction, number, Pair { proved, plain }));
+            let [proved, plain] = [always - always_none, solve - solve_none].map(|ns| ns / turns);
+            let whole = Pair { proved: always, plain: solve };
+            let mut row = always_row("as solve", name, direction, number, whole);
+            row.unit = (TOLD_TURNS as f64 <= turns).then_some(("turn", Pair { proved, plain }));
+            rows.add(row);
         }
     }
 }
@@ -219,18 +227,22 @@ const SEARCHED: [(&str, &[u8]); 5] = [
     ),
 ];
 
-/// The symbols and the equation of special sheets, and those searched; behind it the equation x = y, whose walk has no turn.
+/// Special sheets with long walks, and those searched.
 fn walked() -> Vec<(&'static str, Vec<u8>)> {
     let mut sheets = special();
     sheets.retain(|(name, _)| WALKS.contains(name));
     sheets.extend(SEARCHED.map(|(name, sheet)| (name, sheet.to_vec())));
-    for (_, sheet) in &mut sheets {
-        let end: usize = sheet.split_inclusive(|&byte| byte == b'\n').take(2).map(<[u8]>::len).sum();
-        sheet.truncate(end);
-        sheet.extend(text(&[vec![2, 0x80, 0x81]]));
-    }
-    sheets
+    sheets.into_iter().map(|(name, sheet)| (name, beside_no_turn(&sheet))).collect()
 }
+
+/// A sheet's symbols and its first equation; behind it the equation x = y, whose walk has no turn.
+fn beside_no_turn(sheet: &[u8]) -> Vec<u8> {
+    let lines = sheet.split_inclusive(|&byte| byte == b'\n').take(2);
+    [lines.collect::<Vec<_>>().concat(), text(&[vec![2, 0x80, 0x81]])].concat()
+}
+
+/// So many turns are told by the difference of two calls; fewer are not.
+const TOLD_TURNS: u32 = 100;
 
 /// The lent table, scratch, term and log.
 fn lent() -> [Vec<u8>; 4] {

@@ -4,6 +4,7 @@ pub mod Rows
 pub mod Smaller
 pub mod Loops
 pub mod Rules
+pub mod ConstantTerms
 pub mod Pair
 pub mod Ready
 pub mod Settled

@@ -83,6 +83,12 @@ module _ {nodes lengths values : List ℕ} {i j : ℕ} (x : Resolves nodes lengt
         low = omega arith;
       }
 
+module _ {nodes lengths values : List ℕ} {i j a : ℕ} (x : Resolves nodes lengths values i a) where
+  -- The verdict of the node that `i` gives way to, with the cells as they are.
+  pub told : {ready cells : List ℕ} {r : Verdict} → SettledCells nodes lengths values ready cells → Compares nodes lengths values a j r
+      → Compares nodes lengths values i j r × SettledCells nodes lengths values ready cells
+  told m c = (compares-resolved (rw (← x .is) c), m)
+
 module _ {nodes lengths values : List ℕ} {i j a : ℕ} (x : Resolves nodes lengths values i a) (y : Resolves nodes lengths values j j) {r : Verdict} where
   -- The verdict of the two nodes, with the cells in which it is settled.
   pub settled : {ready cells after : List ℕ} {q : Verdict} → SettledCells nodes lengths values ready cells → Compares nodes lengths values a j q → r ≡ q
@@ -92,4 +98,4 @@ module _ {nodes lengths values : List ℕ} {i j a : ℕ} (x : Resolves nodes len
   -- The verdict that stands in its cell.
   pub known : {ready cells : List ℕ} → SettledCells nodes lengths values ready cells → 0 < getD ready a 0 → position-count ≤ j → 0 < getD cells (a * node-count + j) 0
       → CellHolds (getD cells (a * node-count + j) 0) r → Compares nodes lengths values i j r × SettledCells nodes lengths values ready cells
-  known m o l h c = (compares-resolved (rw (← x .is) (cell-known m o l h c)), m)
+  known m o l h c = told x m (cell-known m o l h c)

@@ -2,6 +2,8 @@
 use crate::cells::held;
 use crate::cells::make_ready;
 use crate::cells::settle;
+use crate::constants::Told;
+use crate::constants::tell_constants;
 use crate::nodes::resolve;
 use format::limits::Limits;
 use ordering::verdict::Verdict;
@@ -43,6 +45,10 @@ pub fn exceeds(
     ensures { λ _. ⌜ SettledCells (now (nodes .entry)) (now (sizes .entry)) (now (values .entry)) (now (ready .exit)) (now (cells .exit)) ⌝ }
 {
     let s = resolve(nodes, values, i);
+    let told = tell_constants(nodes, sizes, s, j);
+    if let Told::Verdict(verdict) = told {
+        return verdict;
+    }
     make_ready(ready, cells, s);
     let cell = s * Limits::NODES + j;
     let known = cells[cell];

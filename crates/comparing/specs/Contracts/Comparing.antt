@@ -13,6 +13,8 @@ use Rattle.ordering.specs.declared.verdict.Verdict.{Verdict}
 use Rattle.ordering.specs.declared.verdict.Verdict.the-variants.{Smaller as smaller, Equal as equal, Greater as greater}
 use Rattle.ordering.specs.Verdict.{verdict}
 use Rattle.comparing.specs.declared.comparison.Difference.{Difference}
+use Rattle.comparing.specs.declared.constants.Told.{Told}
+use Rattle.comparing.specs.declared.constants.Told.the-variants.{Verdict as told-verdict}
 use Rattle.comparing.specs.Contracts.Nodes.{TermAt, TermsAt}
 
 -- The verdict of two terms that are not equal, by whether the first is greater.
@@ -66,3 +68,7 @@ module _ (nodes lengths values : List ℕ) where
     pub second : HasArguments j (d .second)
     pub second-low : position-count ≤ d .second .from
     pub left : LeftToAsk (d .verdict) (first .here .term) (second .here .term) (first .those .terms) (second .those .terms)
+
+-- What is told of the terms at two nodes is their verdict, whatever the values of the variables are.
+pub record TellsConstants (nodes lengths : List ℕ) (i j : ℕ) (r : Told) : Type 0 where
+  pub is : (v : Verdict) → r ≡ told-verdict v → (values : List ℕ) → Compares nodes lengths values i j v

@@ -12,8 +12,13 @@ pub applied : {s t : Term} (g : s ≻ t) → Applies (clause-of g) s t
 applied g = record { shown = g; by = refl }
 
 -- Where no clause applies, s does not exceed t.
-pub none-applies : {s t : Term} → ((c : Clause) → ¬ Applies c s t) → ¬ (s ≻ t)
-none-applies n g = n (clause-of g) (applied g)
+pub none-applies : {s t : Term} → ¬ Applies by-L1 s t → ¬ Applies by-L2 s t → ¬ Applies by-L3 s t → ¬ (s ≻ t)
+none-applies {s} {t} n m k g = go (clause-of g) (applied g)
+  where
+    go : (c : Clause) → ¬ Applies c s t
+    go by-L1 = n
+    go by-L2 = m
+    go by-L3 = k
 
 asked-by-L1 : {f : ℕ} {ss : Terms} {t : Term} (g : app f ss ≻ t) → clause-of g ≡ by-L1 → SomeReaches ss t
 unfolding clause-of

@@ -100,19 +100,14 @@ app-applies? {f} {g} by-L3 ps qs =
 
 -- s > t is decided by asking the three clauses one after the other.
 any-applies? : {s t : Term} → ((c : Clause) → Dec (Applies c s t)) → Decided s t
-any-applies? {s} {t} d =
+any-applies? d =
     elim (d by-L1) [
       | yes x ↦ yes (x .shown)
       | no n ↦ elim (d by-L2) [
         | yes x ↦ yes (x .shown)
-        | no m ↦ elim (d by-L3) [ yes x ↦ yes (x .shown) | no k ↦ no (none-applies (not-any n m k)) ]
+        | no m ↦ elim (d by-L3) [ yes x ↦ yes (x .shown) | no k ↦ no (none-applies n m k) ]
       ]
     ]
-  where
-    not-any : ¬ Applies by-L1 s t → ¬ Applies by-L2 s t → ¬ Applies by-L3 s t → (c : Clause) → ¬ Applies c s t
-    not-any n m k by-L1 = n
-    not-any n m k by-L2 = m
-    not-any n m k by-L3 = k
 
 unfoldable pub exceeds? : (s t : Term) → Dec (s ≻ t)
 unfolding term-ind any-applies? var-applies? app-applies? some-reaches? exceeds-all? lexicographic? identical? ℕ-discrete decLt

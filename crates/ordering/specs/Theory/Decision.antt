@@ -43,17 +43,12 @@ module _ (s t : Term) where
   unfolding first-clause
   first-applies g = go (applies? by-L1 s t) (applies? by-L2 s t) (applies? by-L3 s t)
     where
-      neither : ¬ Applies by-L1 s t → ¬ Applies by-L2 s t → ¬ Applies by-L3 s t → (c : Clause) → ¬ Applies c s t
-      neither n m k by-L1 = n
-      neither n m k by-L2 = m
-      neither n m k by-L3 = k
-
       go : (d : Dec (Applies by-L1 s t)) (e : Dec (Applies by-L2 s t)) → Dec (Applies by-L3 s t)
           → FirstApplies (elim d as (λ x. Clause) [ yes x ↦ by-L1 | no n ↦ elim e as (λ x. Clause) [ yes x ↦ by-L2 | no m ↦ by-L3 ] ]) s t
       go (yes x) e k = x
       go (no n) (yes x) k = (n, x)
       go (no n) (no m) (yes x) = (n, m, x)
-      go (no n) (no m) (no k) = absurd (none-applies (neither n m k) g)
+      go (no n) (no m) (no k) = absurd (none-applies n m k g)
 
   -- The decision's verdict is the verdict.
   pub decision-verdict : verdict-of (decision s t) ≡ verdict s t

@@ -27,7 +27,7 @@ use ArgumentReaches.{argument-reaches-Inv-loop, argument-reaches-μ-loop, argume
 use CompareArguments.{compare-arguments-first-difference-requires, compare-arguments-argument-reaches-requires, compare-arguments-exceeds-arguments-requires, compare-arguments-returns, compare-arguments-returns-2, compare-arguments-returns-3}
 use CompareSymbols.{compare-symbols-shared-slice-read-f, compare-symbols-shared-slice-read-g, compare-symbols-arguments-of-requires, compare-symbols-argument-reaches-requires, compare-symbols-returns, compare-symbols-arguments-of-requires-2, compare-symbols-exceeds-arguments-requires, compare-symbols-returns-2, compare-symbols-compare-arguments-requires}
 use ExceedsArguments.{exceeds-arguments-Inv-loop, exceeds-arguments-μ-loop, exceeds-arguments-shared-slice-read-f, exceeds-arguments-behind-smaller-requires, exceeds-arguments-loop-holds, exceeds-arguments-exceeds-requires, exceeds-arguments-same-length, exceeds-arguments-same-length-2, exceeds-arguments-returns, exceeds-arguments-other-arguments-requires, exceeds-arguments-behind-smaller-requires-2, exceeds-arguments-loop-less, exceeds-arguments-loop-again, exceeds-arguments-same-length-3, exceeds-arguments-same-length-4, exceeds-arguments-returns-2}
-use Exceeds.{exceeds-resolve-requires, exceeds-make-ready-requires, exceeds-mul-cell, exceeds-add-cell, exceeds-slice-read-known, exceeds-returns, exceeds-compare-symbols-requires, exceeds-settle-requires, exceeds-returns-2}
+use Exceeds.{exceeds-resolve-requires, exceeds-tell-constants-requires, exceeds-make-ready-requires, exceeds-mul-cell, exceeds-add-cell, exceeds-slice-read-known, exceeds-returns, exceeds-compare-symbols-requires, exceeds-settle-requires, exceeds-returns-2, exceeds-returns-3}
 use FirstDifference.{first-difference-Inv-loop, first-difference-μ-loop, first-difference-arguments-of-requires, first-difference-arguments-of-requires-2, first-difference-loop-holds, first-difference-same-length, first-difference-same-length-2, first-difference-returns, first-difference-exceeds-requires, first-difference-other-arguments-requires, first-difference-other-arguments-requires-2, first-difference-loop-less, first-difference-loop-again, first-difference-same-length-3, first-difference-same-length-4, first-difference-returns-2, first-difference-same-length-5, first-difference-same-length-6, first-difference-returns-3, first-difference-same-length-7, first-difference-same-length-8, first-difference-returns-4}
 
 pub +argument-reaches+compare-arguments+compare-symbols+exceeds+exceeds-arguments+first-difference-spec :
@@ -105,6 +105,10 @@ pub +argument-reaches+compare-arguments+compare-symbols+exceeds+exceeds-argument
     (exceeds-at t)
     exceeds.Post
     (exceeds-resolve-requires t)
+    (exceeds-tell-constants-requires t)
+    (λ c. search needs)
+    (exceeds-returns t)
+    (λ c. search needs)
     (exceeds-make-ready-requires t)
     (exceeds-mul-cell t)
     (exceeds-add-cell t)
@@ -112,12 +116,12 @@ pub +argument-reaches+compare-arguments+compare-symbols+exceeds+exceeds-argument
     (λ c κs. search needs)
     (λ c. search needs)
     (λ c. search needs)
-    (exceeds-returns t)
+    (exceeds-returns-2 t)
     (exceeds-compare-symbols-requires t)
     (exceeds-settle-requires t)
     (λ c. search needs)
     (λ c. search needs)
-    (exceeds-returns-2 t))
+    (exceeds-returns-3 t))
     (λ t. exceeds-arguments-lts.spec (argument-reaches-calls t)
     (exceeds-arguments-at t)
     exceeds-arguments.Post

@@ -4,7 +4,7 @@ use native.Mathlib.Omega.{arith}
 use Rattle.comparing.specs.Theory.Nodes.{within}
 use Rattle.comparing.specs.Theory.Cells.{made-ready-settled}
 use Rattle.comparing.proofs.Resolved.{byte-low}
-use Rattle.comparing.proofs.Pair.{resolves, subject-resolves, known, settled}
+use Rattle.comparing.proofs.Pair.{resolves, subject-resolves, told, known, settled}
 use Rattle.comparing.proofs.comparison.exceeds.Reads as exceeds
 use Rattle.comparing.proofs.comparison.+argument_reaches+compare_arguments+compare_symbols+exceeds+exceeds_arguments+first_difference.Lts-exceeds as exceeds-lts
 use Rattle.comparing.proofs.comparison.+argument_reaches+compare_arguments+compare_symbols+exceeds+exceeds_arguments+first_difference.Proof.Measures.{exceeds-at, exceeds-calls}
@@ -16,21 +16,37 @@ exceeds-resolve-requires t c κs =
     let h = start .pre .1 .1 .0 .denotes in
     omega (arith, within h, byte-low h, m .nodes-length, m .values-length)
 
+pub exceeds-tell-constants-requires : (t : ℕ) → exceeds-lts.Need-tell-constants-requires (exceeds-calls t) (exceeds-at t) exceeds.Post
+exceeds-tell-constants-requires t c κs =
+    let start = c .before .before .before .before .before .before in
+    let m = start .pre .1 .0 in
+    let x = resolves (start .pre .1 .1 .0) (c .resolve .ensures) in
+    let y = subject-resolves m (start .pre .1 .1 .1 .0) (start .pre .1 .1 .1 .1) in
+    ((omega (arith, x .below, m .nodes-length), omega (arith, x .below, m .sizes-length), x .symbol), (omega (arith, y .below, m .nodes-length), omega (arith, y .below, m .sizes-length), y .symbol))
+
+pub exceeds-returns : (t : ℕ) → exceeds-lts.Need-returns (exceeds-calls t) (exceeds-at t) exceeds.Post
+exceeds-returns t c =
+    let at-resolve = c .before .before .before .before in
+    let start = at-resolve .before .before .before .before .before .before in
+    let x = resolves (start .pre .1 .1 .0) (at-resolve .resolve .ensures) in
+    told x (start .pre .1 .0) (c .before .before .before .tell-constants .ensures .is _ (c .before .told .given .1) _)
+
 pub exceeds-make-ready-requires : (t : ℕ) → exceeds-lts.Need-make-ready-requires (exceeds-calls t) (exceeds-at t) exceeds.Post
 exceeds-make-ready-requires t c κs =
-    let start = c .before .before .before .before .before .before .before .before in
-    let x = resolves (start .pre .1 .1 .0) (c .before .before .resolve .ensures) in (x .below, start .pre .1 .0 .ready-length, start .pre .1 .0 .cells-length)
+    let at-resolve = c .before .before .before .before .before in
+    let start = at-resolve .before .before .before .before .before .before in
+    let x = resolves (start .pre .1 .1 .0) (at-resolve .resolve .ensures) in (x .below, start .pre .1 .0 .ready-length, start .pre .1 .0 .cells-length)
 
 pub exceeds-mul-cell : (t : ℕ) → exceeds-lts.Need-mul-cell (exceeds-calls t) (exceeds-at t) exceeds.Post
 exceeds-mul-cell t c =
-    let at-resolve = c .before .before .before .before .before .before .before in
+    let at-resolve = c .before .before .before .before .before .before .before .before .before .before in
     let start = at-resolve .before .before .before .before .before .before in
     let resolve = at-resolve .resolve in
     let x = resolves (start .pre .1 .1 .0) (resolve .ensures) in omega (arith, x .below)
 
 pub exceeds-add-cell : (t : ℕ) → exceeds-lts.Need-add-cell (exceeds-calls t) (exceeds-at t) exceeds.Post
 exceeds-add-cell t c =
-    let at-resolve = c .before .before .before .before .before .before .before in
+    let at-resolve = c .before .before .before .before .before .before .before .before .before .before in
     let start = at-resolve .before .before .before .before .before .before in
     let resolve = at-resolve .resolve in
     let x = resolves (start .pre .1 .1 .0) (resolve .ensures) in
@@ -40,7 +56,7 @@ exceeds-add-cell t c =
 pub exceeds-slice-read-known : (t : ℕ) → exceeds-lts.Need-slice-read-known (exceeds-calls t) (exceeds-at t) exceeds.Post
 exceeds-slice-read-known t c =
     let at-make-ready = c .before .before .before .before .before in
-    let at-resolve = at-make-ready .before .before .before in
+    let at-resolve = at-make-ready .before .before .before .before .before .before in
     let start = at-resolve .before .before .before .before .before .before in
     let resolve = at-resolve .resolve in
     let make-ready = at-make-ready .make-ready in
@@ -49,10 +65,10 @@ exceeds-slice-read-known t c =
     let m = made-ready-settled (start .pre .1 .0) (make-ready .ensures) in
     omega (arith, x .below, y .below, m .cells-length)
 
-pub exceeds-returns : (t : ℕ) → exceeds-lts.Need-returns (exceeds-calls t) (exceeds-at t) exceeds.Post
-exceeds-returns t c =
+pub exceeds-returns-2 : (t : ℕ) → exceeds-lts.Need-returns-2 (exceeds-calls t) (exceeds-at t) exceeds.Post
+exceeds-returns-2 t c =
     let at-make-ready = c .before .before .before .before .before .before .before in
-    let at-resolve = at-make-ready .before .before .before in
+    let at-resolve = at-make-ready .before .before .before .before .before .before in
     let start = at-resolve .before .before .before .before .before .before in
     let resolve = at-resolve .resolve in
     let make-ready = at-make-ready .make-ready in
@@ -63,7 +79,7 @@ exceeds-returns t c =
 pub exceeds-compare-symbols-requires : (t : ℕ) → exceeds-lts.Need-compare-symbols-requires (exceeds-calls t) (exceeds-at t) exceeds.Post
 exceeds-compare-symbols-requires t c κs =
     let at-make-ready = c .before .before .before .before .before .before .before .before in
-    let at-resolve = at-make-ready .before .before .before in
+    let at-resolve = at-make-ready .before .before .before .before .before .before in
     let start = at-resolve .before .before .before .before .before .before in
     let resolve = at-resolve .resolve in
     let make-ready = at-make-ready .make-ready in
@@ -73,7 +89,7 @@ exceeds-compare-symbols-requires t c κs =
 pub exceeds-settle-requires : (t : ℕ) → exceeds-lts.Need-settle-requires (exceeds-calls t) (exceeds-at t) exceeds.Post
 exceeds-settle-requires t c κs =
     let at-compare-symbols = c .before .before .before .before .before in
-    let at-resolve = at-compare-symbols .before .before .before .before .before .before .before .before .before .before .before .before in
+    let at-resolve = at-compare-symbols .before .before .before .before .before .before .before .before .before .before .before .before .before .before .before in
     let start = at-resolve .before .before .before .before .before .before in
     let resolve = at-resolve .resolve in
     let compare-symbols = at-compare-symbols .compare-symbols in
@@ -81,10 +97,10 @@ exceeds-settle-requires t c κs =
     let y = subject-resolves (start .pre .1 .0) (start .pre .1 .1 .1 .0) (start .pre .1 .1 .1 .1) in
     omega (arith, x .below, y .below, compare-symbols .ensures .1 .cells-length)
 
-pub exceeds-returns-2 : (t : ℕ) → exceeds-lts.Need-returns-2 (exceeds-calls t) (exceeds-at t) exceeds.Post
-exceeds-returns-2 t c =
+pub exceeds-returns-3 : (t : ℕ) → exceeds-lts.Need-returns-3 (exceeds-calls t) (exceeds-at t) exceeds.Post
+exceeds-returns-3 t c =
     let at-compare-symbols = c .before .before .before .before .before .before .before .before in
-    let at-resolve = at-compare-symbols .before .before .before .before .before .before .before .before .before .before .before .before in
+    let at-resolve = at-compare-symbols .before .before .before .before .before .before .before .before .before .before .before .before .before .before .before in
     let start = at-resolve .before .before .before .before .before .before in
     let resolve = at-resolve .resolve in
     let compare-symbols = at-compare-symbols .compare-symbols in

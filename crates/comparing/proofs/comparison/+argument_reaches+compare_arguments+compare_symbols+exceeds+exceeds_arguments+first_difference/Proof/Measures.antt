@@ -26,6 +26,7 @@ use Rattle.comparing.proofs.cells.make_ready.Reads as make-ready-reads
 use Rattle.comparing.proofs.cells.settle.Reads as settle-reads
 use Rattle.comparing.proofs.comparison.behind_smaller.Reads as behind-smaller-reads
 use Rattle.comparing.proofs.comparison.greater_if.Reads as greater-if-reads
+use Rattle.comparing.proofs.constants.tell_constants.Reads as tell-constants-reads
 use Rattle.comparing.proofs.nodes.resolve.Reads as resolve-reads
 use Rattle.terms.proofs.arguments.arguments_of.Reads as arguments-of-reads
 use Rattle.terms.proofs.arguments.other_arguments.Reads as other-arguments-reads
@@ -144,7 +145,7 @@ abbrev pub compare-symbols-calls : ℕ → compare-symbols-lts.Claims
 compare-symbols-calls t = (arguments-of-reads.Asked, arguments-of-reads.Learnt, argument-reaches-below t, argument-reaches.Post, greater-if-reads.Asked, greater-if-reads.Learnt, exceeds-arguments-below t, exceeds-arguments.Post, compare-arguments-below t, compare-arguments.Post)
 
 abbrev pub exceeds-calls : ℕ → exceeds-lts.Claims
-exceeds-calls t = (resolve-reads.Asked, resolve-reads.Learnt, make-ready-reads.Asked, make-ready-reads.Learnt, held-reads.Asked, held-reads.Learnt, compare-symbols-below t, compare-symbols.Post, settle-reads.Asked, settle-reads.Learnt)
+exceeds-calls t = (resolve-reads.Asked, resolve-reads.Learnt, tell-constants-reads.Asked, tell-constants-reads.Learnt, make-ready-reads.Asked, make-ready-reads.Learnt, held-reads.Asked, held-reads.Learnt, compare-symbols-below t, compare-symbols.Post, settle-reads.Asked, settle-reads.Learnt)
 
 abbrev pub first-difference-calls : ℕ → first-difference-lts.Claims
 first-difference-calls t = (arguments-of-reads.Asked, arguments-of-reads.Learnt, exceeds-below t, exceeds.Post, other-arguments-reads.Asked, other-arguments-reads.Learnt)

@@ -1,0 +1,40 @@
+// Two whole terms, of which the first has the smaller symbol.
+use comparing::comparison::argument_reaches;
+use comparing::comparison::exceeds_arguments;
+use ordering::decision::Clause;
+use ordering::decision::Decision;
+use terms::arguments::arguments_of;
+ghost use Prim.Native.Nat.{_≤_, _<_};
+ghost use lib.ListN.{getD};
+ghost use Rattle.format.specs.Limits.{first-variable, position-count};
+ghost use Rattle.comparing.specs.Contracts.Cells.{SettledCells};
+ghost use Rattle.comparing.specs.Contracts.Comparing.{HasTerm};
+ghost use Rattle.clauses.specs.Contracts.Clauses.{DecisionOf};
+
+// Compares the terms at i and j. The L1 of the second term is asked first: where it applies, nothing is left to ask.
+pub fn decide_smaller_symbol(
+    nodes: &[u8],
+    sizes: &[u8],
+    values: &[u8],
+    ready: &mut [u8],
+    cells: &mut [u8],
+    i: usize,
+    j: usize,
+) -> Decision
+    requires { ⌜ SettledCells (now nodes) (now sizes) (now values) (now ready) (now cells) ⌝ }
+    requires { ⌜ HasTerm (now nodes) (now sizes) (now values) i × (getD (now nodes) i 0 < first-variable) ⌝ }
+    requires { ⌜ HasTerm (now nodes) (now sizes) (now values) j × (position-count ≤ j) ⌝ }
+    requires { ⌜ getD (now nodes) i 0 < getD (now nodes) j 0 ⌝ }
+    ensures { λ r. ⌜ DecisionOf (now (nodes .entry)) (now (sizes .entry)) (now (values .entry)) i j r ⌝ }
+    ensures { λ _. ⌜ SettledCells (now (nodes .entry)) (now (sizes .entry)) (now (values .entry)) (now (ready .exit)) (now (cells .exit)) ⌝ }
+{
+    let others = arguments_of(sizes, j);
+    if exceeds_arguments(nodes, sizes, values, ready, cells, i, others) {
+        let row = arguments_of(sizes, i);
+        if argument_reaches(nodes, sizes, values, ready, cells, row, j) {
+            return Decision::Greater(Clause::L1);
+        }
+        return Decision::Smaller(Clause::L2);
+    }
+    Decision::Smaller(Clause::L1)
+}
