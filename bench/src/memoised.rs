@@ -1,5 +1,6 @@
 //! The same memoised comparison in plain Rust: the symbols, then the one question that decides the pair, with one cell for each ordered
-//! pair of nodes; and behind it the clause that decided, of the two whole terms alone. Equal symbols have equally many arguments here, so that both lists end together.
+//! pair of nodes but those that a constant's symbol decides; and the clause that decided, of the two whole terms alone: where their symbols differ L1 is asked first,
+//! from the term with the greater symbol. Equal symbols have equally many arguments here, so that both lists end together.
 
 const NODES: usize = 224;
 const CELLS: usize = NODES * NODES;
@@ -27,10 +28,9 @@ pub fn compare(left: &[u8], right: &[u8], arities: &[u8], scratch: &mut [u8]) ->
         terms.sizes[i] = (next - i) as u8;
     }
     let (s, t) = (SUBJECT, SUBJECT + left.len());
-    let verdict = terms.exceeds(s, t);
-    let clause = terms.clause(verdict, s, t);
+    let decision = terms.decide(s, t);
     scratch[..57_344].fill(0);
-    (verdict, clause)
+    decision
 }
 
 impl Terms<'_> {
@@ -39,6 +39,13 @@ impl Terms<'_> {
     }
 
     fn exceeds(&mut self, s: usize, t: usize) -> u8 {
+        let (f, g) = (self.nodes[s], self.nodes[t]);
+        match f < g {
+            true if self.sizes[s] == 1 => return 0,
+            false if self.sizes[t] == 1 && g < f => return 2,
+            false if self.sizes[t] == 1 && self.sizes[s] == 1 => return 1,
+            _ => (),
+        }
         let cell = s * NODES + t;
         if self.cells[cell] > 0 {
             return self.cells[cell] - 1;
@@ -59,17 +66,29 @@ impl Terms<'_> {
         self.compare_arguments(s, t)
     }
 
-    fn clause(&mut self, verdict: u8, s: usize, t: usize) -> u8 {
+    fn decide(&mut self, s: usize, t: usize) -> (u8, u8) {
+        let (f, g) = (self.nodes[s], self.nodes[t]);
+        if g < f {
+            return match self.reaches_from(s + 1, self.end(s), t) {
+                true => (2, 1),
+                false if self.exceeds_from(s, t + 1, self.end(t)) => (2, 2),
+                false => (0, 1),
+            };
+        }
+        if f < g {
+            return match self.exceeds_from(s, t + 1, self.end(t)) {
+                false => (0, 1),
+                true if self.reaches_from(s + 1, self.end(s), t) => (2, 1),
+                true => (0, 2),
+            };
+        }
+        let verdict = self.exceeds(s, t);
         let by_argument = match verdict {
             0 => !self.exceeds_from(s, t + 1, self.end(t)),
-            1 => return 0,
+            1 => return (1, 0),
             _ => self.reaches_from(s + 1, self.end(s), t),
         };
-        match by_argument {
-            true => 1,
-            false if self.nodes[s] != self.nodes[t] => 2,
-            false => 3,
-        }
+        (verdict, if by_argument { 1 } else { 3 })
     }
 
     fn reaches_from(&mut self, mut k: usize, end: usize, t: usize) -> bool {
