@@ -3,7 +3,7 @@
  * Usage: host [FILE]
  * Exit status: 0 all was served, 1 something was refused, 2 the sheet could not be read.
  *
- * Symbols are written as letters, a to p, the later one greater in precedence; variables as x0 to x7.
+ * Symbols are written as letters, a to p, the later one greater in precedence; variables as x0 to x11.
  */
 #include <stdio.h>
 

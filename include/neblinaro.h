@@ -33,7 +33,7 @@ extern "C" {
 #define NEBLINARO_SYMBOLS 16
 #define NEBLINARO_ARITY 4
 #define NEBLINARO_FIRST_VARIABLE 0x80 /* the byte of variable 0; symbols are below it */
-#define NEBLINARO_VARIABLES 8
+#define NEBLINARO_VARIABLES 12 /* 80 to 8b */
 #define NEBLINARO_EQUATIONS 16 /* numbered from 0 */
 #define NEBLINARO_TASKS 32 /* runs, judgements and comparisons, numbered together from 0 */
 #define NEBLINARO_SIDE_NODES 32 /* nodes of one side of an equation */
@@ -54,10 +54,10 @@ extern "C" {
  * term and then right, from 0. NEBLINARO_NO_POSITION stands for a variable that is not bound, and behind the last
  * element.
  */
-#define NEBLINARO_RECORD_BYTES (NEBLINARO_VARIABLES + 1 + 2 * NEBLINARO_ELEMENTS)
+#define NEBLINARO_RECORD_BYTES (NEBLINARO_VARIABLES + 1 + 2 * NEBLINARO_ELEMENTS) /* 93 */
 #define NEBLINARO_NO_POSITION 0xff
 
-#define NEBLINARO_TABLE_BYTES (NEBLINARO_LINES * NEBLINARO_RECORD_BYTES)
+#define NEBLINARO_TABLE_BYTES (NEBLINARO_LINES * NEBLINARO_RECORD_BYTES) /* 23,715 */
 #define NEBLINARO_SCRATCH_BYTES 57344
 #define NEBLINARO_TERM_BYTES NEBLINARO_TASK_NODES
 

@@ -6,6 +6,7 @@ mod table;
 
 use bench::{calls, memoised, program, runs};
 use reference::generate::text;
+use reference::limits::{LOG_BYTES, SCRATCH_BYTES, SHEET_BYTES, TABLE_BYTES, TERM_BYTES};
 use reference::rewrite;
 use reference::sheet;
 use reference::special::{compared_arities, hard_pairs, special, WALKS};
@@ -41,7 +42,7 @@ fn main() -> std::io::Result<()> {
 
 fn plain_program() -> std::io::Result<()> {
     let mut sheet = Vec::new();
-    std::io::stdin().take(reference::limits::SHEET_BYTES as u64 + 1).read_to_end(&mut sheet)?;
+    std::io::stdin().take(SHEET_BYTES as u64 + 1).read_to_end(&mut sheet)?;
     std::io::stdout().write_all(&reference::listing(&sheet))
 }
 
@@ -87,7 +88,7 @@ fn compare(rows: &mut Table) {
         // An equation is wanted in every sheet: the first binary symbol's commutativity.
         let equation = vec![2, 3, 0x80, 0x81, 3, 0x81, 0x80];
         let sheet = text(&[symbols.clone(), equation, [&[5], &left[..], &right].concat()]);
-        let mut scratch = vec![0xa5; 57_344];
+        let [_, mut scratch, ..] = lent();
         let mut plain_scratch = scratch.clone();
         let number = calls::compare(&sheet, 0, &mut scratch);
         assert_eq!(number, reference::compare(&sheet, 0, &mut plain_scratch), "{name}");
@@ -110,8 +111,7 @@ fn compare(rows: &mut Table) {
 /// scratch; and a turn of its walk alone, by what the call takes beyond that on an equation of the same sheet that takes no turn.
 fn solve(rows: &mut Table) {
     let mut walker = Walker::new();
-    let mut table = vec![0xa5; 22_695];
-    let mut scratch = vec![0xa5; 57_344];
+    let [mut table, mut scratch, ..] = lent();
     for (name, sheet) in walked() {
         let equation = rewrite::equation(&sheet::read(&sheet).expect("a sheet"), 0);
         for direction in 0..2 {
@@ -199,7 +199,7 @@ fn always_row(call: &'static str, name: &str, direction: u64, number: u64, whole
 }
 
 /// Symbols and equations that a search found, whose turns take long beside plain Rust.
-const SEARCHED: [(&str, &[u8]); 5] = [
+const SEARCHED: [(&str, &[u8]); 10] = [
     (
         "searched, many equalities",
         b"0103000303\n02020201018183020000008300810183818302848000840201810284810181838002800001818380000282020001818102\
@@ -225,6 +225,31 @@ const SEARCHED: [(&str, &[u8]); 5] = [
         b"0103000104\n0202010201010102010101010101000101010101840083008582858182020102028080018080010280808001808001010101018001\
         01018401010084\n",
     ),
+    (
+        "searched, twelve variables, many kept elements",
+        b"0103000402\n020202028a8a01830102820080850200008383018b8102028b8b868801020182828282010187878787000189\
+        01888a848a8989898b028183028681\n",
+    ),
+    (
+        "searched, twelve variables, many occurs tests",
+        b"010400040402\n0202038888030200038383838102828200828b028a018a8a8a0300008403898302038100020283028b8201\
+        84848484888b8b87030380808003868682038900\n",
+    ),
+    (
+        "searched, twelve variables, deep bindings",
+        b"0103000304\n0201020202810081818600828b0087860184818b028602010189898900820100800280808b80820102858585\
+        8101848484888a8a\n",
+    ),
+    (
+        "searched, twelve variables, many choices",
+        b"0103000303\n02010101820084870185888382028880860102020101010280838281810182808082858482018286838781028186\
+        878a\n",
+    ),
+    (
+        "searched, twelve variables, many pairs in a turn",
+        b"01050100040403\n020388898a0200000000000000860000840000000000000088000000000000008802000000000000008600008400\
+        000000000000880000000000000000000088\n",
+    ),
 ];
 
 /// Special sheets with long walks, and those searched.
@@ -246,7 +271,7 @@ const TOLD_TURNS: u32 = 100;
 
 /// The lent table, scratch, term and log.
 fn lent() -> [Vec<u8>; 4] {
-    [22_695, 57_344, 160, 765].map(|length| vec![0xa5; length])
+    [TABLE_BYTES, SCRATCH_BYTES, TERM_BYTES, LOG_BYTES].map(|length| vec![0xa5; length])
 }
 
 /// Judge on ordinary sheets, whole calls.

@@ -2,10 +2,11 @@
 
 use bench::{calls, runs};
 use reference::generate::sheet;
+use reference::limits::{
+    LOG_BYTES as LOG, RECORD_BYTES as RECORD, SCRATCH_BYTES as SCRATCH, TABLE_BYTES as TABLE, TERM_BYTES as TERM,
+    VARIABLES,
+};
 use reference::special::special;
-
-const SCRATCH: usize = 57_344;
-const TABLE: usize = 22_695;
 
 fn sheets() -> impl Iterator<Item = Vec<u8>> {
     (0..4_000).map(sheet).chain(special().into_iter().map(|(_, sheet)| sheet))
@@ -24,7 +25,8 @@ fn kept_bytes(sheet: &[u8]) -> Option<usize> {
             }
             if reference::rewrite::equation(&read, number).usable(direction) {
                 let lines = (solved / 256 % 65_536) as usize;
-                bytes += table.chunks(89).take(lines).map(|record| 9 + 2 * usize::from(record[8])).sum::<usize>();
+                let kept = |record: &[u8]| VARIABLES + 1 + 2 * usize::from(record[VARIABLES]);
+                bytes += table.chunks(RECORD).take(lines).map(kept).sum::<usize>();
             }
         }
     }
@@ -82,7 +84,7 @@ fn directed(
 
 /// The call on every sheet, with directions that it has and that it has not; gives what it returned.
 fn every_direction(call: [Directed; 2]) -> Vec<u64> {
-    let lengths = [(0, 0), (TABLE - 1, SCRATCH), (TABLE, SCRATCH - 1), (TABLE, SCRATCH), (TABLE + 89, SCRATCH + 56)];
+    let lengths = [(0, 0), (TABLE - 1, SCRATCH), (TABLE, SCRATCH - 1), (TABLE, SCRATCH), (TABLE + RECORD, SCRATCH + 56)];
     let mut buffers = lengths.map(|(table, scratch)| (former_bytes(table, 0), former_bytes(scratch, 7))).to_vec();
     buffers.extend([(vec![0; TABLE], vec![0xff; SCRATCH]), (vec![0xff; TABLE], vec![0; SCRATCH])]);
     let mut numbers = Vec::new();
@@ -130,9 +132,6 @@ fn always() {
     assert!(0 < yes && 0 < no && 0 < early && stands[8..=10].iter().all(|&times| 0 < times), "{stands:?}");
 }
 
-const TERM: usize = 160;
-const LOG: usize = 765;
-
 /// The tasks of a sheet and some that no sheet has.
 fn tasks(sheet: &[u8]) -> impl Iterator<Item = u64> {
     let present = reference::sheet::read(sheet).map_or(1, |sheet| sheet.tasks().len() as u64);
@@ -141,7 +140,7 @@ fn tasks(sheet: &[u8]) -> impl Iterator<Item = u64> {
 
 #[test]
 fn judge() {
-    let lengths = [(0, 0), (TABLE - 1, SCRATCH), (TABLE, SCRATCH - 1), (TABLE, SCRATCH), (TABLE + 89, SCRATCH + 56)];
+    let lengths = [(0, 0), (TABLE - 1, SCRATCH), (TABLE, SCRATCH - 1), (TABLE, SCRATCH), (TABLE + RECORD, SCRATCH + 56)];
     let buffers = lengths.map(|(table, scratch)| (former_bytes(table, 0), former_bytes(scratch, 7)));
     // How often each refusal was given; the first count is of none.
     let mut given = [0; 13];
@@ -187,7 +186,7 @@ fn ran(sheet: &[u8], task: u64, lengths: [usize; 4]) -> u64 {
 #[test]
 fn run() {
     let enough = [TABLE, SCRATCH, TERM, LOG];
-    let mut lengths = vec![[0; 4], enough, [TABLE + 89, SCRATCH + 56, TERM + 1, LOG + 3]];
+    let mut lengths = vec![[0; 4], enough, [TABLE + RECORD, SCRATCH + 56, TERM + 1, LOG + 3]];
     lengths.extend((0..4).map(|short| {
         let mut lengths = enough;
         lengths[short] -= 1;

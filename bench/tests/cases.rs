@@ -1,6 +1,7 @@
 //! P1 to P12 of document 01 and its other cases at the edges, through the calls, the program and the second implementation alike.
 
 use bench::both::{self, bytes, sheet, Outcome, FORMER};
+use reference::limits::{NONE, RECORD_BYTES, SCRATCH_BYTES, TABLE_BYTES, VARIABLES};
 
 /// P1's symbols: a, b, product.
 const SYMBOLS: &str = "0103000002";
@@ -8,13 +9,13 @@ const P1: &str = "0103000002 02028081028180 0305020100 0400000001 05020100020001
 
 /// A record of the table: bindings as (variable, position), elements as pairs of positions.
 fn record(bindings: &[(usize, u8)], elements: &[(u8, u8)]) -> Vec<u8> {
-    let mut record = vec![0xff; 89];
+    let mut record = vec![NONE; RECORD_BYTES];
     for &(variable, position) in bindings {
         record[variable] = position;
     }
-    record[8] = elements.len() as u8;
+    record[VARIABLES] = elements.len() as u8;
     for (i, &(left, right)) in elements.iter().enumerate() {
-        record[9 + 2 * i..][..2].copy_from_slice(&[left, right]);
+        record[VARIABLES + 1 + 2 * i..][..2].copy_from_slice(&[left, right]);
     }
     record
 }
@@ -24,9 +25,9 @@ fn holds(buffer: &[u8], first: &[u8]) -> bool {
     buffer.starts_with(first) && buffer[first.len()..].iter().all(|&byte| byte == FORMER)
 }
 
-/// Scratch's first 57,344 bytes are 00, and its excess is as it was.
+/// The bytes of scratch that a call may use are 00, and its excess is as it was.
 fn scratch_cleared(outcome: &Outcome) -> bool {
-    holds(&outcome.buffers.scratch, &[0; 57_344])
+    holds(&outcome.buffers.scratch, &[0; SCRATCH_BYTES])
 }
 
 /// Direction 00 of the only equation has these turns and this table. All else of the sheet agrees too.
@@ -55,7 +56,7 @@ fn runs(frames: &str, task: u64, fields: [u64; 3], term: &[u8], log: &[u8]) {
     let run = both::run(&sheet, task);
     assert_eq!(run.fields(), fields);
     assert!(holds(&run.buffers.term, term) && holds(&run.buffers.log, log) && scratch_cleared(&run));
-    assert!(holds(&run.buffers.table, &[0xff; 22_695]));
+    assert!(holds(&run.buffers.table, &[NONE; TABLE_BYTES]));
     both::everything(&sheet);
 }
 
@@ -96,7 +97,7 @@ fn p6_to_p10() {
 fn asks(symbols: &str, equation: &str, answer: u64, turns: u64) {
     let asked = both::always(&sheet(&format!("{symbols} {equation}")), 0, 0);
     assert_eq!(asked.fields(), [answer, turns, 0]);
-    assert!(asked.buffers.table[..22_695].iter().all(|&byte| byte == 0xff) && scratch_cleared(&asked));
+    assert!(holds(&asked.buffers.table, &[NONE; TABLE_BYTES]) && scratch_cleared(&asked));
 }
 
 #[test]

@@ -155,7 +155,7 @@ fn instance(term: &[u8], values: &[Vec<u8>]) -> Vec<u8> {
     let mut result = Vec::new();
     for &byte in term {
         if byte >= FIRST_VARIABLE {
-            result.extend_from_slice(&values[(byte & 7) as usize]);
+            result.extend_from_slice(&values[(byte - FIRST_VARIABLE) as usize]);
         } else {
             result.push(byte);
         }
@@ -167,7 +167,7 @@ fn instance(term: &[u8], values: &[Vec<u8>]) -> Vec<u8> {
 pub type Sides = (Vec<u8>, Vec<u8>);
 
 pub fn random_sides(random: &mut Random, signature: &Signature) -> Sides {
-    let variables = random.pick(&[0, 1, 2, 2, 3, 3, 4, 5, 8]);
+    let variables = random.pick(&[0, 1, 2, 2, 3, 3, 4, 5, 8, 10, VARIABLES, VARIABLES]);
     let size = random.pick(&[1, 2, 3, 5, 5, 7, 7, 9, 12, 16, 24, 32]);
     let left = signature.term(random, size, variables);
     let right = match random.below(11) {
@@ -177,9 +177,8 @@ pub fn random_sides(random: &mut Random, signature: &Signature) -> Sides {
         }
         // The same term with its variables permuted.
         2 | 3 => {
-            let shift = random.from_to(1, 7);
-            let shifted = |byte: u8| FIRST_VARIABLE + ((byte & 7) as usize + shift) as u8 % variables as u8;
-            left.iter().map(|&byte| if byte < FIRST_VARIABLE { byte } else { shifted(byte) }).collect()
+            let shift = random.from_to(1, VARIABLES - 1);
+            renumbered(&left, shift, variables)
         }
         4 => signature.mutated(random, &left, 3, variables),
         5 => {
@@ -194,6 +193,23 @@ pub fn random_sides(random: &mut Random, signature: &Signature) -> Sides {
     };
     let (left, right) = if random.chance(50) { (left, right) } else { (right, left) };
     if left.len() > SIDE_NODES || right.len() > SIDE_NODES { random_sides(random, signature) } else { (left, right) }
+}
+
+/// The term with the numbers of its variables shifted, round the first `variables` ones.
+fn renumbered(term: &[u8], shift: usize, variables: usize) -> Vec<u8> {
+    let shifted = |byte: u8| FIRST_VARIABLE + (((byte - FIRST_VARIABLE) as usize + shift) % variables) as u8;
+    term.iter().map(|&byte| if byte < FIRST_VARIABLE { byte } else { shifted(byte) }).collect()
+}
+
+/// Sides whose variables need not be the first ones: most laws and most short terms have few of them, and all numbers
+/// are to be met.
+fn random_sides_anywhere(random: &mut Random, signature: &Signature) -> Sides {
+    let (left, right) = random_sides(random, signature);
+    if random.chance(60) {
+        return (left, right);
+    }
+    let shift = random.from_to(1, VARIABLES - 1);
+    (renumbered(&left, shift, VARIABLES), renumbered(&right, shift, VARIABLES))
 }
 
 /// Arities for equations with lines of 40 and 41 elements: a and c are constants, c above all.
@@ -256,7 +272,7 @@ fn equation_frame(sides: &Sides) -> Vec<u8> {
 /// The count of values that a judgement of an equation gives.
 fn value_count(sides: &Sides) -> usize {
     let variables = sides.0.iter().chain(&sides.1).filter(|&&byte| byte >= FIRST_VARIABLE);
-    variables.map(|byte| (byte & 7) as usize + 1).max().unwrap_or(0)
+    variables.map(|&byte| (byte - FIRST_VARIABLE) as usize + 1).max().unwrap_or(0)
 }
 
 fn solves(signature: &Signature, sides: &Sides, walker: &mut Walker) -> bool {
@@ -265,17 +281,30 @@ fn solves(signature: &Signature, sides: &Sides, walker: &mut Walker) -> bool {
     walker.walk(&equation, 0).is_ok() && walker.walk(&equation, 1).is_ok()
 }
 
+/// One side with the other one beside it where a symbol and the count of nodes allow it. That one is equal to itself, so
+/// that one direction always holds, which shows before a refusal.
+fn beside_target(random: &mut Random, signature: &Signature, (left, right): Sides) -> Sides {
+    let binary = signature.symbols(|arity| arity == 2);
+    if binary.is_empty() || left.len() + right.len() >= SIDE_NODES {
+        return (left, right);
+    }
+    let beside = [&[random.pick(&binary)], &right[..], &left].concat();
+    if random.chance(50) { (beside, right) } else { (left, beside) }
+}
+
 fn valid_frames(random: &mut Random) -> Vec<Vec<u8>> {
     let signature = Signature::random(random);
     let mut walker = Walker::new();
     let equation_count = random.pick(&[1, 1, 2, 2, 3, 3, 4, 6, 9, 16]);
-    let refusals_wanted = random.chance(10);
+    let refusals_wanted = random.chance(15);
     let mut equations = Vec::new();
     while equations.len() < equation_count {
-        let sides = random_sides(random, &signature);
+        let sides = random_sides_anywhere(random, &signature);
         // Seldom an equation that is refused, for it hides all else that the sheet asks for.
-        if refusals_wanted || solves(&signature, &sides, &mut walker) {
+        if solves(&signature, &sides, &mut walker) {
             equations.push(sides);
+        } else if refusals_wanted {
+            equations.push(if random.chance(60) { beside_target(random, &signature, sides) } else { sides });
         }
     }
     let mut frames = vec![signature.frame()];
@@ -353,9 +382,15 @@ fn judgement_frame(random: &mut Random, signature: &Signature, equations: &[Side
 fn comparison_frame(random: &mut Random, signature: &Signature) -> Vec<u8> {
     let size = ground_size(random, TASK_NODES - 1);
     let left = signature.term(random, size, 0);
-    let mut right = match random.below(4) {
-        0 => left.clone(),
-        1 | 2 => signature.mutated(random, &left, 4, 0),
+    let mut right = match random.below(9) {
+        0 | 1 => left.clone(),
+        2..=5 => signature.mutated(random, &left, 4, 0),
+        // The same arguments below another symbol, which L2 decides; the other pairs seldom ask for it alone.
+        6 => {
+            let arity = signature.arities[left[0] as usize];
+            let symbol = random.pick(&signature.symbols(|other| other == arity as usize));
+            [&[symbol], &left[1..]].concat()
+        }
         _ => {
             let size = ground_size(random, TASK_NODES - left.len());
             signature.term(random, size, 0)
@@ -368,24 +403,29 @@ fn comparison_frame(random: &mut Random, signature: &Signature) -> Vec<u8> {
     [&[5], &left[..], &right].concat()
 }
 
+/// The bytes on either side of the class of variables.
+const LOW: u8 = FIRST_VARIABLE - 1;
+const HIGH: u8 = LAST_VARIABLE + 1;
+
 /// Damage that keeps the text a list of frames.
 fn damage_frames(random: &mut Random, frames: &mut Vec<Vec<u8>>) {
     let index = random.below(frames.len());
     let arities: Vec<u8> = frames[0][2..].to_vec();
     let constant = arities.iter().position(|&arity| arity == 0).unwrap_or(0) as u8;
     let unary = arities.iter().position(|&arity| arity == 1).map(|symbol| symbol as u8);
-    match random.below(17) {
+    match random.below(19) {
         0 => {
             let at = random.below(frames[index].len());
             frames[index][at] = random.byte();
         }
         1 => {
             let at = random.below(frames[index].len());
-            frames[index][at] = random.pick(&[0, 1, 2, 3, 4, 5, 15, 16, 0x7f, 0x80, 0x87, 0x88, 0xff]);
+            frames[index][at] =
+                random.pick(&[0, 1, 2, 3, 4, 5, 15, 16, 0xff, LOW, FIRST_VARIABLE, LAST_VARIABLE, HIGH]);
         }
         2 => {
             let at = random.below(frames[index].len() + 1);
-            frames[index].insert(at, random.pick(&[0, 1, 2, 0x80, 0x81, 0x10]));
+            frames[index].insert(at, random.pick(&[0, 1, 2, FIRST_VARIABLE, LAST_VARIABLE, 0x10]));
         }
         3 if frames[index].len() > 1 => {
             let at = random.below(frames[index].len());
@@ -441,10 +481,11 @@ fn damage_frames(random: &mut Random, frames: &mut Vec<Vec<u8>>) {
             .push(random.pick(&[&[4][..], &[4, 0], &[4, 0xff], &[4, 0, 2], &[4, 16, 0], &[3], &[3, 0], &[5]]).to_vec()),
         13 => {
             let equation = random.below(18) as u8;
-            frames.push(vec![4, equation, random.below(3) as u8, constant, 0x80]);
+            let variable = FIRST_VARIABLE + random.below(VARIABLES) as u8;
+            frames.push(vec![4, equation, random.below(3) as u8, constant, variable]);
         }
-        // A variable in what may be a ground term.
-        14 => {
+        // A variable in what may be a ground term, or the byte behind the last one; often, since there are many of them.
+        14 | 17 | 18 => {
             let index = frames.len() - 1;
             let at = random.below(frames[index].len());
             frames[index][at] = FIRST_VARIABLE + random.below(VARIABLES + 1) as u8;

@@ -38,10 +38,12 @@ pub const FIRST_GROUND: u8 = EQUATION_NODES as u8;
 
 /// The positions of the values of variables, one byte for each; 0 is no position of a value.
 ///
-/// They are kept in one word, for they are written one by one and then handed on together at once, which is slow
+/// They are kept in one number, for they are written one by one and then handed on together at once, which is slow
 /// through memory.
 #[derive(Clone, Copy, Default)]
-pub struct Values(u64);
+pub struct Values(u128);
+
+const _: () = assert!(8 * VARIABLES <= u128::BITS as usize);
 
 impl Values {
     pub fn get(self, variable: usize) -> u8 {
@@ -50,7 +52,7 @@ impl Values {
 
     /// Sets the value of a variable that has none yet.
     pub fn add(&mut self, variable: usize, position: u8) {
-        self.0 |= (position as u64) << (8 * variable);
+        self.0 |= (position as u128) << (8 * variable);
     }
 }
 

@@ -7,7 +7,7 @@ pub const FRAME_BYTES: usize = 163;
 
 pub const SYMBOLS: usize = 16;
 pub const ARITY: usize = 4;
-pub const VARIABLES: usize = 8;
+pub const VARIABLES: usize = 12;
 pub const EQUATIONS: usize = 16;
 pub const DIRECTIONS: usize = 2 * EQUATIONS;
 pub const TASKS: usize = 32;
@@ -32,7 +32,7 @@ pub const LINES: usize = 255;
 /// Most steps of a run.
 pub const STEPS: usize = 255;
 
-/// 8 binding positions, the element count, 40 pairs of positions.
+/// A binding position for each variable, the element count, a pair of positions for each element.
 pub const RECORD_BYTES: usize = VARIABLES + 1 + 2 * ELEMENTS;
 /// A position that is not there, in a table record.
 pub const NONE: u8 = 0xff;
@@ -44,3 +44,9 @@ pub const LOG_BYTES: usize = 3 * STEPS;
 
 /// First byte of the class of variables; a symbol is below it.
 pub const FIRST_VARIABLE: u8 = 0x80;
+/// Last byte of the class of variables; what is above it is foreign.
+pub const LAST_VARIABLE: u8 = FIRST_VARIABLE + (VARIABLES - 1) as u8;
+
+/// A set of variables, a bit for each.
+pub type VariableSet = u16;
+const _: () = assert!(VARIABLES <= VariableSet::BITS as usize);

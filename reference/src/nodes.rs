@@ -11,7 +11,7 @@ pub struct Node {
     /// The position behind the term that begins here.
     pub next: u8,
     /// The set of variables of the term that begins here.
-    pub variables: u8,
+    pub variables: VariableSet,
 }
 
 impl Node {
@@ -21,7 +21,7 @@ impl Node {
 
     /// The number of the variable there, from 0.
     pub fn variable(self) -> usize {
-        (self.byte & 7) as usize
+        (self.byte - FIRST_VARIABLE) as usize
     }
 }
 
@@ -40,7 +40,7 @@ pub fn index(bytes: &[u8], arities: &[u8; SYMBOLS], nodes: &mut [Node], base: us
                 next = argument.next as usize;
             }
         } else {
-            node.variables = 1 << (byte & 7);
+            node.variables = 1 << node.variable();
         }
         node.next = next as u8;
         nodes[position] = node;

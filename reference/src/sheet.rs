@@ -208,7 +208,7 @@ struct Terms<'a> {
 impl Terms<'_> {
     /// The end of the term at `at`, which may have at most `room` nodes. `variables` collects the set of its
     /// variables; in a ground term a variable is refused.
-    fn term<const GROUND: bool>(&self, at: usize, room: usize, variables: &mut u8) -> Result<usize, u8> {
+    fn term<const GROUND: bool>(&self, at: usize, room: usize, variables: &mut VariableSet) -> Result<usize, u8> {
         let mut end = at;
         let mut missing = 1;
         for &byte in &self.frame[at..] {
@@ -217,11 +217,11 @@ impl Terms<'_> {
             }
             match byte {
                 0x00..=0x0f if byte < self.symbols => missing += self.arities[byte as usize] as usize,
-                0x80..=0x87 => {
+                FIRST_VARIABLE..=LAST_VARIABLE => {
                     if GROUND {
                         return Err(6);
                     }
-                    *variables |= 1 << (byte & 7);
+                    *variables |= 1 << (byte - FIRST_VARIABLE);
                 }
                 _ => return Err(5),
             }
@@ -256,7 +256,7 @@ impl Terms<'_> {
         Ok(EquationFrame {
             sides: self.span(1, end),
             left: (middle - 1) as u8,
-            values: (u8::BITS - variables.leading_zeros()) as u8,
+            values: (VariableSet::BITS - variables.leading_zeros()) as u8,
             line: line as u16,
         })
     }

@@ -1,8 +1,8 @@
 //! Named sheets at the limits: long walks, full tables and lines, empty lines, longest texts, hard comparisons,
-//! comparisons by each clause, long runs.
+//! comparisons by each clause, long runs, twelve variables.
 
 use crate::generate::{LONG_LINES, Sides, long_line, text};
-use crate::limits::SHEET_BYTES;
+use crate::limits::{FIRST_VARIABLE, LAST_VARIABLE, SHEET_BYTES, VARIABLES};
 
 /// A named sheet.
 pub type Named = (&'static str, Vec<u8>);
@@ -11,7 +11,7 @@ pub type Named = (&'static str, Vec<u8>);
 type Pair = (Vec<u8>, Vec<u8>);
 
 /// The special sheets whose first equation makes a walk worth timing.
-pub const WALKS: [&str; 19] = [
+pub const WALKS: [&str; 24] = [
     "P1",
     "median law, and below or",
     "median law, or below and",
@@ -31,6 +31,11 @@ pub const WALKS: [&str; 19] = [
     "always, then 10,001 turns",
     "always, then 41 elements",
     "always, then 256 lines",
+    "four places, ten variables",
+    "twelve bindings in one line",
+    "doubled ten times",
+    "doubled twelve times, left",
+    "doubled twelve times, right",
 ];
 
 /// All special sheets.
@@ -41,14 +46,15 @@ pub fn special() -> Vec<Named> {
     sheets.extend(clauses());
     sheets.extend(runs());
     sheets.extend(texts());
+    sheets.extend(twelve_variables());
     sheets
 }
 
-const X: u8 = 0x80;
-const Y: u8 = 0x81;
-const Z: u8 = 0x82;
-const U: u8 = 0x83;
-const V: u8 = 0x84;
+const X: u8 = FIRST_VARIABLE;
+const Y: u8 = X + 1;
+const Z: u8 = X + 2;
+const U: u8 = X + 3;
+const V: u8 = X + 4;
 
 fn symbols(arities: &[u8]) -> Vec<u8> {
     [&[1, arities.len() as u8], arities].concat()
@@ -691,4 +697,127 @@ fn longest() -> Vec<u8> {
         frames.push([&[4, task % 16, task / 16], &values[..]].concat());
     }
     text(&frames)
+}
+
+/// Equations with more than eight variables, and the edge of the class of variables.
+fn twelve_variables() -> Vec<Named> {
+    let mut sheets = last_variable();
+    sheets.extend(twelve_slots());
+    sheets.extend(doubled_terms());
+    sheets
+}
+
+/// The last variable and the byte behind it, in an equation and in a ground term. The equation with 80 and 8b alone takes
+/// twelve values.
+fn last_variable() -> Vec<Named> {
+    let (a, b, product) = (0, 1, 2);
+    let with = |byte: u8, task: &[u8]| one(&[0, 0, 2], (vec![product, X, byte], vec![product, byte, X]), &[task]);
+    let values = |count: usize| [vec![4, 0, 0, b], vec![a; count - 1]].concat();
+    let foreign = LAST_VARIABLE + 1;
+    vec![
+        ("8b in an equation", with(LAST_VARIABLE, &values(VARIABLES))),
+        ("8b in an equation, eleven values", with(LAST_VARIABLE, &values(VARIABLES - 1))),
+        ("8b in a ground term", with(LAST_VARIABLE, &[3, 5, product, LAST_VARIABLE, a])),
+        ("8c in an equation", with(foreign, &values(VARIABLES))),
+        ("8c in a ground term", with(LAST_VARIABLE, &[3, 5, product, foreign, a])),
+    ]
+}
+
+/// The twelve variables under three quaternary symbols below another symbol.
+fn twelve_under(top: u8, quaternary: u8) -> Vec<u8> {
+    let variables: Vec<u8> = (FIRST_VARIABLE..=LAST_VARIABLE).collect();
+    let blocks = variables.chunks(4).map(|block| [&[quaternary], block].concat());
+    [vec![top], blocks.collect::<Vec<_>>().concat()].concat()
+}
+
+/// Tables with bindings in all slots, and judgements and runs with twelve values.
+fn twelve_slots() -> Vec<Named> {
+    let x = |number: u8| FIRST_VARIABLE + number;
+    // p(q(..), q(..), q(..)) > c with a constant c above p and q: each variable exceeds c, or is c.
+    let (q, p, a, c) = (0, 1, 2, 3);
+    let values = |number: usize, value: &[u8]| {
+        let others = |count: usize| vec![a; count];
+        [&[4, 0, 0], &others(number)[..], value, &others(VARIABLES - 1 - number)].concat()
+    };
+    let judgements = [
+        values(0, &[c]),
+        values(7, &[c]),
+        values(8, &[q, a, c, a, a]),
+        values(9, &[c]),
+        values(11, &[q, a, a, a, c]),
+        values(11, &[c]),
+        values(11, &[a]),
+        [vec![4, 0, 1], vec![a; VARIABLES]].concat(),
+    ];
+    let judgements: Vec<&[u8]> = judgements.iter().map(Vec::as_slice).collect();
+    let bound_alone = one(&[4, 3, 0, 0], (twelve_under(p, q), vec![c]), &judgements);
+    // p(q(..), q(..), q(..)) = q(x11, x8, x7, x4) with p above q: its left side matches with all twelve values.
+    let (a, b, q, p) = (0, 1, 2, 3);
+    let block = |first: u8, last: u8| vec![q, first, q, a, b, a, last, b, last];
+    let blocks = [block(a, a), block(b, a), block(a, b)].concat();
+    let values: [u8; VARIABLES] = [b, a, b, b, a, b, a, a, b, a, a, b];
+    let tasks: [Vec<u8>; 5] = [
+        [&[4, 0, 0], &values[..]].concat(),
+        [&[4, 0, 1], &values[..]].concat(),
+        [vec![4, 0, 0], vec![q, a, a, a, b], vec![a; 7], vec![q, b, a, a, a], vec![a; 2], vec![b]].concat(),
+        [vec![3, 9, p], blocks].concat(),
+        [vec![3, 9, p, q], vec![a, b, a, b], vec![q], vec![b, b, a, a], vec![q], vec![a, a, b, b]].concat(),
+    ];
+    let tasks: Vec<&[u8]> = tasks.iter().map(Vec::as_slice).collect();
+    let chosen = vec![q, x(11), x(8), x(7), x(4)];
+    // q(x0, x1, x2, q(x3, x4, x5, q(x6, x7, x8, x9))) = q(q(q(x0, .. x3), .. x6), .. x9).
+    let (q_alone, tens) = (1, |range: std::ops::Range<u8>| range.map(x).collect::<Vec<u8>>());
+    let to_the_right = [vec![q_alone], tens(0..3), vec![q_alone], tens(3..6), vec![q_alone], tens(6..10)].concat();
+    let to_the_left = [vec![q_alone; 3], tens(0..10)].concat();
+    let associated = one(
+        &[0, 4],
+        (to_the_right, to_the_left),
+        &[&[4, 0, 0, 0, 0, 0, 0, 0, 0, 0, 0, 0, 0], &[4, 0, 1, 0, 0, 0, 0, 0, 0, 1, 0, 0, 0, 0, 0, 0, 0]],
+    );
+    vec![
+        ("each of the twelve variables bound alone", bound_alone),
+        // As "true everywhere without an empty line", with 8b for x.
+        (
+            "8b alone is bound",
+            one(&[1, 0], (vec![0, LAST_VARIABLE], vec![1]), &[&[&[4, 0, 0], &[1; VARIABLES][..]].concat()]),
+        ),
+        // Found by a search.
+        (
+            "twelve bindings in one line",
+            from_digits(&[
+                "01020004",
+                "02018880010185018b8a85838987018888878801018787008181818b818a01018a89018688808882848486",
+            ]),
+        ),
+        ("twelve variables in judgements and runs", one(&[0, 0, 4, 3], (twelve_under(p, q), chosen), &tasks)),
+        ("four places, ten variables", associated),
+    ]
+}
+
+/// Bindings of the form x = f(y, y, y, y), each to the next: with n of them the first term has 4ⁿ leaves, which doubles it
+/// 2n times. It is long to be gone through whole, be it to unify it or to look for a variable that does not occur in it.
+fn doubled_terms() -> Vec<Named> {
+    let (c, f, q, t) = (1, 2, 3, 4);
+    let arities = [1, 0, 4, 4, 3];
+    // From the last variable downward, so that most of them are among the last four.
+    let x = |number: u8| LAST_VARIABLE - number;
+    let four = |number: u8| [f, x(number), x(number), x(number), x(number)];
+    // q(x0, x1, x2, t(x3, x4, y)) < q(f(x1..), f(x2..), f(x3..), t(f(x4..), f(x5..), x0)): the line with five equalities
+    // keeps x0 > y.
+    let ten = (
+        [&[q], &four(1)[..], &four(2), &four(3), &[t], &four(4), &four(5), &[x(0)]].concat(),
+        vec![q, x(0), x(1), x(2), t, x(3), x(4), x(7)],
+    );
+    // The same with six and in the other order, so that a variable is bound to a term that is already large.
+    let twelve = (
+        [&[q], &four(6)[..], &four(5), &four(4), &[t], &four(3), &four(2), &four(1)].concat(),
+        vec![q, x(5), x(4), x(3), t, x(2), x(1), x(0)],
+    );
+    let exchanged = (twelve.1.clone(), twelve.0.clone());
+    let task: &[&[u8]] = &[&[5, f, c, c, c, c, c]];
+    vec![
+        ("doubled ten times", one(&arities, ten, task)),
+        ("doubled twelve times, left", one(&arities, twelve, task)),
+        ("doubled twelve times, right", one(&arities, exchanged, task)),
+    ]
 }

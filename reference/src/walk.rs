@@ -48,7 +48,7 @@ impl Element {
 pub struct Line {
     bindings: [u8; VARIABLES],
     /// The set of bound variables.
-    bound: u8,
+    bound: VariableSet,
     reduced: u8,
     open: u8,
     elements: [Element; ELEMENTS],
@@ -100,6 +100,48 @@ impl Line {
             pair[0] = element.left;
             pair[1] = element.right;
         }
+    }
+}
+
+/// The pairs of terms that one unification has gone into, so that it does not go into them again.
+///
+/// Where bindings double terms, as in x = f(y, y), y = f(z, z), the same pair is met twice as often with each of them.
+/// What was unified once stays so, since bindings are only added.
+struct Pairs {
+    /// How many pairs are still gone into without being remembered. Two terms as they stand in the equation have no
+    /// more than these, so only those seen through bindings have to be remembered.
+    before: usize,
+    /// For each position the set of positions that it was paired with; empty as long as `before` is not 0.
+    met: [u64; EQUATION_NODES],
+}
+
+const _: () = assert!(EQUATION_NODES <= u64::BITS as usize);
+
+impl Pairs {
+    fn new() -> Pairs {
+        Pairs { before: SIDE_NODES, met: [0; EQUATION_NODES] }
+    }
+
+    /// Forgets all pairs.
+    fn clear(&mut self) {
+        if self.before == 0 {
+            self.met = [0; EQUATION_NODES];
+        }
+        self.before = SIDE_NODES;
+    }
+
+    /// Whether a pair of positions has to be gone into.
+    fn is_new(&mut self, left: u8, right: u8) -> bool {
+        if self.before > 0 {
+            self.before -= 1;
+            return true;
+        }
+        // Positions are below 64; the mask tells this to the compiler.
+        let met = &mut self.met[left as usize & (EQUATION_NODES - 1)];
+        let pair = 1 << right;
+        let new = *met & pair == 0;
+        *met |= pair;
+        new
     }
 }
 
@@ -190,7 +232,7 @@ impl Line {
     }
 
     /// Unifies the terms at two positions, left argument first; no unifier gives false.
-    fn unify(&mut self, equation: &Equation, left: u8, right: u8) -> bool {
+    fn unify(&mut self, equation: &Equation, pairs: &mut Pairs, left: u8, right: u8) -> bool {
         let (left, left_node) = self.reach(equation, left);
         let (right, right_node) = self.reach(equation, right);
         if left == right {
@@ -211,10 +253,13 @@ impl Line {
                 if left_node.byte != right_node.byte {
                     return false;
                 }
+                if left_node.arity == 0 || !pairs.is_new(left, right) {
+                    return true;
+                }
                 let mut left_argument = left + 1;
                 let mut right_argument = right + 1;
                 for _ in 0..left_node.arity {
-                    if !self.unify(equation, left_argument, right_argument) {
+                    if !self.unify(equation, pairs, left_argument, right_argument) {
                         return false;
                     }
                     left_argument = equation.node(left_argument).next;
@@ -287,6 +332,7 @@ pub struct Walker {
     stack: Vec<Line>,
     /// The finished lines before them.
     finished: Vec<Line>,
+    pairs: Pairs,
     measure: Measure,
 }
 
@@ -298,7 +344,12 @@ impl Default for Walker {
 
 impl Walker {
     pub fn new() -> Walker {
-        Walker { stack: vec![Line::EMPTY; LINES], finished: Vec::with_capacity(LINES), measure: Measure::default() }
+        Walker {
+            stack: vec![Line::EMPTY; LINES],
+            finished: Vec::with_capacity(LINES),
+            pairs: Pairs::new(),
+            measure: Measure::default(),
+        }
     }
 
     /// The finished lines of the last walk; of one that stopped, those before the line that was treated last.
@@ -362,7 +413,8 @@ impl Walker {
                 Treatment::Unify(element) => {
                     line.open += 1;
                     let bound = line.bound;
-                    if !line.unify(equation, element.left(), element.right()) {
+                    self.pairs.clear();
+                    if !line.unify(equation, &mut self.pairs, element.left(), element.right()) {
                         height -= 1;
                     } else if line.bound != bound {
                         line.look_again();
@@ -468,4 +520,57 @@ fn arguments(equation: &Equation, position: u8) -> (u8, Arguments) {
         next = equation.node(next).next;
     }
     (node.byte, arguments)
+}
+
+#[cfg(test)]
+mod tests {
+    use super::*;
+
+    /// Two chains of five bindings x = f(y, y, y, y) over all twelve variables: the first terms of both have 1,024
+    /// leaves each, and 341 pairs of their subterms are met. Five of these pairs are different.
+    #[test]
+    fn doubled_terms_are_gone_into_once() {
+        let mut arities = [0; SYMBOLS];
+        arities[1] = 4;
+        let x = |number: u8| FIRST_VARIABLE + number;
+        let mut bytes = vec![x(0), x(6)];
+        let mut line = Line::EMPTY;
+        for number in (0..5).chain(6..11) {
+            line.bind(number as usize, bytes.len() as u8);
+            bytes.extend([1, x(number + 1), x(number + 1), x(number + 1), x(number + 1)]);
+        }
+        let equation = Equation::new(&bytes, 1, &arities);
+        let mut pairs = Pairs::new();
+        for _ in 0..3 {
+            let mut line = line;
+            pairs.clear();
+            assert!(line.unify(&equation, &mut pairs, 0, 1));
+            // x5 is bound to the first place of x11.
+            let unified = line.bindings[5];
+            assert_eq!((equation.node(unified).byte, line.binding_count()), (x(11), 11));
+            let remembered: u32 = pairs.met.iter().map(|met| met.count_ones()).sum();
+            assert!(pairs.before == 0 && remembered <= 5, "{remembered}");
+            // x11 now occurs in all of them, and x5 is no longer asked for.
+            assert!((0..5).all(|number| line.occurs(&equation, 11, equation.node(line.bindings[number]))));
+            assert!(!line.occurs(&equation, 0, equation.node(line.bindings[0])));
+        }
+    }
+
+    #[test]
+    fn a_chain_of_twelve_variables_is_followed() {
+        let bytes: Vec<u8> = (FIRST_VARIABLE..=LAST_VARIABLE).collect();
+        let equation = Equation::new(&bytes, 1, &[0; SYMBOLS]);
+        let mut line = Line::EMPTY;
+        let mut pairs = Pairs::new();
+        for position in 0..VARIABLES as u8 - 1 {
+            assert!(line.unify(&equation, &mut pairs, position, position + 1));
+        }
+        let last = VARIABLES - 1;
+        assert_eq!(
+            line.bindings().collect::<Vec<_>>(),
+            (0..last).map(|number| (number, number as u8 + 1)).collect::<Vec<_>>()
+        );
+        assert_eq!(line.reach(&equation, 0).0, last as u8);
+        assert!(line.occurs(&equation, last, equation.node(0)));
+    }
 }

@@ -11,14 +11,13 @@ const P1: &str = "0103000002 02028081028180 0305020100 0400000001 05020100020001
 
 /// A record of the table: bindings as (variable, position), elements as pairs of positions.
 fn record(bindings: &[(usize, u8)], elements: &[(u8, u8)]) -> Vec<u8> {
-    let mut record = vec![0xff; RECORD_BYTES];
+    let mut record = vec![NONE; RECORD_BYTES];
     for &(variable, position) in bindings {
         record[variable] = position;
     }
-    record[8] = elements.len() as u8;
+    record[VARIABLES] = elements.len() as u8;
     for (index, &(left, right)) in elements.iter().enumerate() {
-        record[9 + 2 * index] = left;
-        record[10 + 2 * index] = right;
+        record[VARIABLES + 1 + 2 * index..][..2].copy_from_slice(&[left, right]);
     }
     record
 }

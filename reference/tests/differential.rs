@@ -4,6 +4,7 @@ mod common;
 
 use common::naive::{self, Order, Task, Walk};
 use common::{Buffers, fields, is_prefix_then_pattern, refusal};
+use reference::limits::*;
 
 /// Compares the results of all calls, every lent byte, and the listing.
 fn examine(text: &[u8], name: &str) {
@@ -196,10 +197,10 @@ fn list_table(
     let term = |position: usize| hex(&bytes[position..naive::term_end(&sheet.arities, &bytes, position)]);
     frames.push(format!("11{number:02x}{direction:02x}{:02x}{turns:04x}", lines.len()));
     for line in lines {
-        let bound: Vec<usize> = (0..8).filter(|&variable| line.bindings[variable].is_some()).collect();
+        let bound: Vec<usize> = (0..VARIABLES).filter(|&variable| line.bindings[variable].is_some()).collect();
         let mut frame = format!("12{:02x}", bound.len());
         for variable in bound {
-            frame += &format!("{:02x}{}", 0x80 + variable, term(line.bindings[variable].unwrap()));
+            frame += &format!("{:02x}{}", FIRST_VARIABLE + variable as u8, term(line.bindings[variable].unwrap()));
         }
         frame += &format!("{:02x}", line.elements.len());
         for element in &line.elements {
@@ -356,6 +357,63 @@ fn every_clause_occurs() {
     }
     println!("special sheets: {special:?}");
     assert!(special.least() >= 10);
+}
+
+/// How often each variable stands in the equations of accepted sheets, is bound in a line, and is met where a sheet is
+/// refused with 6 or, for the byte behind the last one, with 5.
+#[derive(Debug, Default)]
+struct Variables {
+    in_equations: [usize; VARIABLES],
+    bound: [usize; VARIABLES],
+    refused: [usize; VARIABLES + 1],
+}
+
+impl Variables {
+    fn count_accepted(&mut self, text: &[u8]) {
+        let Ok(sheet) = naive::read(text) else { return };
+        for (number, (left, right, _)) in sheet.equations.iter().enumerate() {
+            for variable in 0..VARIABLES {
+                let byte = FIRST_VARIABLE + variable as u8;
+                self.in_equations[variable] += (left.contains(&byte) || right.contains(&byte)) as usize;
+            }
+            for direction in 0..2 {
+                let mut buffers = Buffers::new();
+                let code = buffers.solve(text, number as u64, direction);
+                let lines = if code & 0xff == 0 { fields(code)[0] as usize } else { 0 };
+                for record in buffers.table.chunks(RECORD_BYTES).take(lines) {
+                    for variable in 0..VARIABLES {
+                        self.bound[variable] += (record[variable] != NONE) as usize;
+                    }
+                }
+            }
+        }
+    }
+
+    fn count_refused(&mut self, text: &[u8]) {
+        let (number, line) = refusal(text);
+        let Some(frame) = text.split(|&byte| byte == b'\n').nth((line as usize).wrapping_sub(1)) else { return };
+        for byte in FIRST_VARIABLE..=LAST_VARIABLE + 1 {
+            let wanted = if byte > LAST_VARIABLE { 5 } else { 6 };
+            let met = frame.chunks(2).any(|pair| pair == format!("{byte:02x}").as_bytes());
+            self.refused[(byte - FIRST_VARIABLE) as usize] += (met && number == wanted) as usize;
+        }
+    }
+}
+
+/// The other tests would say little about a variable that their sheets seldom have.
+#[test]
+fn every_variable_occurs() {
+    let mut met = Variables::default();
+    for seed in 0..500 {
+        met.count_accepted(&reference::generate::sheet(seed));
+    }
+    // Refusals take no walk, and of the damaged sheets only some have a variable where it is refused.
+    for seed in 0..4_000 {
+        met.count_refused(&reference::generate::sheet(seed));
+    }
+    println!("{met:?}");
+    assert!(met.in_equations.iter().all(|&times| times >= 100) && met.bound.iter().all(|&times| times >= 100));
+    assert!(met.refused.iter().all(|&times| times >= 3));
 }
 
 /// Takes some minutes.

@@ -91,13 +91,18 @@ fn terms_of_equations() {
     let second = |frame: &str, number: u64| {
         refused(&format!("0103000002 {frame}"), number, if number == 0 { 0 } else { 2 });
     };
-    for frame in ["02", "0200", "0202", "02020000", "0200020000ff", "02000000", "020003", "020010", "02007f", "020088"]
+    for frame in ["02", "0200", "0202", "02020000", "0200020000ff", "02000000", "020003", "020010", "02007f", "02008c"]
     {
         second(frame, 5);
     }
     second("0200020080", 0);
     second("028087", 0);
-    second("02808780", 5);
+    second("02808b", 0);
+    second("02808b80", 5);
+    // The bytes of the class, and no others, are variables.
+    for byte in 3..=0xff {
+        second(&format!("0200{byte:02x}"), if (0x80..=0x8b).contains(&byte) { 0 } else { 5 });
+    }
     second(&format!("02{}{}", product(31), product(31)), 0);
     second(&format!("02{}00", product(33)), 5);
     second(&format!("0200{}", product(33)), 5);
@@ -113,7 +118,11 @@ fn ground_terms() {
     third("030080", 6);
     third("0300028002", 6);
     third("0300020280", 6);
-    third("0300020388", 5);
+    third("030002038c", 5);
+    third("03008b", 6);
+    third("03008c", 5);
+    third("0300028b8c", 6);
+    third("0300028c8b", 5);
     third("03000080", 5);
     third("0500", 5);
     third("050080", 6);
@@ -157,10 +166,22 @@ fn judgements() {
 }
 
 #[test]
-fn eight_values_share_the_nodes_of_a_task() {
-    let with = |last: usize| format!("01020001 028780 040000{}{}", tower(20).repeat(7), tower(last));
-    refused(&with(20), 0, 0);
-    refused(&with(21), 2, 3);
+fn twelve_values_share_the_nodes_of_a_task() {
+    let with = |last: usize| format!("01020001 028b80 040000{}{}", tower(13).repeat(11), tower(last));
+    refused(&with(17), 0, 0);
+    refused(&with(18), 2, 3);
+    let values = |count: usize| format!("01020001 028b80 040000{}", "00".repeat(count));
+    refused(&values(11), 5, 3);
+    refused(&values(12), 0, 0);
+    refused(&values(13), 5, 3);
+}
+
+/// The other tests go by these numbers, so they are written out once.
+#[test]
+fn numbers_of_the_paper() {
+    assert_eq!((VARIABLES, FIRST_VARIABLE, LAST_VARIABLE), (12, 0x80, 0x8b));
+    assert_eq!((RECORD_BYTES, TABLE_BYTES, SCRATCH_BYTES), (93, 23_715, 57_344));
+    assert_eq!((TERM_BYTES, LOG_BYTES, SHEET_BYTES), (160, 765, 16_384));
 }
 
 #[test]

@@ -4,6 +4,7 @@ mod common;
 
 use common::naive::{self, Order, Task};
 use common::{Buffers, fields, listing};
+use reference::limits::*;
 use reference::special::{compared_arities, hard_pairs, special};
 
 fn special_sheet(name: &str) -> Vec<u8> {
@@ -89,7 +90,7 @@ fn last_element() {
     let mut buffers = Buffers::new();
     let [lines, turns, _] = fields(buffers.solve(&sheet, 0, 0));
     assert_eq!([lines, turns], [118, 1430]);
-    let longest = buffers.table.chunks(89).take(118).map(|record| record[8]).max();
+    let longest = buffers.table.chunks(RECORD_BYTES).take(118).map(|record| record[VARIABLES]).max();
     assert_eq!(longest, Some(40));
     assert_eq!(refused("41 elements", 0, 0), [9, 2]);
 }
@@ -145,14 +146,14 @@ fn yes_by_each_way_to_an_empty_line() {
 fn first_without_element(name: &str) -> (Vec<Vec<u8>>, Option<usize>) {
     let mut buffers = Buffers::new();
     let [lines, _, _] = fields(buffers.solve(&special_sheet(name), 0, 0));
-    let records: Vec<Vec<u8>> = buffers.table.chunks(89).take(lines as usize).map(<[u8]>::to_vec).collect();
-    let index = records.iter().position(|record| record[8] == 0);
+    let records: Vec<Vec<u8>> = buffers.table.chunks(RECORD_BYTES).take(lines as usize).map(<[u8]>::to_vec).collect();
+    let index = records.iter().position(|record| record[VARIABLES] == 0);
     (records, index)
 }
 
 #[test]
 fn place_of_the_empty_line() {
-    let is_empty = |record: &Vec<u8>| record[8] == 0 && record[..8] == [0xff; 8];
+    let is_empty = |record: &Vec<u8>| record[VARIABLES] == 0 && record[..VARIABLES] == [NONE; VARIABLES];
     let (records, _) = first_without_element("always in the middle of the table");
     assert_eq!(records.iter().position(is_empty), Some(2));
     assert_eq!(records.len(), 5);
@@ -263,6 +264,75 @@ fn longest_runs() {
     assert_eq!(fields(Buffers::new().run(&doubling, 0)), [1, 0, 159]);
     assert_eq!(fields(Buffers::new().run(&doubling, 1)), [0, 2, 82]);
     assert_eq!(fields(Buffers::new().run(&doubling, 2)), [0, 2, 160]);
+}
+
+/// The bindings of each line of one direction.
+fn bindings(name: &str, direction: u64) -> Vec<Vec<u8>> {
+    let mut buffers = Buffers::new();
+    let [lines, _, _] = fields(buffers.solve(&special_sheet(name), 0, direction));
+    let records = buffers.table.chunks(RECORD_BYTES).take(lines as usize);
+    records.map(|record| record[..VARIABLES].to_vec()).collect()
+}
+
+#[test]
+fn every_slot_is_bound() {
+    let name = "each of the twelve variables bound alone";
+    assert_eq!(solved(name, 0), [24, 19]);
+    // The constant, to which a variable is bound in every second line, is at position 16.
+    let expected = (0..24).map(|line| {
+        let mut slots = vec![NONE; VARIABLES];
+        if line % 2 == 1 {
+            slots[line / 2] = 16;
+        }
+        slots
+    });
+    assert_eq!(bindings(name, 0), expected.collect::<Vec<_>>());
+    let judged = [[1, 2], [1, 16], [1, 17], [1, 20], [1, 23], [1, 24], [0, 0], [1, 1]];
+    for (task, [yes, line]) in judged.into_iter().enumerate() {
+        assert_eq!(fields(Buffers::new().judge(&special_sheet(name), task as u64)), [yes, line, 0], "task {task}");
+    }
+    let alone = bindings("8b alone is bound", 0);
+    assert_eq!(alone, [vec![NONE; VARIABLES], [vec![NONE; VARIABLES - 1], vec![2]].concat()]);
+    let all = bindings("twelve bindings in one line", 0);
+    assert!(all.iter().any(|slots| !slots.contains(&NONE)));
+}
+
+#[test]
+fn twelve_variables() {
+    assert_eq!(solved("twelve variables in judgements and runs", 0), [32, 51]);
+    let sheet = special_sheet("twelve variables in judgements and runs");
+    assert_eq!(fields(Buffers::new().judge(&sheet, 0)), [1, 32, 0]);
+    assert_eq!(fields(Buffers::new().judge(&sheet, 2)), [1, 9, 0]);
+    let mut buffers = Buffers::new();
+    assert_eq!(fields(buffers.run(&sheet, 4)), [1, 0, 5]);
+    // q(x11, x8, x7, x4).
+    assert_eq!(buffers.term[..5], [2, 1, 0, 0, 1]);
+    assert_eq!(solved("four places, ten variables", 0), [0, 37]);
+    assert_eq!(solved("four places, ten variables", 1), [153, 263]);
+    let listed = [
+        ("8b in an equation", "110000010008 120001808b 110001010008 1200018b80 150101 1f0000"),
+        ("8b in an equation, eleven values", "ff050003"),
+        ("8b in a ground term", "ff060003"),
+        ("8c in an equation", "ff050002"),
+        ("8c in a ground term", "ff050003"),
+    ];
+    for (name, expected) in listed {
+        assert_eq!(listing(&special_sheet(name)), expected, "{name}");
+    }
+}
+
+#[test]
+fn doubled_terms() {
+    assert_eq!(solved("doubled ten times", 0), [209, 831]);
+    assert_eq!(refused("doubled ten times", 0, 1), [8, 2]);
+    // x0 to x4, which are 8b to 87, are bound, and x0 > y is the only element.
+    let bound = bindings("doubled ten times", 0);
+    assert!(bound.iter().any(|slots| slots[7..].iter().all(|&position| position != NONE)));
+    for (side, direction) in [("left", 0), ("right", 1)] {
+        let name = format!("doubled twelve times, {side}");
+        assert_eq!(refused(&name, 0, direction), [10, 2]);
+        assert_eq!(refused(&name, 0, 1 - direction), [8, 2]);
+    }
 }
 
 #[test]

@@ -3,15 +3,13 @@
 
 use bench::calls;
 use reference::generate::{text, Signature};
+use reference::limits::{SCRATCH_BYTES, SIDE_NODES, TABLE_BYTES, VARIABLES};
 use reference::random::Random;
 use reference::timing::times;
 use reference::walk::Walker;
 use reference::{rewrite, sheet};
 use std::time::{Duration, Instant};
 
-/// Nodes that a side may have, and variables that an equation may use.
-const SIDE: usize = 32;
-const VARIABLES: usize = 8;
 /// Steps without a gain after which a climb ends.
 const PATIENCE: usize = 60;
 
@@ -27,7 +25,7 @@ impl Candidate {
         let arities: &[u8] = random.pick(&[&[0, 0, 2], &[0, 1, 2], &[0, 2, 3], &[0, 3, 3], &[0, 4, 2], &[0, 1, 4], &[0, 1, 2, 4], &[0, 2, 2, 1]]);
         let signature = Signature { arities: arities.to_vec() };
         let mut side = || {
-            let (size, variables) = (random.from_to(8, SIDE), random.from_to(1, VARIABLES));
+            let (size, variables) = (random.from_to(8, SIDE_NODES), random.from_to(1, VARIABLES));
             signature.term(random, size, variables)
         };
         let (left, right) = (side(), side());
@@ -44,7 +42,7 @@ impl Candidate {
             let (size, variables) = (random.from_to(1, 12), random.from_to(1, VARIABLES));
             let part = self.signature.term(random, size, variables);
             side.splice(start..end, part);
-            if side.len() <= SIDE {
+            if side.len() <= SIDE_NODES {
                 return next;
             }
         }
@@ -100,7 +98,7 @@ fn main() {
     let seconds = arguments.next().unwrap_or(120);
     let mut seed = arguments.next().unwrap_or(1);
     let end = Instant::now() + Duration::from_secs(seconds);
-    let mut timing = Timing { walker: Walker::new(), table: vec![0xa5; 22_695], scratch: vec![0xa5; 57_344] };
+    let mut timing = Timing { walker: Walker::new(), table: vec![0xa5; TABLE_BYTES], scratch: vec![0xa5; SCRATCH_BYTES] };
     let mut found: Vec<(f64, u64, Candidate)> = Vec::new();
     let mut walks = 0u64;
     while Instant::now() < end {

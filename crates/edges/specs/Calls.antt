@@ -90,19 +90,19 @@ module _ (scratch : List ℕ) (long : leb scratch-bytes (length scratch) ≡ tru
   unfolding compare-call lines
   compare-damaged = compare-fits (lines ("0103000002" ∷ "02\r" ∷ [])) 9 scratch long
 
--- P11: each line's record, "8 binding positions (ff for none), element count, 40 pairs of positions (ff after the last)". x stands at 1, y at 2 and 4, ya at 3, a at 5.
+-- P11: each line's record, "12 binding positions" (document 02, W9), "(ff for none), element count, 40 pairs of positions (ff after the last)". x stands at 1, y at 2 and 4, ya at 3, a at 5.
 unfoldable whole-record : List ℕ → List ℕ
-whole-record bs = bs ++ replicate (89 - length bs) 0xff
+whole-record bs = bs ++ replicate (93 - length bs) 0xff
 
 abbrev P11-records : List (List ℕ)
 P11-records =
-    (0xff ∷ 0xff ∷ replicate 6 0xff ++ 1 ∷ 1 ∷ 3 ∷ [])
-    ∷ (3 ∷ 0xff ∷ replicate 6 0xff ++ 0 ∷ [])
-    ∷ (0xff ∷ 0xff ∷ replicate 6 0xff ++ 2 ∷ 1 ∷ 4 ∷ 1 ∷ 5 ∷ [])
-    ∷ (5 ∷ 0xff ∷ replicate 6 0xff ++ 1 ∷ 1 ∷ 4 ∷ [])
-    ∷ (0xff ∷ 0xff ∷ replicate 6 0xff ++ 2 ∷ 1 ∷ 4 ∷ 2 ∷ 5 ∷ [])
-    ∷ (0xff ∷ 5 ∷ replicate 6 0xff ++ 1 ∷ 1 ∷ 4 ∷ [])
-    ∷ (4 ∷ 0xff ∷ replicate 6 0xff ++ 1 ∷ 2 ∷ 5 ∷ [])
+    (0xff ∷ 0xff ∷ replicate 10 0xff ++ 1 ∷ 1 ∷ 3 ∷ [])
+    ∷ (3 ∷ 0xff ∷ replicate 10 0xff ++ 0 ∷ [])
+    ∷ (0xff ∷ 0xff ∷ replicate 10 0xff ++ 2 ∷ 1 ∷ 4 ∷ 1 ∷ 5 ∷ [])
+    ∷ (5 ∷ 0xff ∷ replicate 10 0xff ++ 1 ∷ 1 ∷ 4 ∷ [])
+    ∷ (0xff ∷ 0xff ∷ replicate 10 0xff ++ 2 ∷ 1 ∷ 4 ∷ 2 ∷ 5 ∷ [])
+    ∷ (0xff ∷ 5 ∷ replicate 10 0xff ++ 1 ∷ 1 ∷ 4 ∷ [])
+    ∷ (4 ∷ 0xff ∷ replicate 10 0xff ++ 1 ∷ 2 ∷ 5 ∷ [])
     ∷ []
 
 -- The walk's limits. "9, a line beyond 40 elements": with c, a 4-ary g, product and d, x·d > g(y, z, u, v)·g(g(x, x, x, x), g(x, x, x, x), x, x) has a line of 40
@@ -130,13 +130,13 @@ module _ (table scratch : List ℕ) where
 
       -- Solve: "lines, turns". "solve's table holds its records, bytes beyond them unchanged". x > y at positions 1 and 4.
       solve-P1 : solve-call (lines P1-sheet) 0 0 table scratch
-          ≡ record { returned = 1 * 2 ^ 8 + 8 * 2 ^ 24; table = written (replicate 8 0xff ++ 1 ∷ 1 ∷ 4 ∷ replicate 78 0xff) table; scratch = cleared scratch }
+          ≡ record { returned = 1 * 2 ^ 8 + 8 * 2 ^ 24; table = written (replicate 12 0xff ++ 1 ∷ 1 ∷ 4 ∷ replicate 78 0xff) table; scratch = cleared scratch }
       unfolding solve-call lines
       solve-P1 = solve-fits (lines P1-sheet) 0 0 table scratch fits
 
       -- Direction 01: y > x at positions 4 and 1.
       solve-P1-back : solve-call (lines P1-sheet) 0 1 table scratch
-          ≡ record { returned = 1 * 2 ^ 8 + 8 * 2 ^ 24; table = written (replicate 8 0xff ++ 1 ∷ 4 ∷ 1 ∷ replicate 78 0xff) table; scratch = cleared scratch }
+          ≡ record { returned = 1 * 2 ^ 8 + 8 * 2 ^ 24; table = written (replicate 12 0xff ++ 1 ∷ 4 ∷ 1 ∷ replicate 78 0xff) table; scratch = cleared scratch }
       unfolding solve-call lines
       solve-P1-back = solve-fits (lines P1-sheet) 0 1 table scratch fits
 
@@ -170,7 +170,7 @@ module _ (table scratch : List ℕ) where
       unfolding always-call lines
       always-forty-one = always-fits (lines forty-one) 1 0 table scratch fits
 
-      -- Judge: "1 or 0, first holding line counted from 1 or 0"; "judge and run leave the table's first 22,695 bytes ff".
+      -- Judge: "1 or 0, first holding line counted from 1 or 0"; "judge and run leave the table's first" 23,715 (document 02, W9) "bytes ff".
       judge-P1 : judge-call (lines P1-sheet) 1 table scratch ≡ record { returned = 0; table = blanked table; scratch = cleared scratch }
       unfolding judge-call lines
       judge-P1 = judge-fits (lines P1-sheet) 1 table scratch fits
@@ -184,7 +184,7 @@ module _ (table scratch : List ℕ) where
       unfolding judge-call lines
       judge-comparison = judge-fits (lines P1-sheet) 2 table scratch fits
 
-      -- "Refusals 8 to 10 leave 22,695 table bytes ff and 57,344 scratch bytes 00, other buffers unchanged". "The line is the equation's."
+      -- "Refusals 8 to 10 leave" 23,715 (W9) "table bytes ff and 57,344 scratch bytes 00, other buffers unchanged". "The line is the equation's."
       solve-forty-one : solve-call (lines forty-one) 1 0 table scratch ≡ record { returned = 9 + 3 * 2 ^ 8; table = blanked table; scratch = cleared scratch }
       unfolding solve-call lines
       solve-forty-one = solve-fits (lines forty-one) 1 0 table scratch fits

@@ -102,8 +102,9 @@ texts =
     ∷ text (abp-frame then "02808180\n") 5 2
     ∷ text (abp-frame then "028010\n") 5 2
     ∷ text (abp-frame then "02807f\n") 5 2
-    ∷ text (abp-frame then "028788\n") 5 2
-    ∷ text (abp-frame then "028780\n") 0 0
+    ∷ text (abp-frame then "028b8c\n") 5 2
+    ∷ text (abp-frame then "028788\n") 0 0
+    ∷ text (abp-frame then "028b80\n") 0 0
     ∷ text (abp-frame then "028003\n") 5 2
     ∷ text (abp-frame then xy then "03\n") 5 3
     ∷ text (abp-frame then xy then "0305\n") 5 3

@@ -10,13 +10,13 @@ use Rattle.solving.specs.Line.{unbound, greater, line}
 use Rattle.solving.specs.Walk.{Walked, solved, refused, solve}
 use Rattle.termination.specs.Walk.{walk-allowed}
 
--- xy = yx with the variables 8 and 9, which no sheet has: P1's line and turns, in lines of ten slots.
+-- xy = yx with the variables 12 and 13, which no sheet has: P1's line and turns, in lines of fourteen slots.
 swapped : Equation
-swapped = record { left = app 0 (cons (var 8) (cons (var 9) nil)); right = app 0 (cons (var 9) (cons (var 8) nil)) }
+swapped = record { left = app 0 (cons (var 12) (cons (var 13) nil)); right = app 0 (cons (var 13) (cons (var 12) nil)) }
 
-ten-variables : walk-allowed swapped left-right 8 ≡ solved (line (unbound 10) (greater 1 4 ∷ []) ∷ []) 8
+fourteen-variables : walk-allowed swapped left-right 8 ≡ solved (line (unbound 14) (greater 1 4 ∷ []) ∷ []) 8
 unfolding walk-allowed swapped
-ten-variables = refl
+fourteen-variables = refl
 
 -- An equation of a sheet whose table grows to 256 lines, right > left, so that the walk of document 01 is refused. Without limits it ends with 253 lines
 -- after 357 turns.

@@ -64,19 +64,19 @@ occurs-through : treat enough (view (equation "018081" "01018100018000")) no-bin
 unfolding treat view equation no-bindings
 occurs-through = refl
 
--- "a bound variable stands for its term, repeatedly": eight variables in a row, each bound to the next and the last to c.
+-- "a bound variable stands for its term, repeatedly": twelve variables in a row, each bound to the next and the last to c.
 unfoldable pub row : Equation
 unfolding equation
-row = equation "0180018101820183018401850186018780" "0181018201830184018501860187010080"
+row = equation "0180018101820183018401850186018701880189018a018b80" "018101820183018401850186018701880189018a018b010080"
 
 abbrev row-bindings : Bindings
-row-bindings = some 18 ∷ some 20 ∷ some 22 ∷ some 24 ∷ some 26 ∷ some 28 ∷ some 30 ∷ some 32 ∷ []
+row-bindings = some 26 ∷ some 28 ∷ some 30 ∷ some 32 ∷ some 34 ∷ some 36 ∷ some 38 ∷ some 40 ∷ some 42 ∷ some 44 ∷ some 46 ∷ some 48 ∷ []
 
-row-unified : treat enough (view row) no-bindings (equal 0 17) ≡ becomes (line row-bindings [] ∷ [])
+row-unified : treat enough (view row) no-bindings (equal 0 25) ≡ becomes (line row-bindings [] ∷ [])
 unfolding treat view row no-bindings
 row-unified = refl
 
-row-reached : reach enough (view row) row-bindings 1 ≡ 32
+row-reached : reach enough (view row) row-bindings 1 ≡ 48
 unfolding reach view row
 row-reached = refl
 

@@ -1,4 +1,4 @@
--- The fixed numbers of document 01, each named here and nowhere else.
+-- The fixed numbers of document 01, as document 02 moved them, each named here and nowhere else.
 use Prim.Native.Nat.{ℕ, _+_, _*_}
 
 -- "A node is one byte." The greatest byte.
@@ -21,9 +21,9 @@ max-symbols = 16
 abbrev pub max-arity : ℕ
 max-arity = 4
 
--- "80 to 87 variables"
+-- "Variables are 80 to 8b" (document 02, W9)
 abbrev pub variable-count : ℕ
-variable-count = 8
+variable-count = 12
 
 abbrev pub first-variable : ℕ
 first-variable = 0x80
@@ -72,12 +72,12 @@ cell-count = node-count * node-count
 abbrev pub no-position : ℕ
 no-position = 0xff
 
--- "records of 89 bytes: 8 binding positions (ff for none), element count, 40 pairs of positions"
+-- "records are 93 bytes with 12 binding positions" (W9), "(ff for none), element count, 40 pairs of positions"
 abbrev pub record-bytes : ℕ
 record-bytes = variable-count + 1 + 2 * max-elements
 
 -- 'Calls and lent memory'.
--- "table of 22,695 bytes (solve, judge, run), scratch of 57,344 (all but check), term of 160 and log of 765 (run)"
+-- "the table is 23,715 bytes" (W9); "scratch of 57,344 (all but check), term of 160 and log of 765 (run)"
 abbrev pub table-bytes : ℕ
 table-bytes = max-lines * record-bytes
 

@@ -28,7 +28,7 @@ pub fn classify(b: u8) -> Class
 {
     match b {
         0..=15 => Class::Symbol(b),
-        128..=135 => Class::Variable(b - Limits::FIRST_VARIABLE),
+        128..=139 => Class::Variable(b - Limits::FIRST_VARIABLE),
         _ => Class::Foreign,
     }
 }

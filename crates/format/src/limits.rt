@@ -19,7 +19,7 @@ impl Limits {
 
     pub const FIRST_VARIABLE: u8 = 128;
 
-    pub const VARIABLES: usize = 8;
+    pub const VARIABLES: usize = 12;
 
     pub const EQUATIONS: usize = 16;
 

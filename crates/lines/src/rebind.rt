@@ -4,18 +4,19 @@ use format::limits::Limits;
 ghost use mathlib.Core.Path.{_≡_};
 ghost use Prim.Native.Nat.{_+_, _≤_};
 ghost use lib.ListN.{length, set};
+ghost use lib.Seq.{slice};
 ghost use Rattle.format.specs.Limits.{variable-count};
 ghost use Rattle.lines.specs.Contracts.Layout.{line-bytes, reduced-place, placed};
 ghost use Rattle.lines.specs.Contracts.Rebind.{Differ};
 
-// Whether two bindings differ.
-pub fn differ(a: &[u8], b: &[u8]) -> bool
-    requires { ⌜ (length (now a) ≡ variable-count) × (length (now b) ≡ variable-count) ⌝ }
-    ensures { λ r. ⌜ Differ (now (a .entry)) (now (b .entry)) r ⌝ }
+// Whether the bindings of the line at `place` differ from `bindings`.
+pub fn differ(memory: &[u8], place: usize, bindings: &[u8]) -> bool
+    requires { ⌜ (place + variable-count ≤ length (now memory)) × (length (now bindings) ≡ variable-count) ⌝ }
+    ensures { λ r. ⌜ Differ (slice place (place + variable-count) (now (memory .entry))) (now (bindings .entry)) r ⌝ }
 {
     let mut i = 0;
     while i < Limits::VARIABLES {
-        if a[i] != b[i] {
+        if memory[place + i] != bindings[i] {
             return true;
         }
         i = i + 1;

@@ -5,7 +5,7 @@ use mathlib.Core.Option.{Option, none, some}
 use mathlib.Core.List.{List, [], _∷_, _++_, map, flatMap}
 use lib.ListN.{length}
 use lib.Dec.{ltb}
-use Rattle.format.specs.Limits.{first-variable}
+use Rattle.format.specs.Limits.{variable-count, first-variable}
 use Rattle.format.specs.Refusal.{number}
 use Rattle.format.specs.declared.refusal.Refusal.{Refusal}
 use Rattle.format.specs.Lists.{entry}
@@ -17,12 +17,12 @@ use Rattle.ordering.specs.Verdict.{verdict-number}
 use Rattle.ordering.specs.Decision.{decision, verdict-of, clause-number-of}
 use Rattle.sheet.specs.Text.{LF, base}
 use Rattle.sheet.specs.Sheet.{Task, run, judgement, comparison, Sheet}
-use Rattle.sheet.specs.Reading.{Reading, refused-at, accepted, read}
+use Rattle.sheet.specs.Reading.{Reading, refused-at, accepted, read-with, read}
 use Rattle.solving.specs.Line.{Bindings, Element, equal, greater, Line, line}
-use Rattle.solving.specs.Walk.{Walked, solved, refused, solve}
+use Rattle.solving.specs.Walk.{Walked, solved, refused, solve-with, solve}
 use Rattle.reducing.specs.Run.{Step, Run, ending-number, last-term}
-use Rattle.reducing.specs.Test.{holding-line, line-run, given-values}
-use Rattle.outcomes.specs.Asked.{WalkRefusal, first-refusal}
+use Rattle.reducing.specs.Test.{holding-line-with, holding-line, line-run-with, line-run, given-values}
+use Rattle.outcomes.specs.Asked.{WalkRefusal, first-refusal-with, first-refusal}
 
 -- The first byte of each frame that is printed.
 abbrev pub table-kind : ℕ
@@ -102,11 +102,6 @@ table-frames n e d (solved ls t) = (table-kind ∷ n ∷ direction-number d ∷ 
 -- Not met: a sheet is listed where every walk solves.
 table-frames n e d (refused r) = []
 
-unfoldable pub equation-frames : (n : ℕ) → List Equation → List (List ℕ)
-unfolding table-frames solve
-equation-frames n [] = []
-equation-frames n (e ∷ es) = table-frames n e left-right (solve e left-right) ++ table-frames n e right-left (solve e right-left) ++ equation-frames (suc n) es
-
 -- "run, each step '14', equation, direction, position, then '13', ending, steps, term"
 unfoldable pub step-frame : Step → List ℕ
 unfolding direction-number
@@ -121,47 +116,87 @@ unfoldable pub judgement-frame : (holding : ℕ) → List ℕ
 judgement-frame zero = judgement-kind ∷ 0 ∷ 0 ∷ []
 judgement-frame (suc i) = judgement-kind ∷ 1 ∷ suc i ∷ []
 
-unfoldable pub holding : Option Equation → Direction → Values → ℕ
-unfolding holding-line
--- Not met: the equation of an accepted judgement is there.
-holding none d ρ = 0
-holding (some e) d ρ = holding-line e d ρ
-
 -- "comparison, '16', 00 smaller, 01 equal, 02 greater"; "frame 16 gains a byte ...: 01, 02, 03, or 00 for equal" (document 02, W8)
 unfoldable pub comparison-frame : Decision → List ℕ
 unfolding verdict-number verdict-of clause-number-of
 comparison-frame d = comparison-kind ∷ verdict-number (verdict-of d) ∷ clause-number-of d ∷ []
 
+-- With any number of variables.
+module _ (variables : ℕ) where
+  unfoldable pub equation-frames-with : (n : ℕ) → List Equation → List (List ℕ)
+  unfolding table-frames solve-with
+  equation-frames-with n [] = []
+  equation-frames-with n (e ∷ es) = table-frames n e left-right (solve-with variables e left-right) ++ table-frames n e right-left (solve-with variables e right-left) ++ equation-frames-with (suc n) es
+
+  unfoldable pub holding-with : Option Equation → Direction → Values → ℕ
+  unfolding holding-line-with
+  -- Not met: the equation of an accepted judgement is there.
+  holding-with none d ρ = 0
+  holding-with (some e) d ρ = holding-line-with variables e d ρ
+
+  unfoldable pub task-frames-with : List Equation → Task → List (List ℕ)
+  unfolding run-frames line-run-with judgement-frame holding-with given-values entry comparison-frame decision
+  task-frames-with es (run k s) = run-frames s (line-run-with variables es k s)
+  task-frames-with es (judgement n d ts) = judgement-frame (holding-with (entry es n) d (given-values ts)) ∷ []
+  task-frames-with es (comparison s t) = comparison-frame (decision s t) ∷ []
+
+  -- "steps of all runs"
+  unfoldable pub steps-taken-with : List Equation → List Task → ℕ
+  unfolding line-run-with
+  steps-taken-with es [] = 0
+  steps-taken-with es (run k s ∷ ts) = length (line-run-with variables es k s .steps) + steps-taken-with es ts
+  steps-taken-with es (judgement n d vs ∷ ts) = steps-taken-with es ts
+  steps-taken-with es (comparison s t ∷ ts) = steps-taken-with es ts
+
+  -- "Last '1f', steps of all runs in two bytes."
+  unfoldable pub sheet-frames-with : Sheet → List (List ℕ)
+  unfolding equation-frames-with task-frames-with steps-taken-with two-bytes flatMap
+  sheet-frames-with s = equation-frames-with 0 (s .equations) ++ flatMap (task-frames-with (s .equations)) (s .tasks) ++ (total-kind ∷ two-bytes (steps-taken-with (s .equations) (s .tasks))) ∷ []
+
+  unfoldable pub walked-frames-with : Sheet → Option WalkRefusal → List (List ℕ)
+  unfolding refusal-frame sheet-frames-with
+  walked-frames-with s (some r) = refusal-frame (r .refusal) (r .line) ∷ []
+  walked-frames-with s none = sheet-frames-with s
+
+  unfoldable pub frames-with : Reading Sheet → List (List ℕ)
+  unfolding refusal-frame walked-frames-with first-refusal-with
+  frames-with (refused-at r n) = refusal-frame r n ∷ []
+  frames-with (accepted s) = walked-frames-with s (first-refusal-with variables 0 (s .equations))
+
+  -- "It reads a sheet from standard input and prints frames"
+  unfoldable pub listing-with : List ℕ → List ℕ
+  unfolding printed frames-with read-with
+  listing-with input = printed (frames-with (read-with variables input))
+
+-- With the sheet's number of variables.
+unfoldable pub equation-frames : (n : ℕ) → List Equation → List (List ℕ)
+unfolding equation-frames-with solve
+equation-frames = equation-frames-with variable-count
+
+unfoldable pub holding : Option Equation → Direction → Values → ℕ
+unfolding holding-with holding-line
+holding = holding-with variable-count
+
 unfoldable pub task-frames : List Equation → Task → List (List ℕ)
-unfolding run-frames line-run judgement-frame holding given-values entry comparison-frame decision
-task-frames es (run k s) = run-frames s (line-run es k s)
-task-frames es (judgement n d ts) = judgement-frame (holding (entry es n) d (given-values ts)) ∷ []
-task-frames es (comparison s t) = comparison-frame (decision s t) ∷ []
+unfolding task-frames-with line-run holding
+task-frames = task-frames-with variable-count
 
--- "steps of all runs"
 unfoldable pub steps-taken : List Equation → List Task → ℕ
-unfolding line-run
-steps-taken es [] = 0
-steps-taken es (run k s ∷ ts) = length (line-run es k s .steps) + steps-taken es ts
-steps-taken es (judgement n d vs ∷ ts) = steps-taken es ts
-steps-taken es (comparison s t ∷ ts) = steps-taken es ts
+unfolding steps-taken-with line-run
+steps-taken = steps-taken-with variable-count
 
--- "Last '1f', steps of all runs in two bytes."
 unfoldable pub sheet-frames : Sheet → List (List ℕ)
-unfolding equation-frames task-frames steps-taken two-bytes flatMap
-sheet-frames s = equation-frames 0 (s .equations) ++ flatMap (task-frames (s .equations)) (s .tasks) ++ (total-kind ∷ two-bytes (steps-taken (s .equations) (s .tasks))) ∷ []
+unfolding sheet-frames-with equation-frames task-frames steps-taken
+sheet-frames = sheet-frames-with variable-count
 
 unfoldable pub walked-frames : Sheet → Option WalkRefusal → List (List ℕ)
-unfolding refusal-frame sheet-frames
-walked-frames s (some r) = refusal-frame (r .refusal) (r .line) ∷ []
-walked-frames s none = sheet-frames s
+unfolding walked-frames-with sheet-frames
+walked-frames = walked-frames-with variable-count
 
 unfoldable pub frames : Reading Sheet → List (List ℕ)
-unfolding refusal-frame walked-frames first-refusal
-frames (refused-at r n) = refusal-frame r n ∷ []
-frames (accepted s) = walked-frames s (first-refusal 0 (s .equations))
+unfolding frames-with walked-frames first-refusal
+frames = frames-with variable-count
 
--- "It reads a sheet from standard input and prints frames"
 unfoldable pub listing : List ℕ → List ℕ
-unfolding printed frames read
-listing input = printed (frames (read input))
+unfolding listing-with frames read
+listing = listing-with variable-count

@@ -38,7 +38,7 @@ unfoldable pub cleared : List ℕ → List ℕ
 unfolding filled
 cleared scratch = filled scratch-bytes 0x00 scratch
 
--- "the table's first 22,695 bytes ff"
+-- "the table's first" 23,715 (document 02, W9) "bytes ff"
 unfoldable pub blanked : List ℕ → List ℕ
 unfolding filled
 blanked table = filled table-bytes no-position table

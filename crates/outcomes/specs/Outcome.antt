@@ -1,4 +1,4 @@
--- The outcome of each of the six calls (document 01, 'Calls and lent memory' and 'Who can cause a refusal'; document 02, W6 and W8): from the sheet, the arguments and the
+-- The outcome of each of the six calls (document 01, 'Calls and lent memory' and 'Who can cause a refusal'; document 02, W6, W8 and W9): from the sheet, the arguments and the
 -- former bytes of the lent buffers to the number returned and every byte of every buffer at exit. A buffer's length is that of its list.
 use Prim.Native.Nat.{ℕ, zero, suc}
 use mathlib.Core.Bool.{Bool, true, false, _&&_}
@@ -60,10 +60,11 @@ pub record TableOutcome : Type 0 where
   pub table : List ℕ
   pub scratch : List ℕ
 
+-- "11, refusals 8 to 10 and the ff after judge, run and W6 go by the longer table" (document 02, W9): all by `table-bytes`.
 unfoldable pub table-fits : (table scratch : List ℕ) → Bool
 table-fits table scratch = leb table-bytes (length table) && leb scratch-bytes (length scratch)
 
--- "Refusals 8 to 10 leave 22,695 table bytes ff and 57,344 scratch bytes 00"
+-- "Refusals 8 to 10 leave" 23,715 (document 02, W9) "table bytes ff and 57,344 scratch bytes 00"
 unfoldable pub table-unsolved : (table scratch : List ℕ) → Refusal → (line : ℕ) → TableOutcome
 unfolding refusal-number blanked cleared
 table-unsolved table scratch r line = record { returned = refusal-number r line; table = blanked table; scratch = cleared scratch }
@@ -110,7 +111,7 @@ unfoldable pub always-call : (sheet : List ℕ) → (equation direction : ℕ) �
 unfolding directed-call always-directed
 always-call sheet e d table scratch = directed-call (always-directed e table scratch) sheet e d table scratch
 
--- Judge: "1 or 0, first holding line counted from 1 or 0"; "judge and run leave the table's first 22,695 bytes ff".
+-- Judge: "1 or 0, first holding line counted from 1 or 0"; "judge and run leave the table's first" 23,715 (W9) "bytes ff".
 unfoldable pub judge-fields : (holding : ℕ) → ℕ
 unfolding fields
 judge-fields zero = fields 0 0 0

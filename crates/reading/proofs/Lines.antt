@@ -70,12 +70,12 @@ lines-step : (state : State) (lines : ℕ) (text-line : TextLine) (more : List T
 unfolding read-lines after-line
 lines-step state lines text-line more r e = ap (after-line lines more) e
 
-broken-line : (state : State) (text-line : TextLine) → frame-of text-line ≡ none → read-line state text-line ≡ refuse Digits
-unfolding read-line
-broken-line state text-line e = rw (e, read-line)
-
 by-frame : State → Option (List ℕ) → Result State
 by-frame state o = elim o [ none ↦ refuse Digits | some bs ↦ read-frame state bs ]
+
+broken-line : (state : State) (text-line : TextLine) → frame-of text-line ≡ none → read-line state text-line ≡ refuse Digits
+unfolding read-line by-frame
+broken-line state text-line e = ap (by-frame state) e
 
 line-framed : (state : State) (text-line : TextLine) (bs : List ℕ) → frame-of text-line ≡ some bs → read-line state text-line ≡ read-frame state bs
 unfolding read-line by-frame

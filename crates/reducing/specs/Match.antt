@@ -14,8 +14,12 @@ use Rattle.terms.specs.Equation.{Equation, Direction, source, target}
 abbrev pub Match : Type 0
 Match = List (Option Term)
 
+-- None of `variables` variables is met.
+abbrev pub unmet : (variables : ℕ) → Match
+unmet variables = replicate variables none
+
 unfoldable pub no-match : Match
-no-match = replicate variable-count none
+no-match = unmet variable-count
 
 -- A variable meets a term: "a repeated variable meets identical terms".
 unfoldable pub meet : Match → ℕ → Term → Option Term → Option Match

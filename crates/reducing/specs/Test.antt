@@ -3,12 +3,13 @@ use Prim.Native.Nat.{ℕ}
 use mathlib.Core.Bool.{Bool, true, false}
 use mathlib.Core.List.{List, [], _∷_}
 use lib.Dec.{ltb}
+use Rattle.format.specs.Limits.{variable-count}
 use Rattle.terms.specs.Term.{Term, Terms, var, nth, Values, inst}
 use Rattle.terms.specs.Equation.{Equation, Direction, source, target, value}
 use Rattle.ordering.specs.Theory.Decide.{exceeds?}
-use Rattle.solving.specs.Walk.{Walked, solved, refused, solve, Solves}
+use Rattle.solving.specs.Walk.{Walked, solved, refused, solve-with, solve, Solves}
 use Rattle.solving.specs.Judge.{first-holding}
-use Rattle.reducing.specs.Run.{Run, run}
+use Rattle.reducing.specs.Run.{Run, run-with, run}
 
 -- The first line of a direction's table that holds at values, counted from 1; 0 where none holds.
 unfoldable pub holding-in : Equation → Values → Walked → ℕ
@@ -17,24 +18,39 @@ holding-in e ρ (solved table n) = first-holding ρ (value e ρ) table
 -- Not met: judge and run go on only where every walk solves.
 holding-in e ρ (refused r) = 0
 
-unfoldable pub holding-line : Equation → Direction → Values → ℕ
-unfolding holding-in solve
-holding-line e d ρ = holding-in e ρ (solve e d)
+-- With any number of variables.
+module _ (variables : ℕ) where
+  unfoldable pub holding-line-with : Equation → Direction → Values → ℕ
+  unfolding holding-in solve-with
+  holding-line-with e d ρ = holding-in e ρ (solve-with variables e d)
 
--- "one of whose lines holds at the match"
+  -- "one of whose lines holds at the match"
+  unfoldable pub line-test-with : Equation → Direction → Values → Bool
+  unfolding holding-line-with
+  line-test-with e d ρ = ltb 0 (holding-line-with e d ρ)
+
+  -- "the run is the one that this section defines over these tables"
+  unfoldable pub line-run-with : List Equation → (k : ℕ) → (subject : Term) → Run
+  unfolding run-with line-test-with
+  line-run-with = run-with variables line-test-with
+
+-- With the sheet's number of variables.
+unfoldable pub holding-line : Equation → Direction → Values → ℕ
+unfolding holding-line-with solve
+holding-line = holding-line-with variable-count
+
 unfoldable pub line-test : Equation → Direction → Values → Bool
-unfolding holding-line
-line-test e d ρ = ltb 0 (holding-line e d ρ)
+unfolding line-test-with holding-line
+line-test = line-test-with variable-count
+
+unfoldable pub line-run : List Equation → (k : ℕ) → (subject : Term) → Run
+unfolding line-run-with run line-test
+line-run = line-run-with variable-count
 
 -- "whose source instance exceeds its target instance by L1 to L3"
 unfoldable pub reference-test : Equation → Direction → Values → Bool
 unfolding exceeds? inst source target
 reference-test e d ρ = elim (exceeds? (inst ρ (source e d)) (inst ρ (target e d))) [ yes g ↦ true | no n ↦ false ]
-
--- "the run is the one that this section defines over these tables"
-unfoldable pub line-run : List Equation → (k : ℕ) → (subject : Term) → Run
-unfolding run line-test
-line-run = run line-test
 
 -- "The reference run is this text with 'one of whose lines holds' replaced by 'whose source instance exceeds its target instance by L1 to L3'."
 unfoldable pub reference-run : List Equation → (k : ℕ) → (subject : Term) → Run

@@ -135,7 +135,7 @@ module _ (k : Known) (s : Sheet) (knows : KnowsSheet k s) where
       width-known : (q : Equation) → entry (s .equations) e ≡ some q → getD (k .widths) e 0 ≡ equation-width q
       width-known q i = sym (getD-listed (k .equations) (k .widths) e there) ∙ ap (λ ws. getD ws e 0) (knows .widths-are) ∙ width-entry (s .equations) e q i
 
-      -- A width is that of at most eight variables.
+      -- A width is that of at most as many variables as there are.
       pub width-few : getD (k .widths) e 0 ≤ variable-count
       width-few =
           let (q, i) = named in

@@ -31,7 +31,7 @@ pub data Element : Type 0 where
 pub data Line : Type 0 where
   line : Bindings → List Element → Line
 
--- "records of 89 bytes: 8 binding positions (ff for none), element count, 40 pairs of positions (ff after the last)"
+-- "records are 93 bytes with 12 binding positions" (document 02, W9), "(ff for none), element count, 40 pairs of positions (ff after the last)"
 unfoldable pub binding-byte : Option ℕ → ℕ
 binding-byte none = no-position
 binding-byte (some p) = p

@@ -22,8 +22,11 @@ pub record Fuel : Type 0 where
   pub occurs-depth : ℕ
   pub unify-depth : ℕ
 
+abbrev pub enough-with : (variables : ℕ) → Fuel
+enough-with variables = record { hops = variables; occurs-depth = suc position-count; unify-depth = suc position-count }
+
 abbrev pub enough : Fuel
-enough = record { hops = variable-count; occurs-depth = suc position-count; unify-depth = suc position-count }
+enough = enough-with variable-count
 
 -- At least as much of each.
 pub record AtLeast (least fuel : Fuel) : Type 0 where
@@ -203,15 +206,24 @@ module _ (fuel : Fuel) (view : ℕ → Node) where
   unfolding walk-until opening
   walk-within over stop most vars s t = walk-until over stop most 0 (opening vars s t)
 
-  -- The walk of document 01: "At most 10,000 turns."
-  unfoldable pub walk : (s t : ℕ) → Walked
+  -- The walk of document 01, with any number of variables: "At most 10,000 turns."
+  unfoldable pub walk-with : (variables : ℕ) → (s t : ℕ) → Walked
   unfolding walk-within over-limit
-  walk = walk-within over-limit (λ table. false) max-turns variable-count
+  walk-with = walk-within over-limit (λ table. false) max-turns
 
--- The walk of one direction of an equation.
+  -- With the sheet's number of variables.
+  unfoldable pub walk : (s t : ℕ) → Walked
+  unfolding walk-with
+  walk = walk-with variable-count
+
+-- The walk of one direction of an equation, with any number of variables and with the sheet's.
+unfoldable pub solve-with : (variables : ℕ) → Equation → Direction → Walked
+unfolding walk-with view source-position target-position
+solve-with variables e d = walk-with (enough-with variables) (view e) variables (source-position e d) (target-position e d)
+
 unfoldable pub solve : Equation → Direction → Walked
-unfolding walk view source-position target-position
-solve e d = walk enough (view e) (source-position e d) (target-position e d)
+unfolding solve-with walk
+solve = solve-with variable-count
 
 -- "a direction solves if its walk earns none of 8 to 10; its table is the one that this walk ends with"
 pub record Solves (e : Equation) (d : Direction) : Type 0 where

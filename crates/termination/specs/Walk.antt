@@ -12,7 +12,7 @@ use Rattle.sheet.specs.Sheet.{equation-width}
 use Rattle.solving.specs.Line.{Line}
 use Rattle.solving.specs.Walk.{Fuel, Walked, solved, walk-within}
 
--- The slots for bindings in each line: 8 as in document 01, or more if the equation has a variable numbered 8 or higher.
+-- The slots for bindings in each line: as many as a record has, or more if the equation has a variable with a higher number.
 unfoldable pub slots : Equation → ℕ
 unfolding equation-width
 slots e = max variable-count (equation-width e)

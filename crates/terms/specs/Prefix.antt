@@ -1,8 +1,8 @@
 -- The prefix form of terms (document 01, 'The sheet').
 use Prim.Native.Nat.{ℕ, zero, suc, _+_}
 use mathlib.Core.List.{List, [], _∷_, _++_}
-use Rattle.format.specs.Limits.{first-variable}
-use Rattle.format.specs.Byte.{class-of}
+use Rattle.format.specs.Limits.{variable-count, first-variable}
+use Rattle.format.specs.Byte.{class-of-with, class-of}
 use Rattle.format.specs.declared.byte.Class.{Class}
 use Rattle.format.specs.declared.byte.Class.the-variants.{Symbol as symbol, Variable as variable, Foreign as foreign}
 use Rattle.terms.specs.Term.{Term, Terms, var, app, nil, cons, arity}
@@ -40,8 +40,15 @@ put-node arities (symbol f) ts = cons (app f (take-terms (arity arities f) ts)) 
 put-node arities (variable v) ts = cons (var v) ts
 put-node arities foreign ts = ts
 
--- The terms whose prefix forms, one after the other, are these bytes.
+-- With any number of variables.
+module _ (variables : ℕ) where
+  -- The terms whose prefix forms, one after the other, are these bytes.
+  unfoldable pub terms-of-with : List ℕ → List ℕ → Terms
+  unfolding put-node class-of-with
+  terms-of-with arities [] = nil
+  terms-of-with arities (b ∷ bs) = put-node arities (class-of-with variables b) (terms-of-with arities bs)
+
+-- With the sheet's number of variables.
 unfoldable pub terms-of : List ℕ → List ℕ → Terms
-unfolding put-node class-of
-terms-of arities [] = nil
-terms-of arities (b ∷ bs) = put-node arities (class-of b) (terms-of arities bs)
+unfolding terms-of-with class-of
+terms-of = terms-of-with variable-count

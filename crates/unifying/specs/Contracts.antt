@@ -5,4 +5,5 @@ pub mod Unifier
 pub mod Unify
 pub mod Bindings
 pub mod Sets
+pub mod Links
 pub mod PrefixForm

@@ -34,7 +34,8 @@ pub fn unify_positions(
     for i in 0..Limits::VARIABLES {
         own[i] = bindings[i];
     }
-    let answer = unify_terms(nodes, sizes, variables, &mut own, p, q, DEPTH);
+    let mut links = [Limits::NO_POSITION; Limits::POSITIONS];
+    let answer = unify_terms(nodes, sizes, variables, &mut own, &mut links, p, q, DEPTH);
     Unifier {
         answer: answer,
         bindings: own,

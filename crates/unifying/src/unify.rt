@@ -1,4 +1,5 @@
 // Unification, left argument first; bindings are changed in place.
+use crate::links::linked;
 use crate::occurs::occurs_at;
 use crate::reach::reached;
 use format::byte::wide;
@@ -17,6 +18,8 @@ ghost use Rattle.solving.specs.Walk.{enough, occurs, bind-unless, unify-variabl
 ghost use Rattle.unifying.specs.Contracts.PrefixForm.{view-of};
 ghost use Rattle.unifying.specs.Contracts.Bindings.{bindings-of, Readable};
 ghost use Rattle.unifying.specs.Contracts.Sets.{HasVariables};
+ghost use Rattle.unifying.specs.Contracts.Links.{Linked};
+ghost use Rattle.unifying.specs.declared.unify.Answer.the-variants.{Unified};
 ghost use Rattle.unifying.specs.Contracts.Unify.{answered, FreeAt, HasRows, BindsTo, UnifiesSymbols, UnifiesTo, UnifiesRows};
 
 // Whether there is a unifier; the bindings beside it are then those that give it.
@@ -107,31 +110,45 @@ fn bind_reached(
 }
 
 // Unifies the terms at two positions. No descent is deeper than there are positions, so that `depth` does not run out.
+// Terms that were unified are linked, and not gone into again: bindings that double terms would make it long.
 pub fn unify_terms(
     nodes: &[u8],
     sizes: &[u8],
     variables: &[u16],
     bindings: &mut [u8],
+    links: &mut [u8],
     p: usize,
     q: usize,
     depth: usize,
 ) -> Answer
     requires { ⌜ Readable (now nodes) (now sizes) (now bindings) × HasVariables (now nodes) (now sizes) (now variables) ⌝ }
     requires { ⌜ (p < length (now nodes)) × (q < length (now nodes)) ⌝ }
+    requires { ⌜ Linked (now nodes) (now sizes) (now bindings) (now links) ⌝ }
     ensures { λ r. ⌜ UnifiesTo (now (nodes .entry)) (now (sizes .entry)) depth (bindings-of (now (bindings .entry))) p q r (bindings-of (now (bindings .exit))) ⌝ }
+    ensures { λ r. ⌜ (r ≡ Unified → Linked (now (nodes .entry)) (now (sizes .entry)) (now (bindings .exit)) (now (links .exit))) ⌝ }
 {
     if depth == 0 {
         return Answer::Failed;
     }
     let s = reached(nodes, sizes, bindings, p);
     let t = reached(nodes, sizes, bindings, q);
-    // A term and itself: without this, bindings that double terms would make unification long.
     if s == t {
         return Answer::Unified;
     }
     if nodes[s] < Limits::FIRST_VARIABLE {
         if nodes[t] < Limits::FIRST_VARIABLE {
-            return unify_symbols(nodes, sizes, variables, bindings, s, t, depth - 1);
+            let a = linked(links, s);
+            let b = linked(links, t);
+            if a == b {
+                return Answer::Unified;
+            }
+            let answer = unify_symbols(nodes, sizes, variables, bindings, links, s, t, depth - 1);
+            let Answer::Unified = answer else {
+                return Answer::Failed;
+            };
+            links[a] = b as u8;
+            links[s] = b as u8;
+            return Answer::Unified;
         }
     }
     bind_reached(nodes, sizes, variables, bindings, s, t)
@@ -143,6 +160,7 @@ fn unify_symbols(
     sizes: &[u8],
     variables: &[u16],
     bindings: &mut [u8],
+    links: &mut [u8],
     s: usize,
     t: usize,
     depth: usize,
@@ -150,14 +168,16 @@ fn unify_symbols(
     requires { ⌜ Readable (now nodes) (now sizes) (now bindings) × HasVariables (now nodes) (now sizes) (now variables) ⌝ }
     requires { ⌜ (s < length (now nodes)) × (getD (now nodes) s 0 < first-variable) ⌝ }
     requires { ⌜ (t < length (now nodes)) × (getD (now nodes) t 0 < first-variable) ⌝ }
+    requires { ⌜ Linked (now nodes) (now sizes) (now bindings) (now links) ⌝ }
     ensures { λ r. ⌜ UnifiesSymbols (now (nodes .entry)) (now (sizes .entry)) depth (bindings-of (now (bindings .entry))) s t r (bindings-of (now (bindings .exit))) ⌝ }
+    ensures { λ r. ⌜ (r ≡ Unified → Linked (now (nodes .entry)) (now (sizes .entry)) (now (bindings .exit)) (now (links .exit))) ⌝ }
 {
     if nodes[s] != nodes[t] {
         return Answer::Failed;
     }
     let left = arguments_of(sizes, s);
     let right = arguments_of(sizes, t);
-    unify_rows(nodes, sizes, variables, bindings, left, right, depth)
+    unify_rows(nodes, sizes, variables, bindings, links, left, right, depth)
 }
 
 // Unifies the terms of two rows, one by one.
@@ -166,13 +186,16 @@ fn unify_rows(
     sizes: &[u8],
     variables: &[u16],
     bindings: &mut [u8],
+    links: &mut [u8],
     left: Arguments,
     right: Arguments,
     depth: usize,
 ) -> Answer
     requires { ⌜ Readable (now nodes) (now sizes) (now bindings) × HasVariables (now nodes) (now sizes) (now variables) ⌝ }
     requires { ⌜ HasRows (now nodes) (now sizes) left right ⌝ }
+    requires { ⌜ Linked (now nodes) (now sizes) (now bindings) (now links) ⌝ }
     ensures { λ r. ⌜ UnifiesRows (now (nodes .entry)) (now (sizes .entry)) depth (bindings-of (now (bindings .entry))) left right r (bindings-of (now (bindings .exit))) ⌝ }
+    ensures { λ r. ⌜ (r ≡ Unified → Linked (now (nodes .entry)) (now (sizes .entry)) (now (bindings .exit)) (now (links .exit))) ⌝ }
 {
     if left.from < left.end {
         if right.from < right.end {
@@ -181,6 +204,7 @@ fn unify_rows(
                 sizes,
                 variables,
                 bindings,
+                links,
                 left.from,
                 right.from,
                 depth,
@@ -190,7 +214,16 @@ fn unify_rows(
             };
             let others = other_arguments(sizes, left);
             let opposite = other_arguments(sizes, right);
-            return unify_rows(nodes, sizes, variables, bindings, others, opposite, depth);
+            return unify_rows(
+                nodes,
+                sizes,
+                variables,
+                bindings,
+                links,
+                others,
+                opposite,
+                depth,
+            );
         }
         return Answer::Failed;
     }

@@ -5,7 +5,7 @@ use mathlib.Core.Logic.{_⊎_, inl, inr}
 use mathlib.Core.Option.{some}
 use mathlib.Core.List.{List, [], _∷_, _++_, map}
 use lib.ListN.{length, getD, set, take, drop, length-set, List·getD-map}
-use lib.Seq.{slice, take-take, take-suc, take-all, split-at, length-take-le, getD-take, getD-drop, getD-set-same, getD-set-other}
+use lib.Seq.{slice, take-suc, take-all, split-at, length-take-le, getD-take, getD-drop, getD-set-same, getD-set-other}
 use native.Mathlib.Decide.{decLt, ℕ-discrete}
 use native.Mathlib.Numerals.{add-one}
 use native.Mathlib.Omega.{arith}
@@ -19,8 +19,7 @@ use Rattle.lines.specs.declared.line.Line.{Line as LineValue}
 use Rattle.lines.specs.Contracts.Layout.{count-place, first-element, reduced-place, line-bytes}
 use Rattle.lines.specs.Contracts.Resting.{said, meaning, marked, RestingLine, line-of, resting-bytes}
 use Rattle.lines.specs.Contracts.Line.{HasHead, elements-from, Carries}
-use Rattle.lines.specs.Theory.Resting.{count-there, reduced-there, bindings-there, element-there}
-use Rattle.lines.specs.Theory.InPlace.{slice-is}
+use Rattle.lines.specs.Theory.Resting.{count-there, reduced-there, element-there}
 use Rattle.lines.specs.Theory.Line.{unfilled, elements-hold}
 use Rattle.treating.specs.declared.treat.Treatment.{Treatment}
 use Rattle.treating.specs.declared.treat.Treatment.the-variants.{Reduced}
@@ -28,7 +27,7 @@ use Rattle.walking.specs.declared.walk.Walk.{Walk}
 use Rattle.treating.specs.Contracts.Treatment.{Treated}
 use Rattle.walking.specs.Contracts.WellFormed.{KnownReduced, WellFormed}
 use Rattle.walking.specs.Contracts.Walking.{HoldsTable, table-reached, Walking, Finishing, TreatingLine}
-use Rattle.walking.proofs.Walking.{first-there}
+use Rattle.walking.proofs.Walking.{first-there, first-bindings}
 
 pub below-limit : {n : ℕ} → n ≤ max-turns → (n ≡ max-turns → ⊥) → n < max-turns
 below-limit {n = n} l e = go (decLt n max-turns)
@@ -128,12 +127,7 @@ module _ {nodes sizes memory : List ℕ} {w : Walk} (k : Walking nodes sizes mem
     head-reduced = d .reduced-is ∙ (byte-there reduced-place (omega arith) ∙ reduced-there (opened .first) slots (first-well-formed .few))
 
     pub head-bindings : start .bindings ≡ opened .first .bindings
-    head-bindings =
-        let p = place-there in
-        d .bindings-are
-        ∙ (slice-is place variable-count memory (omega arith)
-        ∙ (sym (take-take variable-count line-bytes (drop place memory) (omega arith))
-        ∙ (ap (take variable-count) (sym (slice-is place line-bytes memory (omega arith)) ∙ first-there (opened .holds)) ∙ bindings-there (opened .first) slots)))
+    head-bindings = d .bindings-are ∙ first-bindings (opened .holds)
 
     pub head-readable : Readable nodes sizes (start .bindings)
     head-readable = rw head-bindings (first-well-formed .readable)

@@ -40,7 +40,7 @@ use Rattle.walking.specs.Contracts.WellFormed.{KnownReduced, WellFormed}
 use Rattle.walking.specs.Contracts.Walking.{Finishing, Treating, TreatingLine, TreatingCount, GoesOn, Earns}
 use Rattle.treating.proofs.Treatment.{unified-not, asks-becomes}
 use Rattle.walking.proofs.Turn.{around}
-use Rattle.walking.proofs.Walking.{first-there, refused-turns, turned, finished-on}
+use Rattle.walking.proofs.Walking.{first-there, first-bindings, refused-turns, turned, finished-on}
 use Rattle.walking.proofs.Children.{first-treated, children-lines, element-within, length-split, child-well-formed, rebound-well-formed}
 
 -- A finished line has inequalities only.
@@ -159,9 +159,6 @@ module _ {nodes sizes memory : List ℕ} {w : Walk} {l : LineValue} {at : ℕ} {
   own-bindings : l .bindings ≡ g .first .bindings
   own-bindings = h .line-holds .bindings-are
 
-  pub line-slots : length (l .bindings) ≡ variable-count
-  line-slots = ap length own-bindings ∙ readable-slots (well-formed-first g .readable)
-
   markable-within : (n : ℕ) (es : List Element) → n ≤ equality-mark → AllWithin n es → Markable es
   markable-within n [] k u = tt
   markable-within n (equal p q ∷ es) k u = (omega (arith, u .0 .0), markable-within n es k (u .1))
@@ -250,11 +247,12 @@ module _ {nodes sizes memory : List ℕ} {w : Walk} {l : LineValue} {at : ℕ} {
               (treated-equal (some (bindings-of (r .bindings))) some-unifier)
 
           -- "success the element", with the bindings that were there,
-          pub unify-kept : (memory′ : List ℕ) → l .bindings ≡ r .bindings → Removes l (w .top * line-bytes) at memory memory′ → GoesOn nodes sizes memory′ w (after-turn w (w .top))
+          pub unify-kept : (memory′ : List ℕ) → slice (w .top * line-bytes) (w .top * line-bytes + variable-count) memory ≡ r .bindings → Removes l (w .top * line-bytes) at memory memory′
+              → GoesOn nodes sizes memory′ w (after-turn w (w .top))
           unfolding line-of
           unify-kept memory′ e v =
               goes-with g below memory′ (shorter g below) (shorter-well-formed g below)
-              (treated-some ∙ ap (λ b. some (line-with (bindings-of b) (g .pre ++ g .post) ∷ [])) (sym e ∙ own-bindings))
+              (treated-some ∙ ap (λ b. some (line-with (bindings-of b) (g .pre ++ g .post) ∷ [])) (sym e ∙ first-bindings (g .holds)))
               (removed memory′ v)
 
           -- or with others, under which no element has been looked at.

@@ -30,7 +30,7 @@ use Rattle.solving.specs.Theory.Records.{length-record-of}
 use Rattle.unifying.specs.Theory.Bindings.{length-bindings, readable-slots}
 use Rattle.lines.specs.Theory.Placed.{placed-length, placed-back, drop-placed}
 use Rattle.lines.specs.Theory.InPlace.{slice-is, lines-append}
-use Rattle.lines.specs.Theory.Resting.{length-resting}
+use Rattle.lines.specs.Theory.Resting.{bindings-there, length-resting}
 use Rattle.walking.proofs.Turn.{Settled, leftmost-none, finished-append, turn-none, turn-some, short-append, finished-short, crowded-middle, over-elements, over-lines, within-limits}
 
 -- 1. Parts of a buffer.
@@ -68,6 +68,13 @@ module _ {nodes sizes memory : List ℕ} {done top : ℕ} {finished : List Line}
   first-there =
       slice-is (top * line-bytes) line-bytes memory (omega (arith, place-within))
       ∙ (ap (take line-bytes) (m .lines-are) ∙ take-at (resting-bytes first) (lines-bytes others) line-bytes (well-formed-length first (m .all-well-formed .0)))
+
+  pub first-bindings : slice (top * line-bytes) (top * line-bytes + variable-count) memory ≡ first .bindings
+  first-bindings =
+      let p = place-within in
+      slice-is (top * line-bytes) variable-count memory (omega arith)
+      ∙ (sym (take-take variable-count line-bytes (drop (top * line-bytes) memory) (omega arith))
+      ∙ (ap (take variable-count) (sym (slice-is (top * line-bytes) line-bytes memory (omega arith)) ∙ first-there) ∙ bindings-there first (readable-slots (m .all-well-formed .0 .readable))))
 
   others-there : drop ((top + 1) * line-bytes) memory ≡ lines-bytes others
   unfolding lines-bytes

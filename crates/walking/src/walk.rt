@@ -125,9 +125,11 @@ impl Walk {
         let Answer::Unified = answer else {
             return self.turned(self.top + 1);
         };
-        line.put_without(memory, place, at);
+        // The bytes at `place` are compared and not `line.bindings`, which they equal: local arrays that are compared the compiler splits into single bytes.
         let others = unifier.bindings;
-        if differ(&bindings, &others) {
+        let changed = differ(memory, place, &others);
+        line.put_without(memory, place, at);
+        if changed {
             rebind(memory, place, &others);
             return self.turned(self.top);
         }

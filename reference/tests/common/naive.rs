@@ -1,7 +1,8 @@
 //! The paper's definitions written as directly as possible, without regard to speed: the reader, the ordering,
 //! the walk, what a line means, the reference run.
 
-use std::collections::HashMap;
+use reference::limits::*;
+use std::collections::{BTreeSet, HashMap};
 
 #[derive(Clone, Debug)]
 pub enum Task {
@@ -96,9 +97,19 @@ fn take(sheet: &mut Sheet, frame: &[u8], line: usize) -> Result<(), u64> {
     Ok(())
 }
 
+/// Whether a byte of a term that was read is a variable.
+fn is_variable(byte: u8) -> bool {
+    byte >= FIRST_VARIABLE
+}
+
+/// The number of a variable, from 0.
+fn variable_number(byte: u8) -> usize {
+    (byte - FIRST_VARIABLE) as usize
+}
+
 pub fn value_count(equation: &(Vec<u8>, Vec<u8>, usize)) -> usize {
     let sides = equation.0.iter().chain(&equation.1);
-    sides.filter(|&&byte| byte >= 0x80).map(|byte| *byte as usize - 0x7f).max().unwrap_or(0)
+    sides.filter(|&&byte| is_variable(byte)).map(|&byte| variable_number(byte) + 1).max().unwrap_or(0)
 }
 
 /// Exactly `count` terms. `allowed` is asked at each node with the nodes of its term and of all terms so far.
@@ -123,13 +134,13 @@ fn terms(
         term.push(byte);
         let arity = match byte {
             0..=15 if (byte as usize) < arities.len() => arities[byte as usize] as usize,
-            0x80..=0x87 => 0,
+            FIRST_VARIABLE..=LAST_VARIABLE => 0,
             _ => return Err(5),
         };
         if !allowed(term.len(), index + 1) {
             return Err(5);
         }
-        if ground && byte >= 0x80 {
+        if ground && is_variable(byte) {
             return Err(6);
         }
         open = open - 1 + arity;
@@ -141,7 +152,7 @@ fn terms(
 pub fn arguments<'t>(arities: &[u8], term: &'t [u8]) -> Vec<&'t [u8]> {
     let mut arguments = vec![];
     let mut start = 1;
-    if term[0] < 0x80 {
+    if !is_variable(term[0]) {
         for _ in 0..arities[term[0] as usize] {
             let end = term_end(arities, term, start);
             arguments.push(&term[start..end]);
@@ -153,7 +164,7 @@ pub fn arguments<'t>(arities: &[u8], term: &'t [u8]) -> Vec<&'t [u8]> {
 
 pub fn term_end(arities: &[u8], bytes: &[u8], start: usize) -> usize {
     let mut end = start + 1;
-    if bytes[start] < 0x80 {
+    if !is_variable(bytes[start]) {
         for _ in 0..arities[bytes[start] as usize] {
             end = term_end(arities, bytes, end);
         }
@@ -269,9 +280,12 @@ pub enum Element {
     Inequality(usize, usize),
 }
 
+/// For each variable the position that it is bound to.
+pub type Bindings = [Option<usize>; VARIABLES];
+
 #[derive(Clone, Debug, PartialEq, Eq)]
 pub struct Line {
-    pub bindings: [Option<usize>; 8],
+    pub bindings: Bindings,
     pub elements: Vec<Element>,
 }
 
@@ -404,16 +418,16 @@ impl Walk<'_> {
     }
 
     fn is_variable(&self, position: usize) -> bool {
-        self.bytes[position] >= 0x80
+        is_variable(self.bytes[position])
     }
 
     fn reached(&self, line: &Line, position: usize) -> usize {
         self.reached_through(&line.bindings, position)
     }
 
-    fn reached_through(&self, bindings: &[Option<usize>; 8], position: usize) -> usize {
+    fn reached_through(&self, bindings: &Bindings, position: usize) -> usize {
         if self.is_variable(position) {
-            if let Some(bound) = bindings[self.bytes[position] as usize - 0x80] {
+            if let Some(bound) = bindings[variable_number(self.bytes[position])] {
                 return self.reached_through(bindings, bound);
             }
         }
@@ -424,31 +438,43 @@ impl Walk<'_> {
         self.occurs_through(&line.bindings, variable, position)
     }
 
-    fn occurs_through(&self, bindings: &[Option<usize>; 8], variable: u8, position: usize) -> bool {
-        let position = self.reached_through(bindings, position);
-        if self.is_variable(position) {
-            return self.bytes[position] == variable;
-        }
-        self.argument_positions(position).iter().any(|&argument| self.occurs_through(bindings, variable, argument))
+    fn occurs_through(&self, bindings: &Bindings, variable: u8, position: usize) -> bool {
+        let mut variables = BTreeSet::new();
+        self.add_variables(bindings, position, &mut variables);
+        variables.contains(&variable)
     }
 
-    pub fn unify(&self, bindings: &mut [Option<usize>; 8], l: usize, r: usize) -> bool {
+    /// Adds the variables of a term seen through the bindings, bound ones too. The term of a bound variable is gone
+    /// through once only: a chain of bindings can make a term too large to be gone through whole.
+    fn add_variables(&self, bindings: &Bindings, position: usize, variables: &mut BTreeSet<u8>) {
+        if !self.is_variable(position) {
+            for argument in self.argument_positions(position) {
+                self.add_variables(bindings, argument, variables);
+            }
+        } else if variables.insert(self.bytes[position]) {
+            if let Some(bound) = bindings[variable_number(self.bytes[position])] {
+                self.add_variables(bindings, bound, variables);
+            }
+        }
+    }
+
+    pub fn unify(&self, bindings: &mut Bindings, l: usize, r: usize) -> bool {
         let (l, r) = (self.reached_through(bindings, l), self.reached_through(bindings, r));
         let (left, right) = (self.bytes[l], self.bytes[r]);
         match (self.is_variable(l), self.is_variable(r)) {
             (true, true) => {
                 if left < right {
-                    bindings[left as usize - 0x80] = Some(r);
+                    bindings[variable_number(left)] = Some(r);
                 }
                 if right < left {
-                    bindings[right as usize - 0x80] = Some(l);
+                    bindings[variable_number(right)] = Some(l);
                 }
                 true
             }
             (true, false) => {
                 let free = !self.occurs_through(bindings, left, r);
                 if free {
-                    bindings[left as usize - 0x80] = Some(r);
+                    bindings[variable_number(left)] = Some(r);
                 }
                 free
             }
@@ -463,7 +489,7 @@ impl Walk<'_> {
 
 /// The table before the first turn.
 pub fn opening_table(source: usize, target: usize) -> Vec<Line> {
-    vec![Line { bindings: [None; 8], elements: vec![Element::Inequality(source, target)] }]
+    vec![Line { bindings: [None; VARIABLES], elements: vec![Element::Inequality(source, target)] }]
 }
 
 /// Whether a line has no binding and no element.
@@ -492,10 +518,10 @@ pub fn records(lines: &[Line]) -> Vec<u8> {
 pub fn instance(term: &[u8], values: &[Vec<u8>]) -> Vec<u8> {
     let mut result = vec![];
     for &byte in term {
-        if byte < 0x80 {
-            result.push(byte);
+        if is_variable(byte) {
+            result.extend(&values[variable_number(byte)]);
         } else {
-            result.extend(&values[byte as usize - 0x80]);
+            result.push(byte);
         }
     }
     result
@@ -543,10 +569,10 @@ fn find_step(sheet: &Sheet, order: &mut Order, subject: &[u8]) -> Option<([u8; 3
         let end = term_end(&sheet.arities, subject, position);
         for (number, (left, right, _)) in sheet.equations.iter().enumerate() {
             for (direction, (source, target)) in [(left, right), (right, left)].into_iter().enumerate() {
-                if target.iter().any(|byte| *byte >= 0x80 && !source.contains(byte)) {
+                if target.iter().any(|byte| is_variable(*byte) && !source.contains(byte)) {
                     continue;
                 }
-                let mut values = vec![vec![]; 8];
+                let mut values = vec![vec![]; VARIABLES];
                 if !matches(&sheet.arities, source, &subject[position..end], &mut values) {
                     continue;
                 }
@@ -563,8 +589,8 @@ fn find_step(sheet: &Sheet, order: &mut Order, subject: &[u8]) -> Option<([u8; 3
 
 /// An empty value stands for no value yet.
 fn matches(arities: &[u8], pattern: &[u8], term: &[u8], values: &mut Vec<Vec<u8>>) -> bool {
-    if pattern[0] >= 0x80 {
-        let value = &mut values[pattern[0] as usize - 0x80];
+    if is_variable(pattern[0]) {
+        let value = &mut values[variable_number(pattern[0])];
         if value.is_empty() {
             *value = term.to_vec();
         }

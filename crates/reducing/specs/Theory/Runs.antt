@@ -7,14 +7,14 @@ use mathlib.Core.List.{List, [], _∷_}
 use native.Mathlib.Omega.{arith}
 use lib.ListN.{length}
 use lib.Dec.{ltb, ltb→lt, nltb→le}
-use Rattle.format.specs.Limits.{max-task-nodes}
+use Rattle.format.specs.Limits.{variable-count, max-task-nodes}
 use Rattle.format.specs.Lists.{Every}
-use Rattle.format.specs.Theory.Lists.{entry-length}
+use Rattle.format.specs.Theory.Lists.{every-map, entry-length}
 use Rattle.terms.specs.Term.{Term, size, Values, inst}
 use Rattle.terms.specs.Position.{subterms, replace}
 use Rattle.terms.specs.Equation.{Equation, Direction, left-right, right-left, source, target}
-use Rattle.reducing.specs.Match.{no-match, match, values-of, usable}
-use Rattle.reducing.specs.Run.{Step, Ending, none-found, limit-reached, result-too-large, ending-number, Run, after-step, try, try-equations, try-positions, step, run, last-term}
+use Rattle.reducing.specs.Match.{unmet, match, values-of, usable}
+use Rattle.reducing.specs.Run.{Step, Ending, none-found, limit-reached, result-too-large, ending-number, Run, after-step, large-result, try-with, try-equations-with, try-positions-with, step-with, step, run-within-with, run-with, run, last-term}
 use Rattle.reducing.specs.Theory.Step.{or-else, Taken, step-taken}
 
 pub ending-low : (e : Ending) → ending-number e ≤ 2
@@ -145,18 +145,50 @@ module _ (test : Equation → Direction → Values → Bool) (es : List Equation
     pub run-ended : RunEnded (run test es k subject .ending) k (length (run test es k subject .steps)) (last-term subject (run test es k subject .steps))
     run-ended = runs-ended (run-runs k subject)
 
--- A run depends on its test only by its answers for the equations of the list.
+-- A run depends on its test and on the number of variables only by what is tried of the equations of the list.
+module _ (variables₁ variables₂ : ℕ) (test₁ test₂ : Equation → Direction → Values → Bool) where
+  abbrev pub SameTries : Equation → Type 0
+  SameTries e = (subject : Term) (p : ℕ) (part : Term) (n : ℕ) (d : Direction) → try-with variables₁ test₁ subject p part n e d ≡ try-with variables₂ test₂ subject p part n e d
+
+  try-equations-same : (subject : Term) (p : ℕ) (part : Term) (n : ℕ) (es : List Equation) → Every SameTries es
+      → try-equations-with variables₁ test₁ subject p part n es ≡ try-equations-with variables₂ test₂ subject p part n es
+  unfolding try-equations-with
+  try-equations-same subject p part n [] a = refl
+  try-equations-same subject p part n (e ∷ es) a =
+      let left = a .0 subject p part n left-right in
+      let right = a .0 subject p part n right-left in
+      let others = try-equations-same subject p part (suc n) es (a .1) in
+      λ i. or-else (left i) (or-else (right i) (others i))
+
+  module _ (es : List Equation) (a : Every SameTries es) where
+    try-positions-same : (subject : Term) (p : ℕ) (parts : List Term) → try-positions-with variables₁ test₁ es subject p parts ≡ try-positions-with variables₂ test₂ es subject p parts
+    unfolding try-positions-with
+    try-positions-same subject p [] = refl
+    try-positions-same subject p (part ∷ parts) =
+        let here = try-equations-same subject p part 0 es a in
+        let others = try-positions-same subject (suc p) parts in
+        λ i. or-else (here i) (others i)
+
+    pub step-same-with : (subject : Term) → step-with variables₁ test₁ es subject ≡ step-with variables₂ test₂ es subject
+    unfolding step-with
+    step-same-with subject = try-positions-same subject 0 (subterms subject)
+
+    pub run-same-with : (k : ℕ) (subject : Term) → run-with variables₁ test₁ es k subject ≡ run-with variables₂ test₂ es k subject
+    unfolding run-with
+    run-same-with zero subject = ap at-limit (step-same-with subject)
+    run-same-with (suc k) subject = λ i. below-limit (λ s. run-same-with k (s .result) i) (step-same-with subject i)
+
+-- So it depends on its test only by its answers for the equations of the list.
 module _ (test₁ test₂ : Equation → Direction → Values → Bool) where
   abbrev pub Agree : Equation → Type 0
   Agree e = (d : Direction) (ρ : Values) → test₁ e d ρ ≡ test₂ e d ρ
 
-  try-same : (subject : Term) (p : ℕ) (part : Term) (n : ℕ) (e : Equation) (d : Direction) → Agree e
-      → try test₁ subject p part n e d ≡ try test₂ subject p part n e d
-  unfolding try
-  try-same subject p part n e d a i =
+  agree-tries : (e : Equation) → Agree e → SameTries variable-count variable-count test₁ test₂ e
+  unfolding try-with
+  agree-tries e a subject p part n d i =
       elim (usable e d) as (λ x. Option Step) [
         | false ↦ none
-        | true ↦ elim (match (source e d) part no-match) as (λ x. Option Step) [
+        | true ↦ elim (match (source e d) part (unmet variable-count)) as (λ x. Option Step) [
           | none ↦ none
           | some m ↦ elim (a d (values-of m) i) as (λ x. Option Step) [
             | false ↦ none
@@ -165,30 +197,11 @@ module _ (test₁ test₂ : Equation → Direction → Values → Bool) where
         ]
       ]
 
-  try-equations-same : (subject : Term) (p : ℕ) (part : Term) (n : ℕ) (es : List Equation) → Every Agree es
-      → try-equations test₁ subject p part n es ≡ try-equations test₂ subject p part n es
-  unfolding try-equations
-  try-equations-same subject p part n [] a = refl
-  try-equations-same subject p part n (e ∷ es) a =
-      let left = try-same subject p part n e left-right (a .0) in
-      let right = try-same subject p part n e right-left (a .0) in
-      let others = try-equations-same subject p part (suc n) es (a .1) in
-      λ i. or-else (left i) (or-else (right i) (others i))
-
   module _ (es : List Equation) (a : Every Agree es) where
-    try-positions-same : (subject : Term) (p : ℕ) (parts : List Term) → try-positions test₁ es subject p parts ≡ try-positions test₂ es subject p parts
-    unfolding try-positions
-    try-positions-same subject p [] = refl
-    try-positions-same subject p (part ∷ parts) =
-        let here = try-equations-same subject p part 0 es a in
-        let others = try-positions-same subject (suc p) parts in
-        λ i. or-else (here i) (others i)
-
     pub step-same : (subject : Term) → step test₁ es subject ≡ step test₂ es subject
     unfolding step
-    step-same subject = try-positions-same subject 0 (subterms subject)
+    step-same = step-same-with variable-count variable-count test₁ test₂ es (every-map agree-tries es a)
 
     pub run-same : (k : ℕ) (subject : Term) → run test₁ es k subject ≡ run test₂ es k subject
     unfolding run
-    run-same zero subject = ap at-limit (step-same subject)
-    run-same (suc k) subject = λ i. below-limit (λ s. run-same k (s .result) i) (step-same subject i)
+    run-same = run-same-with variable-count variable-count test₁ test₂ es (every-map agree-tries es a)

@@ -10,7 +10,7 @@ use Rattle.solving.specs.Line.{Bindings, lookup, Element, equal, greater
 use Rattle.solving.specs.Contracts.Within.{AllWithin}
 use Rattle.solving.specs.Contracts.Written.{WrittenLine, WrittenLines}
 
--- "records of 89 bytes".
+-- "records are 93 bytes" (document 02, W9).
 pub length-element-bytes : (es : List Element) → length (element-bytes es) ≡ 2 * length es
 unfolding element-bytes
 length-element-bytes [] = refl

@@ -17,7 +17,7 @@ use Rattle.ordering.specs.Theory.Accessible.{ground-accessible}
 use Rattle.sheet.specs.Contracts.Valid.{ValidEquation}
 use Rattle.reducing.specs.declared.ending.Ending.the-variants.{NoneFound as none-found}
 use Rattle.reducing.specs.Reduction.{Reduces}
-use Rattle.reducing.specs.Run.{Step, Run, after-step, step, run-within}
+use Rattle.reducing.specs.Run.{Step, Run, after-step, step, run-within-with, run-within}
 use Rattle.reducing.specs.Test.{EverySolves, line-test, reference-test, line-run}
 use Rattle.reducing.specs.Theory.Step.{step-taken}
 use Rattle.reducing.specs.Theory.Runs.{Runs, no-step as none-left, all-done, too-large, one-step as step-then, run-runs, step-same}
@@ -42,8 +42,8 @@ module _ (arities : List ℕ) (es : List Equation) (valid : Every (ValidEquation
     no-step subject e = record { steps = []; ends = ends }
       where
         ends : (k : ℕ) → 0 ≤ k → run-allowed es subject k ≡ record { steps = []; ending = none-found }
-        ends zero l = rw (e, run-within)
-        ends (suc k) l = rw (e, run-within)
+        ends zero l = rw (e, run-within, run-within-with)
+        ends (suc k) l = rw (e, run-within, run-within-with)
 
     one-step : (subject : Term) (s : Step) → step line-test es subject ≡ some s → RunEnds es (s .result) → RunEnds es subject
     unfolding run-allowed after-step
@@ -51,7 +51,7 @@ module _ (arities : List ℕ) (es : List Equation) (valid : Every (ValidEquation
       where
         ends : (k : ℕ) → length (s ∷ r .steps) ≤ k → run-allowed es subject k ≡ record { steps = s ∷ r .steps; ending = none-found }
         ends zero l = absurd (omega arith)
-        ends (suc k) l = rw (e, run-within) (ap (after-step s) (r .ends k (omega arith)))
+        ends (suc k) l = rw (e, run-within, run-within-with) (ap (after-step s) (r .ends k (omega arith)))
 
     ends-from : {subject : Term} → Acc (Below arities) subject → Ground arities subject → RunEnds es subject
     ends-from (Acc·intro subject below) g = go (λ t y h. ends-from (below t (y, h)) y) (step line-test es subject) refl
@@ -67,12 +67,12 @@ module _ (arities : List ℕ) (es : List Equation) (valid : Every (ValidEquation
 module _ (es : List Equation) where
   run-freed : {k : ℕ} {subject : Term} {r : Run} → Runs line-test es k subject r → r .ending ≡ none-found → (m : ℕ) → k ≤ m → run-allowed es subject m ≡ r
   unfolding run-allowed after-step
-  run-freed (none-left e) h zero l = rw (e, run-within)
-  run-freed (none-left e) h (suc m) l = rw (e, run-within)
+  run-freed (none-left e) h zero l = rw (e, run-within, run-within-with)
+  run-freed (none-left e) h (suc m) l = rw (e, run-within, run-within-with)
   run-freed (all-done e) h m l = let z : _≡_ {A = ℕ} 0 1 = cc in absurd (omega arith)
   run-freed (too-large e x) h m l = let z : _≡_ {A = ℕ} 0 1 = cc in absurd (omega arith)
   run-freed (step-then e x r) h zero l = absurd (omega arith)
-  run-freed (step-then {s = s} e x r) h (suc m) l = rw (e, run-within) (ap (after-step s) (run-freed r h m (omega arith)))
+  run-freed (step-then {s = s} e x r) h (suc m) l = rw (e, run-within, run-within-with) (ap (after-step s) (run-freed r h m (omega arith)))
 
   pub ends-as-run : (k : ℕ) (subject : Term) → line-run es k subject .ending ≡ none-found → (u : RunEnds es subject) → u .steps ≡ line-run es k subject .steps
   unfolding line-run

@@ -14,7 +14,7 @@ abbrev mutual
   AllVariablesBelow n nil = Unit {0}
   AllVariablesBelow n (cons t ts) = VariablesBelow n t × AllVariablesBelow n ts
 
--- "80 to 87 variables"; "An equation side has at most 32 nodes".
+-- "Variables are 80 to 8b" (document 02, W9); "An equation side has at most 32 nodes".
 pub record WithinLimits (e : Equation) : Type 0 where
   pub left-variables : VariablesBelow variable-count (e .left)
   pub right-variables : VariablesBelow variable-count (e .right)

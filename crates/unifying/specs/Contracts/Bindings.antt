@@ -10,7 +10,7 @@ use Rattle.solving.specs.Line.{Bindings}
 use Rattle.solving.specs.Contracts.Bindings.{Proper}
 use Rattle.unifying.specs.Contracts.PrefixForm.{view-of, InPrefixForm}
 
--- "8 binding positions (ff for none)"
+-- "12 binding positions" (document 02, W9), "(ff for none)"
 unfoldable pub binding-of : ℕ → Option ℕ
 binding-of b = elim (ltb b no-position) [ true ↦ some b | false ↦ none ]
 

@@ -168,10 +168,10 @@ pub answered-failed : {o : Option Bindings} (r : Answer) (θ : Bindings) → o �
 unfolding answered
 answered-failed r θ e x = rw x at e
 
-not-failed : {A : Type 0} → Unified ≡ Failed → A
+pub not-failed : {A : Type 0} → Unified ≡ Failed → A
 not-failed e = let z : _≡_ {A = ℕ} 0 1 = cc in absurd (omega arith)
 
-not-unified : {A : Type 0} → Failed ≡ Unified → A
+pub not-unified : {A : Type 0} → Failed ≡ Unified → A
 not-unified e = let z : _≡_ {A = ℕ} 0 1 = cc in absurd (omega arith)
 
 -- What the definition tells, told by the code.
@@ -254,7 +254,7 @@ each-none {nodes = nodes} {sizes = sizes} {bs = bs} {θ = θ} {θ′ = θ′} {k
 
 -- A term and itself: nothing is bound.
 module _ {nodes sizes bs : List ℕ} (read : Readable nodes sizes bs) where
-  at-reached : (p : ℕ) → Reaches (view-of nodes sizes) (bindings-of bs) p (reach enough (view-of nodes sizes) (bindings-of bs) p)
+  pub at-reached : (p : ℕ) → Reaches (view-of nodes sizes) (bindings-of bs) p (reach enough (view-of nodes sizes) (bindings-of bs) p)
   at-reached p = reach-reaches (form-layout (read .laid)) (enough-suffices (read .laid .few)) (read .proper) p
 
   each-self : (ps : List ℕ) → ((c : ℕ) → In c ps → Unification (view-of nodes sizes) (bindings-of bs) c c (bindings-of bs)) → EachUnified (view-of nodes sizes) (bindings-of bs) ps ps (bindings-of bs)
@@ -269,7 +269,7 @@ module _ {nodes sizes bs : List ℕ} (read : Readable nodes sizes bs) where
       symbols (at-reached p) (at-reached p) e e
       (each-self ps (λ c i. self-unified b c (omega (arith, rank-down (read .proper .falls) (form-layout (read .laid)) f c ps (at-reached p) e i)) (view-of nodes sizes (reach enough (view-of nodes sizes) (bindings-of bs) c)) refl))
 
-  same-unified : (p q r : ℕ) → Reaches (view-of nodes sizes) (bindings-of bs) p r → Reaches (view-of nodes sizes) (bindings-of bs) q r → (x : Node) → view-of nodes sizes r ≡ x
+  pub same-unified : (p q r : ℕ) → Reaches (view-of nodes sizes) (bindings-of bs) p r → Reaches (view-of nodes sizes) (bindings-of bs) q r → (x : Node) → view-of nodes sizes r ≡ x
       → Unification (view-of nodes sizes) (bindings-of bs) p q (bindings-of bs)
   same-unified p q r a b (var-node v) e = equal-variables a b e e refl
   same-unified p q r a b (app-node f ps) e = symbols a b e e (each-self ps (λ c i. self-unified (suc (length nodes)) c (omega (arith, rank-le (length nodes) (read .proper .height) c)) (view-of nodes sizes (reach enough (view-of nodes sizes) (bindings-of bs) c)) refl))

@@ -1,4 +1,4 @@
--- `differ` compares bindings. The loop's invariant, `Comparing`: those passed are the same.
+-- `differ` compares a line's bindings with others. The loop's invariant, `Comparing`: those passed are the same.
 use Prim.Native.Nat.{_-_}
 use Rattle.format.specs.Limits.{variable-count}
 use Rattle.lines.proofs.Rebinding.{Comparing, comparing-start, comparing-next, comparing-done, comparing-differs}
@@ -7,13 +7,16 @@ use Rattle.lines.proofs.rebind.differ.Statement.{statement}
 use Rattle.lines.proofs.rebind.differ.Tie as tie
 
 abbrev Inv-loop : tie.InvT-loop
-Inv-loop a b i₀ i = Comparing a b i
+Inv-loop memory place bindings i₀ i = Comparing memory place bindings i
 
 abbrev μ-loop : tie.MeasureT-loop
-μ-loop a b i₀ i = variable-count - i
+μ-loop memory place bindings i₀ i = variable-count - i
 
 loop-holds : tie.Need-loop-holds Inv-loop μ-loop
-loop-holds c = comparing-start _ _
+loop-holds c = comparing-start _ _ _
+
+add-if1 : tie.Need-add-if1 Inv-loop μ-loop
+add-if1 c = search needs
 
 shared-slice-read-if1 : tie.Need-shared-slice-read-if1 Inv-loop μ-loop
 shared-slice-read-if1 c = search needs
@@ -22,7 +25,7 @@ shared-slice-read-if1-2 : tie.Need-shared-slice-read-if1-2 Inv-loop μ-loop
 shared-slice-read-if1-2 c = search needs
 
 returns : tie.Need-returns Inv-loop μ-loop
-returns c = comparing-differs _ _ (c .before .before .before .before .loop .i) (c .if1 .taken)
+returns c = comparing-differs (c .before .before .before .before .loop .inv) (c .before .before .before .loop-test .taken) (c .if1 .taken)
 
 add-i : tie.Need-add-i Inv-loop μ-loop
 add-i c = search needs
@@ -43,6 +46,7 @@ differ-spec =
     Inv-loop
     μ-loop
     loop-holds
+    add-if1
     shared-slice-read-if1
     shared-slice-read-if1-2
     returns

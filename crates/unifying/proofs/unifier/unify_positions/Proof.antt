@@ -6,6 +6,7 @@ use Rattle.format.specs.Limits.{variable-count}
 use Rattle.format.specs.Theory.Front.{Fronting, fronting-start, fronting-length, fronting-next, fronting-whole}
 use Rattle.unifying.proofs.Copied.{copy-unified}
 use Rattle.unifying.specs.Theory.Bindings.{readable-slots}
+use Rattle.unifying.specs.Theory.Links.{linked-start}
 use borrow.Author.Needs.{needs}
 use Rattle.unifying.proofs.unifier.unify_positions.Statement.{statement}
 use Rattle.unifying.proofs.unifier.unify_positions.Tie as tie
@@ -37,16 +38,22 @@ loop-again c = fronting-next (c .before .before .loop .inv) (c .before .loop-tes
 slice-aggregate-unify-terms : tie.Need-slice-aggregate-unify-terms Inv-loop μ-loop
 slice-aggregate-unify-terms c = sym (fronting-length (c .before .before .loop .inv))
 
+slice-aggregate-unify-terms-2 : tie.Need-slice-aggregate-unify-terms-2 Inv-loop μ-loop
+slice-aggregate-unify-terms-2 c = search needs
+
 unify-terms-requires : tie.Need-unify-terms-requires Inv-loop μ-loop
 unify-terms-requires c κs =
-    let start = c .before .before .before .before .before .before .before in
-    ((rw (fronting-whole (c .before .before .loop .inv) (c .before .loop-test .left) refl) (start .pre .0)), start .pre .1)
+    let start = c .before .before .before .before .before .before .before .before in
+    let whole = fronting-whole (c .before .before .before .loop .inv) (c .before .before .loop-test .left) refl in
+    (rw whole (start .pre .0), (start .pre .1, linked-start _ _ _))
 
 returns : tie.Need-returns Inv-loop μ-loop
 returns c =
-    let loop = c .before .before .before .before .loop in
-    let start = c .before .before .before .before .before .before .before .before .before in
-    copy-unified _ _ _ _ (c .before .unify-terms .last .1 .1 .1 .0) _ _ _ (start .pre .0 .0) (start .pre .1 .0) (start .pre .1 .1) (fronting-whole (loop .inv) (c .before .before .before .loop-test .left) refl) (c .before .unify-terms .ensures) (c .own2 .given)
+    let unify-terms = c .before .before .unify-terms in
+    let loop-test = c .before .before .before .before .before .loop-test in
+    let loop = c .before .before .before .before .before .before .loop in
+    let start = c .before .before .before .before .before .before .before .before .before .before .before in
+    copy-unified _ _ _ _ (unify-terms .last .1 .1 .1 .0) _ _ _ (start .pre .0 .0) (start .pre .1 .0) (start .pre .1 .1) (fronting-whole (loop .inv) (loop-test .left) refl) (unify-terms .ensures .0) (c .before .own2 .given)
 
 pub unify-positions-spec : {M : Type 1} → statement M
 unify-positions-spec =
@@ -61,5 +68,6 @@ unify-positions-spec =
     loop-less
     loop-again
     slice-aggregate-unify-terms
+    slice-aggregate-unify-terms-2
     unify-terms-requires
     returns)

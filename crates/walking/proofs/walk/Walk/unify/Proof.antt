@@ -1,7 +1,7 @@
 -- `unify` meets its contract: failure deletes the line, success the element, and other bindings are put back.
-use mathlib.Core.Path.{refl, sym}
+use mathlib.Core.Path.{refl}
 use native.Mathlib.Omega.{arith}
-use Rattle.walking.proofs.Treating.{treating-top, treating-place, line-slots, removal-fits, equal-within, line-readable, unify-failed, unify-kept, unify-changed}
+use Rattle.walking.proofs.Treating.{treating-top, treating-place, removal-fits, equal-within, line-readable, unify-failed, unify-kept, unify-changed}
 use borrow.Author.Needs.{needs}
 use Rattle.walking.proofs.walk.Walk.unify.Statement.{statement}
 use Rattle.walking.proofs.walk.Walk.unify.Tie as tie
@@ -33,32 +33,27 @@ returns c =
     let start = at-unify-positions .before .before .before .before .before .before .before .before in
     rw (c .turned .ensures) (unify-failed (start .pre .0) (start .pre .1) _ refl (at-unify-positions .unify-positions .result) (at-unify-positions .unify-positions .ensures) (c .before .before .enum-told2 .given .1))
 
-put-without-requires : tie.Need-put-without-requires
-put-without-requires c κs =
-    let start = c .before .before .before .before .before .before .before .before .before .before .before in
-    removal-fits (start .pre .0)
-
 slice-aggregate-differ : tie.Need-slice-aggregate-differ
-slice-aggregate-differ c =
-    let start = c .before .before .before .before .before .before .before .before .before .before .before .before .before .before .before .before in
-    sym (line-slots (start .pre .0))
-
-slice-aggregate-differ-2 : tie.Need-slice-aggregate-differ-2
-slice-aggregate-differ-2 c = search needs
+slice-aggregate-differ c = search needs
 
 differ-requires : tie.Need-differ-requires
 differ-requires c κs =
-    let at-unify-positions = c .before .before .before .before .before .before .before .before .before in
+    let at-unify-positions = c .before .before .before .before .before in
     let start = at-unify-positions .before .before .before .before .before .before .before .before in
-    (line-slots (start .pre .0), at-unify-positions .unify-positions .ensures .whole)
+    (omega (arith, treating-place (start .pre .0 .treating)), at-unify-positions .unify-positions .ensures .whole)
+
+put-without-requires : tie.Need-put-without-requires
+put-without-requires c κs =
+    let start = c .before .before .before .before .before .before .before .before .before .before .before .before .before .before .before in
+    removal-fits (start .pre .0)
 
 slice-aggregate-rebind : tie.Need-slice-aggregate-rebind
 slice-aggregate-rebind c = search needs
 
 rebind-requires : tie.Need-rebind-requires
 rebind-requires c κs =
-    let at-put-without = c .before .before .before .before .before .before .before .before .before in
-    let at-unify-positions = at-put-without .before .before .before .before in
+    let at-put-without = c .before .before .before .before .before in
+    let at-unify-positions = at-put-without .before .before .before .before .before .before .before .before in
     let start = at-unify-positions .before .before .before .before .before .before .before .before in
     (omega (arith, treating-place (start .pre .0 .treating), at-put-without .put-without .kept .1 .0), at-unify-positions .unify-positions .ensures .whole)
 
@@ -70,8 +65,8 @@ same-length c = search needs
 
 returns-2 : tie.Need-returns-2
 returns-2 c =
-    let at-put-without = c .before .before .before .before .before .before .before .before .before .before .before .before .before in
-    let at-enum-told = at-put-without .before .before in
+    let at-put-without = c .before .before .before .before .before .before .before .before .before in
+    let at-enum-told = at-put-without .before .before .before .before .before .before in
     let at-unify-positions = at-enum-told .before .before in
     let start = at-unify-positions .before .before .before .before .before .before .before .before in
     rw (c .turned2 .ensures) (unify-changed (start .pre .0) (start .pre .1) _ refl (at-unify-positions .unify-positions .result) (at-unify-positions .unify-positions .ensures) (at-enum-told .enum-told .given .1) _ _ (at-put-without .put-without .ensures) (c .before .before .before .rebind .ensures))
@@ -84,11 +79,12 @@ same-length-2 c = search needs
 
 returns-3 : tie.Need-returns-3
 returns-3 c =
-    let at-put-without = c .before .before .before .before .before .before .before .before in
-    let at-enum-told = at-put-without .before .before in
+    let at-put-without = c .before .before .before .before in
+    let at-differ = at-put-without .before .before in
+    let at-enum-told = at-differ .before .before .before .before in
     let at-unify-positions = at-enum-told .before .before in
     let start = at-unify-positions .before .before .before .before .before .before .before .before in
-    rw (c .turned3 .ensures) (unify-kept (start .pre .0) (start .pre .1) _ refl (at-unify-positions .unify-positions .result) (at-unify-positions .unify-positions .ensures) (at-enum-told .enum-told .given .1) _ (c .before .before .differ .ensures .same (c .before .if1 .left)) (at-put-without .put-without .ensures))
+    rw (c .turned3 .ensures) (unify-kept (start .pre .0) (start .pre .1) _ refl (at-unify-positions .unify-positions .result) (at-unify-positions .unify-positions .ensures) (at-enum-told .enum-told .given .1) _ (at-differ .differ .ensures .same (c .before .if1 .left)) (at-put-without .put-without .ensures))
 
 pub unify-spec : {M : Type 1} → statement M
 unify-spec =
@@ -102,10 +98,9 @@ unify-spec =
     add-turned
     turned-requires
     returns
-    put-without-requires
     slice-aggregate-differ
-    slice-aggregate-differ-2
     differ-requires
+    put-without-requires
     slice-aggregate-rebind
     rebind-requires
     turned-requires-2
