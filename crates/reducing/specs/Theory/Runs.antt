@@ -14,7 +14,7 @@ use Rattle.terms.specs.Term.{Term, size, Values, inst}
 use Rattle.terms.specs.Position.{subterms, replace}
 use Rattle.terms.specs.Equation.{Equation, Direction, left-right, right-left, source, target}
 use Rattle.reducing.specs.Match.{unmet, match, values-of, usable}
-use Rattle.reducing.specs.Run.{Step, Ending, none-found, limit-reached, result-too-large, ending-number, Run, after-step, large-result, try-with, try-equations-with, try-positions-with, step-with, step, run-within-with, run-with, run, last-term}
+use Rattle.reducing.specs.Run.{Step, Ending, none-found, limit-reached, result-too-large, ending-number, Run, after-step, try-with, try-equations-with, try-positions-with, step-with, step, run-with, run, last-term}
 use Rattle.reducing.specs.Theory.Step.{or-else, Taken, step-taken}
 
 pub ending-low : (e : Ending) → ending-number e ≤ 2

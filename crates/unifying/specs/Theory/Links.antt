@@ -1,8 +1,8 @@
 -- The laws of links: what they lead to is the same term, more bindings keep them, and where they meet nothing is left to unify.
-use Prim.Native.Nat.{ℕ, zero, suc, _<_}
-use mathlib.Core.Path.{_≡_, refl, sym, subst, _∙_}
+use Prim.Native.Nat.{ℕ, _<_}
+use mathlib.Core.Path.{_≡_, sym, subst, _∙_}
 use mathlib.Core.List.{List}
-use lib.ListN.{length, getD, set, replicate, length-set, length-replicate}
+use lib.ListN.{length, getD, set, replicate, length-set, length-replicate, getD-replicate}
 use lib.Seq.{getD-set-same, getD-set-other}
 use native.Mathlib.Decide.{ℕ-discrete}
 use native.Mathlib.Omega.{arith}
@@ -22,15 +22,10 @@ use Rattle.unifying.specs.Theory.Unify.{at-reached, not-failed}
 use Rattle.unifying.specs.Theory.Same.{same-sym, same-trans, same-later, unified-same, same-unifies}
 
 -- No position is linked at first.
-filled : (n p : ℕ) → p < n → getD {A = ℕ} (replicate n no-position) p 0 ≡ no-position
-filled zero p i = absurd (omega arith)
-filled (suc n) zero i = refl
-filled (suc n) (suc p) i = filled n p (omega arith)
-
 pub linked-start : (nodes sizes bs : List ℕ) → Linked nodes sizes bs (replicate position-count no-position)
 linked-start nodes sizes bs = record {
   each-position = length-replicate position-count no-position;
-  same = λ p i l. absurd (omega (arith, filled position-count p (omega (arith, i, length-replicate position-count no-position))));
+  same = λ p i l. absurd (omega (arith, getD-replicate position-count p no-position 0 (omega (arith, i, length-replicate position-count no-position))));
 }
 
 module _ {nodes sizes bs : List ℕ} (read : Readable nodes sizes bs) where
