@@ -248,7 +248,8 @@ uint64_t neblinaro_judge(const uint8_t *sheet, size_t sheet_length, uint64_t tas
                          uint8_t *scratch, size_t scratch_length);
 
 /*
- * Runs the ground term of a task (frame 03) up to its step limit.
+ * Runs the ground term of a task (frame 03) up to its step limit. Each equation is tried in both directions. Where the side
+ * that replaces a match has a variable that the matched side lacks, the lowest-numbered symbol of arity 0 is its value.
  *
  * table: at least NEBLINARO_TABLE_BYTES; so many of its bytes are ff afterwards.
  * scratch: at least NEBLINARO_SCRATCH_BYTES; so many of its bytes are 00 afterwards.

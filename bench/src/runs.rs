@@ -76,6 +76,21 @@ pub fn ordinary() -> Vec<(&'static str, Vec<u8>)> {
     // 0, successor, Ackermann's function.
     let ackermann: [(&[u8], &[u8]); 3] =
         [(&[2, 0, Y], &[1, Y]), (&[2, 1, X, 0], &[2, X, 1, 0]), (&[2, 1, X, 1, Y], &[2, X, 2, 1, X, Y])];
+    // a, b, c, and, or, not: a boolean algebra without constants of its own. x and not x is the same for every x, and so is x or not x.
+    let boolean: [(&[u8], &[u8]); 10] = [
+        (&[3, X, 5, X], &[3, Y, 5, Y]),
+        (&[4, X, 5, X], &[4, Y, 5, Y]),
+        (&[5, 3, X, Y], &[4, 5, X, 5, Y]),
+        (&[5, 4, X, Y], &[3, 5, X, 5, Y]),
+        (&[5, 5, X], &[X]),
+        (&[3, X, 3, 5, X, Y], &[3, Z, 5, Z]),
+        (&[3, X, Y], &[3, Y, X]),
+        (&[4, X, Y], &[4, Y, X]),
+        (&[3, 3, X, Y, Z], &[3, X, 3, Y, Z]),
+        (&[3, X, 4, Y, Z], &[4, 3, X, Y, 3, X, Z]),
+    ];
+    // (b or not c) and not ((b or not b) and (c and not c)).
+    let conjunction: &[u8] = &[3, 4, 1, 5, 2, 5, 3, 4, 1, 5, 1, 3, 2, 5, 2];
     vec![
         (
             "associativity and commutativity",
@@ -128,6 +143,27 @@ pub fn ordinary() -> Vec<(&'static str, Vec<u8>)> {
                 &[
                     run(255, &[vec![2], numeral(1, 3), numeral(1, 2)].concat()),
                     judgement(2, 0, &[&numeral(1, 3), &numeral(1, 2)]),
+                ],
+            ),
+        ),
+        // a, pair, f: f(x) = pair(x, y), from the left.
+        (
+            "extra variables, 40 symbols",
+            sheet(
+                &[0, 2, 1],
+                &[(&[2, X], &[1, X, Y])],
+                &[run(255, &numeral(2, 40)), judgement(0, 0, &[&numeral(2, 2), &numeral(2, 2)])],
+            ),
+        ),
+        // With t the conjunction: (t and not (b and t)) or not (c and t).
+        (
+            "extra variables, boolean algebra",
+            sheet(
+                &[0, 0, 0, 2, 2, 1],
+                &boolean,
+                &[
+                    run(255, &[&[4, 3], conjunction, &[5, 3, 1], conjunction, &[5, 3, 2], conjunction].concat()),
+                    judgement(5, 0, &[&[1], &[2], &[0]]),
                 ],
             ),
         ),

@@ -12,22 +12,20 @@ fn sheets() -> impl Iterator<Item = Vec<u8>> {
     (0..4_000).map(sheet).chain(special().into_iter().map(|(_, sheet)| sheet))
 }
 
-/// How many bytes the lines of all usable directions of a sheet take without their filler, if every direction solves.
+/// How many bytes the lines of all directions of a sheet take without their filler, if every direction solves.
 fn kept_bytes(sheet: &[u8]) -> Option<usize> {
     let read = reference::sheet::read(sheet).ok()?;
     let (mut table, mut scratch) = (vec![0; TABLE], vec![0; SCRATCH]);
     let mut bytes = 0;
     for number in 0..read.equations().len() {
         for direction in 0..2 {
-            let solved = reference::solve(sheet, number as u64, u64::from(direction), &mut table, &mut scratch);
+            let solved = reference::solve(sheet, number as u64, direction, &mut table, &mut scratch);
             if solved % 256 != 0 {
                 return None;
             }
-            if reference::rewrite::equation(&read, number).usable(direction) {
-                let lines = (solved / 256 % 65_536) as usize;
-                let kept = |record: &[u8]| VARIABLES + 1 + 2 * usize::from(record[VARIABLES]);
-                bytes += table.chunks(RECORD).take(lines).map(kept).sum::<usize>();
-            }
+            let lines = (solved / 256 % 65_536) as usize;
+            let kept = |record: &[u8]| VARIABLES + 1 + 2 * usize::from(record[VARIABLES]);
+            bytes += table.chunks(RECORD).take(lines).map(kept).sum::<usize>();
         }
     }
     Some(bytes)

@@ -92,6 +92,12 @@ impl Signature {
         (0..self.arities.len()).filter(|&s| choose(self.arities[s] as usize)).map(|s| s as u8).collect()
     }
 
+    /// A symbol of this arity, if there is one.
+    fn pick(&self, random: &mut Random, arity: usize) -> Option<u8> {
+        let symbols = self.symbols(|other| other == arity);
+        if symbols.is_empty() { None } else { Some(random.pick(&symbols)) }
+    }
+
     /// Appends a term of at most `size` nodes, and of about that size; a leaf is a variable out of the first
     /// `variables` ones or a constant.
     pub fn append_term(&self, random: &mut Random, size: usize, variables: usize, term: &mut Vec<u8>) {
@@ -230,10 +236,10 @@ fn law(random: &mut Random, signature: &Signature) -> Option<Sides> {
     if signature.arities == LONG_LINES && random.chance(50) {
         return Some(long_line(random.chance(30)));
     }
-    let pick = |random: &mut Random, arity: usize| {
-        let symbols = signature.symbols(|a| a == arity);
-        if symbols.is_empty() { None } else { Some(random.pick(&symbols)) }
-    };
+    if random.chance(20) {
+        return law_with_extra_variables(random, signature);
+    }
+    let pick = |random: &mut Random, arity: usize| signature.pick(random, arity);
     let constant = pick(random, 0)?;
     let (x, y, z) = (0x80, 0x81, 0x82);
     let sides = if let (true, Some(i)) = (random.chance(25), pick(random, 3)) {
@@ -260,6 +266,26 @@ fn law(random: &mut Random, signature: &Signature) -> Option<Sides> {
         }
     };
     Some(sides)
+}
+
+/// A law where one side, or each, has a variable that the other lacks.
+fn law_with_extra_variables(random: &mut Random, signature: &Signature) -> Option<Sides> {
+    let (x, y, z, u) = (0x80, 0x81, 0x82, 0x83);
+    let f = signature.pick(random, 2)?;
+    let (left, right) = match random.below(7) {
+        // Can be taken at each such symbol of a subject, which makes long runs.
+        0 | 1 => (vec![signature.pick(random, 1)?, x], vec![f, x, y]),
+        2 => {
+            let n = signature.pick(random, 1)?;
+            (vec![f, x, n, x], vec![f, y, n, y])
+        }
+        3 => (vec![f, x, x], vec![f, y, y]),
+        4 => (vec![f, x, y], vec![signature.pick(random, 2)?, z, x]),
+        5 => (vec![signature.pick(random, 0)?], vec![f, x, y]),
+        // Grows, so that a run can outgrow its limit.
+        _ => (vec![f, x, y], vec![signature.pick(random, 3)?, x, f, y, z, u]),
+    };
+    Some(if random.chance(50) { (left, right) } else { (right, left) })
 }
 
 fn equation_frame(sides: &Sides) -> Vec<u8> {

@@ -36,6 +36,9 @@ impl Decision {
 /// First position of the ground terms; the positions below it belong to an equation.
 pub const FIRST_GROUND: u8 = EQUATION_NODES as u8;
 
+/// Position of a constant behind the ground terms, for a value that does not occur in them.
+pub const CONSTANT: u8 = FIRST_GROUND + TASK_NODES as u8;
+
 /// The positions of the values of variables, one byte for each; 0 is no position of a value.
 ///
 /// They are kept in one number, for they are written one by one and then handed on together at once, which is slow
@@ -58,12 +61,13 @@ impl Values {
 
 /// Ground terms and one equation seen through values of its variables.
 ///
-/// Positions 0 to 63 are those of the equation, 64 to 223 those of the ground terms. A position of the equation
-/// that holds a variable stands for the position of the variable's value.
+/// Positions 0 to 63 are those of the equation, 64 to 223 those of the ground terms, 224 is that of a constant. A
+/// position of the equation that holds a variable stands for the position of the variable's value.
 pub struct Ground<'a> {
     /// As long as a byte can count, so that indexing by a byte needs no check.
     nodes: [Node; 256],
-    bytes: [u8; TASK_NODES],
+    /// The bytes of the ground terms and, last, the constant.
+    bytes: [u8; TASK_NODES + 1],
     values: Values,
     /// One verdict for each pair of positions, in the row of the smaller position; 0 where none is known.
     cells: &'a mut [u8; CELLS],
@@ -76,7 +80,7 @@ impl<'a> Ground<'a> {
     pub fn new(scratch: &'a mut [u8]) -> Ground<'a> {
         Ground {
             nodes: [Node::default(); 256],
-            bytes: [0; TASK_NODES],
+            bytes: [0; TASK_NODES + 1],
             values: Values::default(),
             cells: scratch.first_chunk_mut().expect("scratch has a cell for each pair of positions"),
             ready: [false; 256],
@@ -88,6 +92,12 @@ impl<'a> Ground<'a> {
         self.bytes[..terms.len()].copy_from_slice(terms);
         nodes::index(terms, arities, &mut self.nodes, FIRST_GROUND as usize);
         self.ready = [false; 256];
+    }
+
+    /// Sets the constant at position 224.
+    pub fn set_constant(&mut self, constant: u8) {
+        self.bytes[TASK_NODES] = constant;
+        self.nodes[CONSTANT as usize] = Node { byte: constant, next: CONSTANT + 1, ..Node::default() };
     }
 
     /// Sets two ground terms, together at most 160 nodes, and gives their positions.
@@ -111,7 +121,7 @@ impl<'a> Ground<'a> {
         self.nodes[position as usize]
     }
 
-    /// The bytes of the ground term at a position.
+    /// The bytes of the ground term, or of the constant, at a position.
     pub fn term(&self, position: u8) -> &[u8] {
         let end = self.node(position).next;
         &self.bytes[(position - FIRST_GROUND) as usize..(end - FIRST_GROUND) as usize]

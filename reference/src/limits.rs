@@ -18,8 +18,8 @@ pub const SIDE_NODES: usize = 32;
 pub const EQUATION_NODES: usize = 2 * SIDE_NODES;
 /// Most nodes of the terms of one task together, and of the subject of a run.
 pub const TASK_NODES: usize = 160;
-/// Positions that a ground comparison under an equation can speak about.
-pub const POSITIONS: usize = EQUATION_NODES + TASK_NODES;
+/// Positions that a ground comparison under an equation can speak about: the equation, the ground terms, a constant.
+pub const POSITIONS: usize = EQUATION_NODES + TASK_NODES + 1;
 /// One verdict for each pair of positions.
 pub const CELLS: usize = POSITIONS * POSITIONS;
 

@@ -74,10 +74,4 @@ impl Equation {
     pub fn source_and_target(&self, direction: u8) -> (u8, u8) {
         if direction == 0 { (0, self.left) } else { (self.left, 0) }
     }
-
-    /// Whether every variable of the target occurs in the source.
-    pub fn usable(&self, direction: u8) -> bool {
-        let (source, target) = self.source_and_target(direction);
-        self.node(target).variables & !self.node(source).variables == 0
-    }
 }

@@ -1,6 +1,6 @@
 //! Solving all directions of a sheet, judging values, running a term.
 
-use crate::ground::{FIRST_GROUND, Ground, Values};
+use crate::ground::{CONSTANT, FIRST_GROUND, Ground, Values};
 use crate::limits::*;
 use crate::nodes::{Equation, Node};
 use crate::sheet::{Refusal, Sheet};
@@ -120,8 +120,10 @@ impl Run {
 /// What a run looks for: the directions that can be taken at all.
 struct Rules<'a> {
     solved: &'a Solved,
-    /// For each symbol the set of usable directions with a line, whose source can match a term with that symbol.
+    /// For each symbol the set of directions with a line, whose source can match a term with that symbol.
     candidates: [u32; SYMBOLS],
+    /// For each direction the value of every variable of its target that its source lacks: the constant.
+    filling: [Values; DIRECTIONS],
 }
 
 /// A step found: the direction's index and the positions of the values of the variables.
@@ -133,20 +135,26 @@ struct Step {
 
 impl<'a> Rules<'a> {
     fn new(solved: &'a Solved) -> Rules<'a> {
-        let mut candidates = [0; SYMBOLS];
+        let mut rules = Rules { solved, candidates: [0; SYMBOLS], filling: [Values::default(); DIRECTIONS] };
         for (index, direction) in solved.directions.iter().enumerate() {
-            let equation = &solved.equations[direction.equation];
-            if !equation.usable(direction.direction) || direction.lines.is_empty() {
+            if direction.lines.is_empty() {
                 continue;
             }
-            let source = equation.node(equation.source_and_target(direction.direction).0);
-            for (symbol, set) in candidates.iter_mut().enumerate() {
+            let equation = &solved.equations[direction.equation];
+            let (source, target) = equation.source_and_target(direction.direction);
+            let (source, target) = (equation.node(source), equation.node(target));
+            for (symbol, set) in rules.candidates.iter_mut().enumerate() {
                 if source.is_variable() || source.byte as usize == symbol {
                     *set |= 1 << index;
                 }
             }
+            let mut extra = target.variables & !source.variables;
+            while extra != 0 {
+                rules.filling[index].add(extra.trailing_zeros() as usize, CONSTANT);
+                extra &= extra - 1;
+            }
         }
-        Rules { solved, candidates }
+        rules
     }
 
     /// The first step that the subject allows.
@@ -159,7 +167,7 @@ impl<'a> Rules<'a> {
                 let direction = &self.solved.directions[index];
                 let equation = &self.solved.equations[direction.equation];
                 let source = equation.source_and_target(direction.direction).0;
-                if let Some(values) = match_source(equation, source, ground, position) {
+                if let Some(values) = match_source(equation, source, self.filling[index], ground, position) {
                     ground.set_equation(equation, values);
                     if self.solved.lines(direction).iter().any(|line| ground.holds(line)) {
                         return Some(Step { direction: index, position, values });
@@ -171,9 +179,9 @@ impl<'a> Rules<'a> {
     }
 }
 
-/// Matches the source side with the ground term at a position: the positions of the values of its variables.
-fn match_source(equation: &Equation, source: u8, ground: &Ground, position: u8) -> Option<Values> {
-    let mut values = Values::default();
+/// Matches the source side with the ground term at a position: the positions of the values of its variables, beside
+/// the values given to the others.
+fn match_source(equation: &Equation, source: u8, mut values: Values, ground: &Ground, position: u8) -> Option<Values> {
     let mut at = position;
     // Arities are fixed, so as long as the symbols agree both prefix forms run side by side.
     for pattern in side(equation, source) {
@@ -201,10 +209,16 @@ fn side(equation: &Equation, position: u8) -> &[Node] {
     &equation.nodes[position as usize..equation.node(position).next as usize]
 }
 
-/// Runs a ground term, at most `limit` steps.
+/// The lowest symbol of arity 0. Every sheet has one, so it comes before the zeros beyond the last symbol.
+fn lowest_constant(arities: &[u8; SYMBOLS]) -> u8 {
+    arities.iter().position(|&arity| arity == 0).expect("a constant") as u8
+}
+
+/// Runs a ground term, at most `limit` steps. A variable of the target that the source lacks takes the lowest constant.
 pub fn run(solved: &Solved, limit: u8, subject: &[u8], arities: &[u8; SYMBOLS], scratch: &mut [u8]) -> Run {
     let rules = Rules::new(solved);
     let mut ground = Ground::new(scratch);
+    ground.set_constant(lowest_constant(arities));
     let mut run =
         Run { log: [0; LOG_BYTES], steps: 0, ending: Ending::NoneFound, term: [0; TERM_BYTES], length: subject.len() };
     run.term[..subject.len()].copy_from_slice(subject);

@@ -1,5 +1,5 @@
 //! Named sheets at the limits: long walks, full tables and lines, empty lines, longest texts, hard comparisons,
-//! comparisons by each clause, long runs, twelve variables.
+//! comparisons by each clause, long runs, twelve variables, variables that a source lacks.
 
 use crate::generate::{LONG_LINES, Sides, long_line, text};
 use crate::limits::{FIRST_VARIABLE, LAST_VARIABLE, SHEET_BYTES, VARIABLES};
@@ -47,6 +47,7 @@ pub fn special() -> Vec<Named> {
     sheets.extend(runs());
     sheets.extend(texts());
     sheets.extend(twelve_variables());
+    sheets.extend(extra_variables());
     sheets
 }
 
@@ -819,5 +820,246 @@ fn doubled_terms() -> Vec<Named> {
         ("doubled ten times", one(&arities, ten, task)),
         ("doubled twelve times, left", one(&arities, twelve, task)),
         ("doubled twelve times, right", one(&arities, exchanged, task)),
+    ]
+}
+
+/// Runs by directions whose target has a variable that the source lacks: it takes the lowest constant.
+fn extra_variables() -> Vec<Named> {
+    let mut sheets = filled_targets();
+    sheets.extend(judged_at_the_constant());
+    sheets.extend(lowest_constants());
+    sheets.extend(filled_to_the_limits());
+    sheets.extend(twelve_variables_filled());
+    sheets
+}
+
+/// A run with a limit beyond its steps.
+fn run(subject: &[u8]) -> Vec<u8> {
+    [&[3, 99], subject].concat()
+}
+
+/// A sheet with these equations and tasks.
+fn several(arities: &[u8], equations: &[(&[u8], &[u8])], tasks: &[Vec<u8>]) -> Vec<u8> {
+    let equations = equations.iter().map(|(left, right)| equation(left, right));
+    text(&[vec![symbols(arities)], equations.collect(), tasks.to_vec()].concat())
+}
+
+/// Extra variables in one direction and in both, alone, repeated, and beside the source's own.
+fn filled_targets() -> Vec<Named> {
+    let (a, b) = (0, 1);
+    vec![
+        // f(x, y) = g(x, z), g above f: from the left it steps where y exceeds or is g(x, a), from the right always.
+        ("an extra variable in each direction", {
+            let (f, g) = (2, 3);
+            let subjects: [&[u8]; 5] =
+                [&[f, a, g, b, b], &[g, b, a], &[f, b, b], &[f, b, g, a, b], &[g, g, b, b, f, g, a, b, g, b, f, a, b]];
+            several(&[0, 0, 2, 2], &[(&[f, X, Y], &[g, X, Z])], &subjects.map(run))
+        }),
+        // h(x) = f(x, y) comes before h(x) = x, and f(x, y) = x behind both.
+        ("an extra variable in the first of three equations", {
+            let (f, h) = (2, 3);
+            let equations: [(&[u8], &[u8]); 3] = [(&[h, X], &[f, X, Y]), (&[h, X], &[X]), (&[f, X, Y], &[X])];
+            several(&[0, 0, 2, 1], &equations, &[run(&[h, b]), run(&[h, h, b])])
+        }),
+        // x = y: each term but the lowest constant becomes that.
+        ("two variables as an equation", {
+            let f = 2;
+            let subjects: [&[u8]; 4] = [&[a], &[b], &[f, b, f, a, b], &[f, a, a]];
+            let mut tasks = subjects.map(run).to_vec();
+            tasks.extend([vec![3, 0, b], vec![3, 0, a], vec![4, 0, 0, b, b], vec![4, 0, 1, a, b]]);
+            several(&[0, 0, 2], &[(&[X], &[Y])], &tasks)
+        }),
+        // x = h(y): from the left where x exceeds h(a), from the right always.
+        ("a variable and a term without it", {
+            let h = 2;
+            let subjects: [&[u8]; 4] = [&[h, b], &[b], &[h, h, a], &[h, h, h, b]];
+            several(&[0, 0, 1], &[(&[X], &[h, Y])], &subjects.map(run))
+        }),
+        // x and not x = y and not y.
+        ("one extra variable twice, in each direction", {
+            let (not, and) = (2, 3);
+            let subjects: [&[u8]; 5] = [
+                &[and, b, not, b],
+                &[and, a, not, a],
+                &[and, b, not, a],
+                &[and, and, b, not, b, not, a],
+                &[and, and, b, not, b, not, and, b, not, b],
+            ];
+            several(&[0, 0, 1, 2], &[(&[and, X, not, X], &[and, Y, not, Y])], &subjects.map(run))
+        }),
+        // b = f(x, y) with b above f: from the left always.
+        ("a constant against variables", {
+            let (f, b) = (1, 2);
+            let subjects: [&[u8]; 5] = [&[b], &[f, b, b], &[f, a, f, a, b], &[f, a, a], &[a]];
+            several(&[0, 2, 0], &[(&[b], &[f, X, Y])], &subjects.map(run))
+        }),
+        // The same with b below f: only from the right.
+        ("a constant below a term of variables", {
+            let f = 2;
+            let subjects: [&[u8]; 4] = [&[b], &[f, a, b], &[f, a, a], &[f, f, a, a, f, a, b]];
+            several(&[0, 0, 2], &[(&[b], &[f, X, Y])], &subjects.map(run))
+        }),
+    ]
+}
+
+/// Lines that hold at the lowest constant and would not at another value, and the reverse.
+fn judged_at_the_constant() -> Vec<Named> {
+    let (a, b, c) = (0, 1, 2);
+    vec![
+        // h(x) = h(y): by x > y, so it steps from each x but the lowest constant.
+        ("a line that holds by the constant", {
+            let h = 3;
+            let subjects: [&[u8]; 4] = [&[h, b], &[h, a], &[h, c], &[h, h, a]];
+            let mut tasks = subjects.map(run).to_vec();
+            tasks.extend([vec![4, 0, 0, b, c], vec![4, 0, 0, b, b], vec![4, 0, 0, b, a], vec![4, 0, 1, b, c]]);
+            several(&[0, 0, 0, 1], &[(&[h, X], &[h, Y])], &tasks)
+        }),
+        // f(a, x) = f(y, a): y bound to a, and x > a.
+        ("a line that binds the extra variable to the constant", {
+            let f = 2;
+            let subjects: [&[u8]; 5] = [&[f, a, b], &[f, b, a], &[f, b, b], &[f, b, f, a, b], &[f, a, a]];
+            several(&[0, 0, 2], &[(&[f, a, X], &[f, Y, a])], &subjects.map(run))
+        }),
+        // f(b, x) = f(y, c), c above b above a: the line with y bound to b does not hold, that with b > y needs
+        // f(b, x) > c.
+        ("a line that binds the extra variable to another constant", {
+            let f = 3;
+            let subjects: [&[u8]; 4] = [&[f, b, a], &[f, b, c], &[f, c, c], &[f, a, c]];
+            several(&[0, 0, 0, 2], &[(&[f, b, X], &[f, Y, c])], &subjects.map(run))
+        }),
+        // f(x, b) = f(c, y) with f below all constants: by x > c, or x = c and b > y.
+        ("a line that compares the extra variable with a constant", {
+            let (f, a, b, c) = (0, 1, 2, 3);
+            let subjects: [&[u8]; 4] = [&[f, c, b], &[f, a, b], &[f, f, c, c, b], &[f, c, a]];
+            several(&[2, 0, 0, 0], &[(&[f, X, b], &[f, c, Y])], &subjects.map(run))
+        }),
+        // a > h(y) is never, and h(y) > a always: y = a alone does not make the first hold.
+        ("no line with an extra variable", {
+            let h = 2;
+            several(&[0, 0, 1], &[(&[a], &[h, Y])], &[run(&[a]), run(&[h, b]), run(&[h, h, a])])
+        }),
+        // f(x) = g(h(y), z): h(y) is not the constant, whatever y is.
+        ("an extra variable under a symbol", {
+            let (h, g, f) = (2, 3, 4);
+            let subjects: [&[u8]; 3] = [&[f, b], &[g, h, f, a, f, b], &[f, f, f, a]];
+            several(&[0, 0, 1, 2, 1], &[(&[f, X], &[g, h, Y, Z])], &subjects.map(run))
+        }),
+    ]
+}
+
+/// The lowest constant is not the first symbol, or not the only constant, or the only symbol.
+fn lowest_constants() -> Vec<Named> {
+    vec![
+        // g(x, y) = f(z), with f below a below g.
+        ("the constant is symbol 01", {
+            let (f, a, g) = (0, 1, 2);
+            let subjects: [&[u8]; 4] = [&[f, g, a, a], &[g, f, a, f, a], &[f, f, a], &[f, f, g, a, f, a]];
+            several(&[1, 0, 2], &[(&[g, X, Y], &[f, Z])], &subjects.map(run))
+        }),
+        // q(x) = f(x, y), p < f < a < q < b.
+        ("the lowest of two constants is symbol 02", {
+            let (p, f, a, q, b) = (0, 1, 2, 3, 4);
+            let subjects: [&[u8]; 4] = [&[q, q, b], &[q, a], &[p, q, b], &[f, q, a, q, b]];
+            several(&[1, 2, 0, 1, 0], &[(&[q, X], &[f, X, Y])], &subjects.map(run))
+        }),
+        // The same equation with fourteen symbols between the constants, and only the last of them another constant.
+        ("the lowest of two constants, the other is symbol 0f", {
+            let (f, a, q, b) = (0, 1, 2, 15);
+            let mut arities = [1; 16];
+            arities[f as usize] = 2;
+            arities[a as usize] = 0;
+            arities[b as usize] = 0;
+            several(&arities, &[(&[q, X], &[f, X, Y])], &[run(&[q, q, b]), run(&[14, q, 13, q, a])])
+        }),
+        // Each symbol but the last has arguments.
+        ("the constant is symbol 0f", {
+            let (f, q, a) = (0, 14, 15);
+            let mut arities = [1; 16];
+            arities[f as usize] = 2;
+            arities[a as usize] = 0;
+            several(&arities, &[(&[q, X], &[f, Y, Z])], &[run(&[q, q, a]), run(&[13, q, 12, q, a])])
+        }),
+        ("the constant is the only symbol", several(&[0], &[(&[X], &[Y]), (&[0], &[Z])], &[run(&[0])])),
+        // q(x) = f(x, y) once more, with three constants side by side in the middle.
+        ("the lowest of three constants", {
+            let (f, a, b, c, q) = (0, 1, 2, 3, 4);
+            let subjects: [&[u8]; 3] = [&[q, c], &[q, f, q, b, c], &[f, a, f, b, c]];
+            several(&[2, 0, 0, 0, 1], &[(&[q, X], &[f, X, Y])], &subjects.map(run))
+        }),
+    ]
+}
+
+/// Results of 160 nodes and of more, by the constants of a target.
+fn filled_to_the_limits() -> Vec<Named> {
+    let a = 0;
+    vec![
+        // h(x) = p(x, y, z, u), h above p: three nodes more in each step. 39 steps lead from 43 nodes to 160, and from
+        // 41 nodes to 158, where one more is left.
+        ("filled to 160 nodes, and too large", {
+            let (k, p, h) = (1, 2, 3);
+            let tower = |of_k: usize, of_h: usize| [vec![k; of_k], vec![h; of_h], vec![a]].concat();
+            let subjects = [tower(3, 39), tower(0, 40), tower(4, 39), tower(119, 40)];
+            several(&[0, 1, 4, 1], &[(&[h, X], &[p, X, Y, Z, U])], &subjects.map(|subject| run(&subject)))
+        }),
+        // c = a target of 32 nodes, 16 of them variables: to 160 nodes from 129, and too large from 130.
+        ("a constant filled to 32 nodes", {
+            let (f, h, c) = (1, 2, 3);
+            let target = [&[h], &[f, X, f, Y].repeat(7)[..], &[f, X, Y]].concat();
+            let subject = |nodes: usize| [vec![h; nodes - 1], vec![c]].concat();
+            let tasks = [subject(129), subject(130), subject(160), subject(1)].map(|subject| run(&subject));
+            several(&[0, 2, 1, 0], &[(&[c], &target)], &tasks)
+        }),
+        // f(x, y) = f(z, y) on f(b, f(b, ..)): the step is behind those already taken, where the equation still matches
+        // and no line holds.
+        ("160 nodes throughout, an extra variable in each step", {
+            let (b, h, f) = (1, 2, 3);
+            let subject = [&[h], &[f, b].repeat(79)[..], &[b]].concat();
+            several(&[0, 0, 1, 2], &[(&[f, X, Y], &[f, Z, Y])], &[run(&subject), [&[3, 40], &subject[..]].concat()])
+        }),
+        // p(q(x, y), z) = q(p(x, u), v) with p above q; 16 of each take 256 steps, one more than a run may have.
+        ("256 exchanges with two extra variables each", {
+            let (b, q, p) = (1, 2, 3);
+            let task = |limit: u8, of_p: usize, of_q: usize| {
+                [vec![3, limit], vec![p; of_p], vec![q; of_q], vec![a], vec![b; of_p + of_q]].concat()
+            };
+            let sides: (&[u8], &[u8]) = (&[p, q, X, Y, Z], &[q, p, X, U, V]);
+            several(&[0, 0, 2, 2], &[sides], &[task(255, 16, 16), task(255, 15, 17), task(254, 15, 17), task(0, 1, 1)])
+        }),
+    ]
+}
+
+/// Fillings of many variables at once, up to the last one. The judgements beside them have values of their own.
+fn twelve_variables_filled() -> Vec<Named> {
+    let (a, b, q, p, h) = (0, 1, 2, 3, 4);
+    let arities = [0, 0, 4, 3, 1];
+    let (first, last) = (FIRST_VARIABLE, LAST_VARIABLE);
+    let judgement = |first: u8, last: &[u8]| [&[4, 0, 0, first], &[a; VARIABLES - 2][..], last].concat();
+    vec![
+        ("eleven extra variables up to 8b", {
+            let subjects: [&[u8]; 3] = [&[h, b], &[h, h, b], &[h, q, a, h, b, b, a]];
+            let mut tasks = subjects.map(run).to_vec();
+            tasks.extend([judgement(a, &[b]), judgement(a, &[h, h, a])]);
+            several(&arities, &[(&[h, first], &twelve_under(p, q))], &tasks)
+        }),
+        ("three extra variables below 8b", {
+            let tasks = [run(&[h, b]), run(&[h, h, b]), judgement(b, &[a]), judgement(b, &[b])];
+            several(&arities, &[(&[h, last], &[q, first, first + 5, last - 1, last])], &tasks)
+        }),
+        ("twelve extra variables", {
+            let tasks = [run(&[b]), run(&[h, b]), run(&[h, h, a])];
+            several(&arities, &[(&[h, b], &twelve_under(p, q))], &tasks)
+        }),
+        // f(80, 8a) = f(8b, 80): 8b is extra from the left, 8a from the right.
+        ("8b and 8a are extra", {
+            let f = 2;
+            let subjects: [&[u8]; 5] = [&[f, b, a], &[f, a, b], &[f, b, b], &[f, f, a, b, f, b, a], &[f, a, a]];
+            several(&[0, 0, 2], &[(&[f, first, last - 1], &[f, last, first])], &subjects.map(run))
+        }),
+        // f(a, 80) = f(8b, a), as in "a line that binds the extra variable to the constant".
+        ("8b is extra and bound to the constant", {
+            let f = 2;
+            let tasks = [run(&[f, a, b]), run(&[f, b, a]), run(&[f, a, a]), judgement(b, &[b]), judgement(b, &[a])];
+            several(&[0, 0, 2], &[(&[f, a, first], &[f, last, a])], &tasks)
+        }),
     ]
 }

@@ -3,7 +3,7 @@
 mod common;
 
 use common::naive::{self, Order, Task, Walk};
-use common::{Buffers, fields, is_prefix_then_pattern, refusal};
+use common::{Buffers, PATTERN, fields, is_prefix_then_pattern, refusal};
 use reference::limits::*;
 
 /// Compares the results of all calls, every lent byte, and the listing.
@@ -414,6 +414,57 @@ fn every_variable_occurs() {
     println!("{met:?}");
     assert!(met.in_equations.iter().all(|&times| times >= 100) && met.bound.iter().all(|&times| times >= 100));
     assert!(met.refused.iter().all(|&times| times >= 3));
+}
+
+/// How many runs there are, and how many of them take a step by a direction whose target has a variable that its source
+/// lacks; and how many steps of either kind there are, by direction.
+#[derive(Debug, Default)]
+struct ExtraVariables {
+    runs: usize,
+    runs_with_extra: usize,
+    steps: [usize; 2],
+    steps_with_extra: [usize; 2],
+}
+
+impl ExtraVariables {
+    fn count(&mut self, text: &[u8]) {
+        let Ok(sheet) = naive::read(text) else { return };
+        for (number, task) in sheet.tasks.iter().enumerate() {
+            let mut buffers = Buffers::new();
+            if !matches!(task, Task::Run(..)) || buffers.run(text, number as u64) & 0xff != 0 {
+                continue;
+            }
+            let steps = buffers.log.chunks_exact(3).take_while(|step| step[0] != PATTERN);
+            let mut extra_taken = false;
+            for step in steps {
+                let direction = step[1] as usize;
+                let extra = naive::has_extra_variables(&sheet.equations[step[0] as usize], direction);
+                self.steps[direction] += 1;
+                self.steps_with_extra[direction] += extra as usize;
+                extra_taken |= extra;
+            }
+            self.runs += 1;
+            self.runs_with_extra += extra_taken as usize;
+        }
+    }
+}
+
+/// The other tests would say little about extra variables if their runs seldom met them.
+#[test]
+fn extra_variables_occur_in_runs() {
+    let mut generated = ExtraVariables::default();
+    for seed in 0..500 {
+        generated.count(&reference::generate::sheet(seed));
+    }
+    println!("generated sheets: {generated:?}");
+    assert!(generated.runs_with_extra * 4 >= generated.runs);
+    assert!(generated.steps_with_extra.iter().all(|&steps| steps >= 100));
+    let mut special = ExtraVariables::default();
+    for (_, sheet) in reference::special::special() {
+        special.count(&sheet);
+    }
+    println!("special sheets: {special:?}");
+    assert!(special.runs_with_extra >= 50 && special.steps_with_extra.iter().all(|&steps| steps >= 10));
 }
 
 /// Takes some minutes.

@@ -335,6 +335,87 @@ fn doubled_terms() {
     }
 }
 
+/// The frames of the listing of a sheet's tasks.
+fn task_frames(name: &str) -> String {
+    let listing = listing(&special_sheet(name));
+    let frames: Vec<&str> = listing.split(' ').filter(|frame| !["11", "12"].contains(&&frame[..2])).collect();
+    frames.join(" ")
+}
+
+#[test]
+fn extra_variables() {
+    let listed = [
+        (
+            "an extra variable in each direction",
+            "14000000 14000100 130002020000 14000100 130001020100 130000020101 14000102 1300010201020000 \
+             14000100 14000101 1300020202010000 1f0006",
+        ),
+        (
+            "an extra variable in the first of three equations",
+            "14000000 14020000 13000201 14000000 14020000 14000000 14020000 13000401 1f0006",
+        ),
+        (
+            "two variables as an equation",
+            "13000000 14000000 13000100 14000000 13000100 14000000 13000100 13010001 13000000 150000 150101 1f0003",
+        ),
+        (
+            "a constant against variables",
+            "14000000 130001010000 14000100 14000000 130002010000 14000100 14000000 130002010000 130000010000 \
+             13000000 1f0005",
+        ),
+        (
+            "a constant below a term of variables",
+            "13000001 14000100 13000101 14000100 13000101 14000100 13000101 1f0003",
+        ),
+        (
+            "a line that holds by the constant",
+            "14000000 1300010300 1300000300 14000000 1300010300 14000000 1300010300 150000 150000 150103 150103 1f0003",
+        ),
+        (
+            "a line that binds the extra variable to the constant",
+            "14000000 130001020000 14000100 130001020000 130000020101 14000002 1300010201020000 130000020000 1f0003",
+        ),
+        (
+            "the constant is symbol 01",
+            "14000100 14000000 1300020001 14000000 1300010001 130000000001 14000100 14000000 1300020001 1f0005",
+        ),
+        ("the constant is symbol 0f", "14000000 130001000f0f 14000001 1300010d000f0f 1f0002"),
+        (
+            "the lowest of three constants",
+            "14000000 130001000301 14000000 14000002 13000200000002010301 1300000001000203 1f0003",
+        ),
+        (
+            "eleven extra variables up to 8b",
+            "14000000 13000103020100000002000000000200000000 14000000 14000002 \
+             13000203020302010000000200000000020000000000000002000000000200000000 14000000 14000004 \
+             1300020302020003020100000002000000000200000000010000000002000000000200000000 15011f 150000 1f0005",
+        ),
+        ("twelve extra variables", "13000001 14000000 13000103020000000002000000000200000000 130000040400 1f0001"),
+        (
+            "8b is extra and bound to the constant",
+            "14000000 130001020000 14000100 130001020000 130000020000 150000 150107 1f0002",
+        ),
+    ];
+    for (name, expected) in listed {
+        assert_eq!(task_frames(name), expected, "{name}");
+    }
+}
+
+#[test]
+fn extra_variables_at_the_limits() {
+    let expected: [(&str, &[[u64; 3]]); 4] = [
+        ("filled to 160 nodes, and too large", &[[39, 0, 160], [39, 2, 158], [38, 2, 158], [0, 2, 160]]),
+        ("a constant filled to 32 nodes", &[[1, 0, 160], [0, 2, 130], [0, 2, 160], [1, 0, 32]]),
+        ("160 nodes throughout, an extra variable in each step", &[[79, 0, 160], [40, 1, 160]]),
+        ("256 exchanges with two extra variables each", &[[255, 1, 65], [255, 0, 65], [254, 1, 65], [0, 1, 5]]),
+    ];
+    for (name, outcomes) in expected {
+        for (task, &outcome) in outcomes.iter().enumerate() {
+            assert_eq!(fields(Buffers::new().run(&special_sheet(name), task as u64)), outcome, "{name}, task {task}");
+        }
+    }
+}
+
 #[test]
 fn texts_at_the_limits() {
     let refused = [

@@ -1,36 +1,32 @@
 -- A row is loaded before the subject's nodes: the equation stands at the front, and all that stands from the subject's first node on is as before.
 use Prim.Native.Nat.{ℕ, _+_, _-_, _*_, _≤_, _<_}
-use mathlib.Core.Path.{_≡_, refl, sym, ap, subst, _∙_}
-use mathlib.Core.Logic.{_⊎_, inl, inr}
-use mathlib.Core.Bool.{Bool, true, false}
-use mathlib.Core.Option.{Option, none, some}
-use mathlib.Core.List.{List, [], _∷_, _++_, append-assoc}
+use mathlib.Core.Path.{_≡_, sym, ap, _∙_}
+use mathlib.Core.Logic.{inl}
+use mathlib.Core.Option.{Option, none, some, Option·getD}
+use mathlib.Core.List.{List, _++_, append-assoc}
 use native.Mathlib.Omega.{arith}
-use native.Mathlib.Decide.{decLt}
-use lib.ListN.{length, getD, take, drop, length-append, length-drop, List·getD-eq-default}
+use lib.ListN.{length, getD, take, drop, length-append, length-drop}
 use lib.Seq.{length-take-le, take-all, take-append-add, drop-at, drop-drop, getD-drop}
 use lib.Dec.{ltb}
 use Rattle.format.specs.Limits.{variable-count, position-count, node-count}
 use Rattle.format.specs.Buffer.{written}
-use Rattle.terms.specs.Term.{Term, var}
-use Rattle.terms.specs.Equation.{Equation, Direction, left-right, right-left, source, target, value}
+use Rattle.terms.specs.Term.{Term, Terms, var, app, nil, cons, Values}
+use Rattle.terms.specs.Filling.{filling}
+use Rattle.terms.specs.Contracts.Limits.{VariablesBelow, AllVariablesBelow}
+use Rattle.terms.specs.Equation.{Equation, Direction, value}
 use Rattle.terms.specs.Prefix.{equation-bytes}
-use Rattle.terms.specs.Contracts.Fits.{Fits}
 use Rattle.terms.specs.Contracts.Stored.{PartAt, GroundStored, SubjectIs}
 use Rattle.terms.specs.Theory.Limits.{positions-few}
-use Rattle.terms.specs.Theory.Prefix.{fits-variables}
-use Rattle.terms.specs.Theory.Variables.{VariablesIn}
+use Rattle.terms.specs.Theory.Variables.{VariablesIn, AllVariablesIn}
 use Rattle.solving.specs.Judge.{first-holding}
 use Rattle.unifying.specs.Contracts.Equation.{equation-sizes}
 use Rattle.unifying.specs.Theory.Equation.{length-nodes, length-sizes}
-use Rattle.reducing.specs.Match.{Match, values-of, has-variable, usable}
-use Rattle.reducing.specs.Test.{line-test}
-use Rattle.reducing.specs.Theory.Variables.{match-meets, variables-are, covered-has}
+use Rattle.reducing.specs.Match.{Match, values-of}
 use Rattle.comparing.specs.Contracts.Cells.{SettledCells, Cleared}
 use Rattle.comparing.specs.Theory.Cells.{SameFrom, next-match}
 use Rattle.matching.specs.Contracts.Matching.{SlotIs}
 use Rattle.judging.specs.declared.trimmed.KeptLines.{KeptLines}
-use Rattle.judging.specs.Contracts.Holding.{LinesTestable, LinesAre}
+use Rattle.judging.specs.Contracts.Holding.{LinesAre}
 use Rattle.rules.specs.Contracts.Rows.{row-bytes, RowIs, RuleIs}
 use Rattle.applying.specs.Contracts.Trying.{Settled, MatchedTry, LinesTell}
 use Rattle.applying.specs.Theory.Testable.{AtFront, lines-testable}
@@ -88,6 +84,16 @@ module _ {before after : List ℕ} (f : Fronted before after) where
         moved after ∙ (ap (λ l. getD l m 0) (f .behind) ∙ sym (moved before));
   }
 
+-- All variables of a term are below the number of variables.
+mutual
+  below-in : (t : Term) → VariablesBelow variable-count t → VariablesIn (λ v. v < variable-count) t
+  below-in (var v) h = h
+  below-in (app f ts) h = all-below-in ts h
+
+  all-below-in : (ts : Terms) → AllVariablesBelow variable-count ts → AllVariablesIn (λ v. v < variable-count) ts
+  all-below-in nil h = tt
+  all-below-in (cons t ts) h = (below-in t (h .0), all-below-in ts (h .1))
+
 module _ {nodes lengths nodes′ lengths′ : List ℕ} (n : Fronted nodes nodes′) (l : Fronted lengths lengths′) where
   pub ground-kept : {arities : List ℕ} {i : ℕ} {t : Term} → GroundStored nodes lengths arities i t → GroundStored nodes′ lengths′ arities i t
   ground-kept g = record {
@@ -104,70 +110,35 @@ module _ {nodes lengths nodes′ lengths′ : List ℕ} (n : Fronted nodes nodes
     lengths-length = l .same-length ∙ s .lengths-length;
     symbols = λ i h. omega (arith, same-from n .same i h, s .symbols i h);
     stored = ground-kept (s .stored);
+    inside = s .inside;
+    filling-stored = ground-kept (s .filling-stored);
   }
 
   pub settled-next : {ready ready′ cells : List ℕ} (values : List ℕ) → Settled nodes lengths ready cells → length values ≡ variable-count → Cleared ready 0 position-count ready′
       → SettledCells nodes′ lengths′ values ready′ cells
   settled-next values s v c = next-match (s .are) (same-from n) (same-from l) v c
 
--- 3. The match gives each variable of a usable rule a term of the subject.
+-- 3. The match gives each variable a term of the subject, or the filling.
 module _ {equations lengths : List ℕ} {rule : ℕ} {table : List ℕ} {lines : KeptLines} {nodes sizes values arities : List ℕ} {i : ℕ} {e : Equation} {d : Direction} {subject : Term} {m : Match}
     (is : MatchedTry equations lengths rule table lines nodes sizes values arities i e d subject m) where
   row : RowIs equations lengths arities i e
   row = is .rule-is .row
 
-  abbrev Met : ℕ → Type 0
-  Met v = (u : Term) × (getD m v none ≡ some u)
+  abbrev ρ : Values
+  ρ = values-of (filling arities) m
 
-  met-low : (v : ℕ) → Met v → v < variable-count
-  met-low v (u, x) = elim (decLt v variable-count) [
-    | yes l ↦ l
-    | no n ↦
-        let y = List·getD-eq-default m none {n = v} (omega (arith, is .met .slots)) in
-        let z : _≡_ {A = ℕ} 0 1 = cc (x, y) in
-        absurd (omega arith)
-  ]
-
-  source-met : (v : ℕ) → has-variable v (source e d) ≡ true → Met v
-  unfolding source
-  source-met v h = match-meets (source e d) (is .part) m v (fits-variables arities (source e d) (side-fits d)) (is .matches) h
-    where
-      side-fits : (d : Direction) → Fits arities (source e d)
-      side-fits left-right = row .left-fits
-      side-fits right-left = row .right-fits
-
-  both-met : usable e d ≡ true → VariablesIn Met (e .left) × VariablesIn Met (e .right)
-  unfolding usable source target
-  both-met u = go d source-met u
-    where
-      go : (d : Direction) → ((v : ℕ) → has-variable v (source e d) ≡ true → Met v) → usable e d ≡ true → VariablesIn Met (e .left) × VariablesIn Met (e .right)
-      go left-right s u = (variables-are Met (e .left) s, variables-are Met (e .right) (λ v h. s v (covered-has (e .left) v (e .right) u h)))
-      go right-left s u = (variables-are Met (e .left) (λ v h. s v (covered-has (e .right) v (e .left) u h)), variables-are Met (e .right) s)
-
-  met-value : (v : ℕ) (x : Met v) → values-of m v ≡ x .0
+  slot-given : (v : ℕ) → v < variable-count → GroundStored nodes sizes arities (getD values v 0) (ρ v)
   unfolding values-of
-  met-value v (u, x) = rw x
-
-  unmet-value : (v : ℕ) → getD m v none ≡ none → values-of m v ≡ var v
-  unfolding values-of
-  unmet-value v x = rw x
-
-  slot-given : (v : ℕ) → Met v → GroundStored nodes sizes arities (getD values v 0) (values-of m v)
-  slot-given v x =
-      subst (GroundStored nodes sizes arities (getD values v 0)) (sym (met-value v x))
-      (subst (λ o. SlotIs nodes sizes arities o (getD values v 0)) (x .1) (is .met .each v (met-low v x)))
-
-  slot-either : (v : ℕ) → v < variable-count → Met v ⊎ ((getD values v 0 ≡ 0) × (values-of m v ≡ var v))
-  slot-either v h = go (getD m v none) refl
+  slot-given v l = go (getD m v none) (is .met .each v l)
     where
-      go : (o : Option Term) → getD m v none ≡ o → ((u : Term) × (getD m v none ≡ some u)) ⊎ ((getD values v 0 ≡ 0) × (values-of m v ≡ var v))
-      go (some u) x = inl (u, x)
-      go none x = inr (subst (λ o. SlotIs nodes sizes arities o (getD values v 0)) x (is .met .each v h), unmet-value v x)
+      go : (o : Option Term) → SlotIs nodes sizes arities o (getD values v 0) → GroundStored nodes sizes arities (getD values v 0) (Option·getD o (filling arities))
+      go none x = rw x (is .subject-is .filling-stored)
+      go (some u) x = x .0
 
   -- 4. The lines can be tested once the row is loaded.
   module _ {nodes′ sizes′ : List ℕ} (n : Fronted nodes nodes′) (l : Fronted sizes sizes′) (bytes : PartAt nodes′ 0 (equation-bytes e)) (measured : PartAt sizes′ 0 (equation-sizes e)) where
-    front : usable e d ≡ true → AtFront nodes′ sizes′ values arities e (values-of m) Met
-    front u = record {
+    front : AtFront nodes′ sizes′ values arities e ρ (λ v. v < variable-count)
+    front = record {
       few-symbols = row .few-symbols;
       limits = row .limits;
       left-fits = row .left-fits;
@@ -175,37 +146,18 @@ module _ {equations lengths : List ℕ} {rule : ℕ} {table : List ℕ} {lines :
       bytes = bytes;
       measured = measured;
       given = λ v x. ground-kept n l (slot-given v x);
-      left-variables = both-met u .0;
-      right-variables = both-met u .1;
-      slot = slot-either;
+      left-variables = below-in (e .left) (row .limits .left-variables);
+      right-variables = below-in (e .right) (row .limits .right-variables);
+      slot = λ v x. inl x;
     }
 
-    kept-testable : LinesTestable nodes′ sizes′ values (values-of m) (value e (values-of m)) (is .kept)
-    kept-testable = go (usable e d) refl
-      where
-        go : (b : Bool) → usable e d ≡ b → LinesTestable nodes′ sizes′ values (values-of m) (value e (values-of m)) (is .kept)
-        go true u = lines-testable (front u) (is .kept) (is .kept-are .proper)
-        go false u = subst (LinesTestable nodes′ sizes′ values (values-of m) (value e (values-of m))) (sym (is .kept-are .unusable u)) tt
-
-    pub lines-are : LinesAre nodes′ sizes′ values (values-of m) (value e (values-of m)) table lines (is .kept)
+    pub lines-are : LinesAre nodes′ sizes′ values ρ (value e ρ) table lines (is .kept)
     lines-are =
         let there = is .kept-there in
-        record { ends = there .ends; room = omega (arith, there .room, there .table-room); there = there .there; testable = kept-testable }
+        record { ends = there .ends; room = omega (arith, there .room, there .table-room); there = there .there; testable = lines-testable front (is .kept) (is .kept-are .proper) }
 
-  pub lines-tell : (r : ℕ) → r ≡ first-holding (values-of m) (value e (values-of m)) (is .kept) → LinesTell e d m (ltb 0 r)
-  unfolding first-holding
-  lines-tell r x = go (usable e d) refl
-    where
-      go : (b : Bool) → usable e d ≡ b → LinesTell e d m (ltb 0 r)
-      go true u =
-          let y : line-test e d (values-of m) ≡ ltb 0 r = is .kept-are .tests u (values-of m) ∙ ap (ltb 0) (sym x) in
-          record { hold = λ h. (u, y ∙ h); fail = λ h k. y ∙ h }
-      go false u =
-          let z : r ≡ 0 = x ∙ ap (first-holding (values-of m) (value e (values-of m))) (is .kept-are .unusable u) in
-          record {
-            hold = λ h. let w : false ≡ true = sym (ap (ltb 0) z) ∙ h in let q : _≡_ {A = ℕ} 0 1 = cc in absurd (omega arith);
-            fail = λ h k. let q : _≡_ {A = ℕ} 0 1 = cc in absurd (omega arith);
-          }
+  pub lines-tell : (r : ℕ) → r ≡ first-holding ρ (value e ρ) (is .kept) → LinesTell (filling arities) e d m (ltb 0 r)
+  lines-tell r x = is .kept-are .tests ρ ∙ ap (ltb 0) (sym x)
 
 -- 5. The row of the rule, as it is copied.
 module _ {equations lengths arities : List ℕ} {rule i : ℕ} {e : Equation} {d : Direction} (is : RuleIs equations lengths arities rule i e d) where

@@ -6,7 +6,8 @@ use mathlib.Core.Option.{Option, none, some}
 use mathlib.Core.List.{List}
 use native.Mathlib.Omega.{arith}
 use Rattle.format.specs.Limits.{position-count}
-use Rattle.terms.specs.Term.{Term, size}
+use Rattle.terms.specs.Term.{Term, var, size}
+use Rattle.terms.specs.Theory.Replace.{around, size-around}
 use Rattle.terms.specs.Contracts.Stored.{GroundStored, SubjectIs}
 use Rattle.terms.specs.declared.arguments.Arguments.{Arguments}
 use Rattle.reducing.specs.Match.{Match}
@@ -22,6 +23,7 @@ side-part {arities = arities} {nodes = nodes} {sizes = sizes} {subject = subject
   spelled = side .stored .bytes;
   ends = side .ends;
   part = subst (λ i. GroundStored nodes sizes arities i (part-at subject p)) (sym n) (part-stored (is .stored) p h);
+  inside = omega (arith, is .inside, size-around (around subject p h) (var 0) h);
 }
 
 -- The match that the code finds is that of the definition, and so is that it finds none.

@@ -12,6 +12,7 @@ ghost use Prim.Native.Nat.{ℕ, _≤_};
 ghost use lib.ListN.{length, take};
 ghost use Rattle.format.specs.Limits.{position-count};
 ghost use Rattle.format.specs.Buffer.{written};
+ghost use Rattle.terms.specs.Filling.{filling};
 ghost use Rattle.terms.specs.Term.{Term};
 ghost use Rattle.terms.specs.Equation.{Equation, Direction};
 ghost use Rattle.terms.specs.Contracts.Stored.{SubjectIs};
@@ -56,7 +57,7 @@ fn line_holds(
 ) -> bool
     requires { ⌜ HasMatchedTry (now equations) (now lengths) rule (now table) lines (now nodes) (now sizes) (now values) ⌝ }
     requires { ⌜ Settled (now nodes) (now sizes) (now ready) (now cells) ⌝ }
-    ensures { λ r. ⌜ ((arities : List ℕ) (i : ℕ) (e : Equation) (d : Direction) (subject : Term) (m : Match) → MatchedTry (now (equations .entry)) (now (lengths .entry)) rule (now (table .entry)) lines (now (nodes .entry)) (now (sizes .entry)) (now (values .entry)) arities i e d subject m → LinesTell e d m r) ⌝ }
+    ensures { λ r. ⌜ ((arities : List ℕ) (i : ℕ) (e : Equation) (d : Direction) (subject : Term) (m : Match) → MatchedTry (now (equations .entry)) (now (lengths .entry)) rule (now (table .entry)) lines (now (nodes .entry)) (now (sizes .entry)) (now (values .entry)) arities i e d subject m → LinesTell (filling arities) e d m r) ⌝ }
     ensures { λ _. ⌜ ((arities : List ℕ) (subject : Term) → SubjectIs (now (nodes .entry)) (now (sizes .entry)) arities subject → SubjectIs (now (nodes .exit)) (now (sizes .exit)) arities subject) ⌝ }
     ensures { λ _. ⌜ Settled (now (nodes .exit)) (now (sizes .exit)) (now (ready .exit)) (now (cells .exit)) ⌝ }
 {
@@ -82,7 +83,7 @@ pub fn applies(
 ) -> bool
     requires { ⌜ HasTry (now equations) (now lengths) rule (now table) lines (now nodes) (now sizes) node ⌝ }
     requires { ⌜ Settled (now nodes) (now sizes) (now ready) (now cells) ⌝ }
-    ensures { λ r. ⌜ ((arities : List ℕ) (i : ℕ) (e : Equation) (d : Direction) (subject : Term) (p : ℕ) → TryIs (now (equations .entry)) (now (lengths .entry)) rule (now (table .entry)) lines (now (nodes .entry)) (now (sizes .entry)) node arities i e d subject p → Applies subject p i e d r) ⌝ }
+    ensures { λ r. ⌜ ((arities : List ℕ) (i : ℕ) (e : Equation) (d : Direction) (subject : Term) (p : ℕ) → TryIs (now (equations .entry)) (now (lengths .entry)) rule (now (table .entry)) lines (now (nodes .entry)) (now (sizes .entry)) node arities i e d subject p → Applies (filling arities) subject p i e d r) ⌝ }
     ensures { λ _. ⌜ ((arities : List ℕ) (subject : Term) → SubjectIs (now (nodes .entry)) (now (sizes .entry)) arities subject → SubjectIs (now (nodes .exit)) (now (sizes .exit)) arities subject) ⌝ }
     ensures { λ _. ⌜ Settled (now (nodes .exit)) (now (sizes .exit)) (now (ready .exit)) (now (cells .exit)) ⌝ }
 {

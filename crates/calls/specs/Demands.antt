@@ -1,5 +1,5 @@
--- Demands 2 and 3 over what the calls give, and W6, W8 and W10 of document 02, each a proposition beside its words. Theory proves them: Verdicts,
--- Tables, Runs, Always, Termination. The contracts of the six calls (src/) equate what the code gives with these outcomes, so that the demands speak of the code.
+-- Demands 2 and 3 over what the calls give, and W5, W6, W8 and W10 of document 02, each a proposition beside its words. Theory proves them: Verdicts, Tables,
+-- Runs, Filling, Always, Termination. The contracts of the six calls (src/) equate what the code gives with these outcomes, so that the demands speak of the code.
 use Prim.Native.Nat.{ℕ, suc, _≤_, _<_}
 use mathlib.Core.Path.{_≡_}
 use mathlib.Core.Logic.{_⊎_, _↔_}
@@ -13,7 +13,8 @@ use Rattle.format.specs.Refusal.{number}
 use Rattle.format.specs.declared.refusal.Refusal.the-variants.{ShortBuffer as short-buffer, AbsentArgument as absent-argument}
 use Rattle.format.specs.Buffer.{written}
 use Rattle.format.specs.Lists.{entry}
-use Rattle.terms.specs.Term.{Term, Ground, Values, inst}
+use Rattle.terms.specs.Term.{Term, app, nil, Ground, Values, inst}
+use Rattle.terms.specs.Filling.{lowest-constant, filling}
 use Rattle.terms.specs.Equation.{Equation, Direction, direction-of, source, target, source-position, target-position, view, value}
 use Rattle.ordering.specs.Order.{_≻_}
 use Rattle.ordering.specs.Below.{Below}
@@ -26,9 +27,9 @@ use Rattle.solving.specs.Walk.{Fuel, AtLeast, solved, walk-within, solve, Solve
 use Rattle.solving.specs.Always.{has-empty, answered, always, reached}
 use Rattle.solving.specs.Holds.{SomeLineHolds}
 use Rattle.reducing.specs.declared.ending.Ending.the-variants.{NoneFound as none-found}
-use Rattle.reducing.specs.Run.{Descending}
+use Rattle.reducing.specs.Run.{Descending, last-term}
 use Rattle.reducing.specs.Test.{line-run, reference-run, EverySolves}
-use Rattle.reducing.specs.Reduction.{Reduces}
+use Rattle.reducing.specs.Reduction.{Reduces, Irreducible, StepsReduce}
 use Rattle.termination.specs.Walk.{slots, enough-for, no-limit, walk-allowed, WalkEnds}
 use Rattle.termination.specs.Run.{RunEnds}
 use Rattle.outcomes.specs.Buffer.{fields, first-field, refusal-byte, blanked, cleared}
@@ -107,7 +108,8 @@ abbrev pub TablesDemanded : Type 0
 TablesDemanded = (sheet : List ℕ) (e d : ℕ) (table scratch : List ℕ) → Served (solve-call sheet e d table scratch .returned) → TableDemand sheet e d table scratch
 
 -- Demand 3: "Where every direction solves, a run, which consults only the lines, has for every ground term and step limit the same steps in the same order,
--- count, ending and last term as the reference run, which compares the instances by L1 to L3; and each term of the run exceeds the next."
+-- count, ending and last term as the reference run, which compares the instances by L1 to L3; and each term of the run exceeds the next." Both have the same
+-- filling (document 02, W5): "The reference run takes the same filling before it compares instances, and a run is compared with that."
 
 -- The step limit and the ground term that a call of run names in an accepted sheet.
 pub record RunNamed (sheet : List ℕ) (task : ℕ) : Type 0 where
@@ -122,10 +124,10 @@ pub record RunDemand (sheet : List ℕ) (task : ℕ) (table scratch term log : L
   pub named : RunNamed sheet task
   pub solves : EverySolves (named .content .equations)
   -- The number, the term, the log and every other byte are those of the reference run.
-  pub given : run-call sheet task table scratch term log ≡ run-done table scratch term log (named .subject) (reference-run (named .content .equations) (named .limit) (named .subject))
+  pub given : run-call sheet task table scratch term log ≡ run-done table scratch term log (named .subject) (reference-run (filling (named .content .arities)) (named .content .equations) (named .limit) (named .subject))
   -- And so for every other term and step limit over these equations.
-  pub same-run : (k : ℕ) (subject : Term) → line-run (named .content .equations) k subject ≡ reference-run (named .content .equations) k subject
-  pub descending : (k : ℕ) (subject : Term) → Descending subject (line-run (named .content .equations) k subject .steps)
+  pub same-run : (k : ℕ) (subject : Term) → line-run (filling (named .content .arities)) (named .content .equations) k subject ≡ reference-run (filling (named .content .arities)) (named .content .equations) k subject
+  pub descending : (k : ℕ) (subject : Term) → Descending subject (line-run (filling (named .content .arities)) (named .content .equations) k subject .steps)
 
 abbrev pub RunsDemanded : Type 0
 RunsDemanded = (sheet : List ℕ) (task : ℕ) (table scratch term log : List ℕ) → Served (run-call sheet task table scratch term log .returned) → RunDemand sheet task table scratch term log
@@ -139,7 +141,7 @@ TablesExact =
 abbrev pub RunsAreReferenceRuns : Type 0
 RunsAreReferenceRuns =
     (sheet : List ℕ) (s : Sheet) → read sheet ≡ accepted s → EverySolves (s .equations) → (k : ℕ) (subject : Term)
-    → (line-run (s .equations) k subject ≡ reference-run (s .equations) k subject) × Descending subject (line-run (s .equations) k subject .steps)
+    → (line-run (filling (s .arities)) (s .equations) k subject ≡ reference-run (filling (s .arities)) (s .equations) k subject) × Descending subject (line-run (filling (s .arities)) (s .equations) k subject .steps)
 
 -- What is asked for is given: with buffers that are long enough, compare serves each task of two terms, solve each direction that solves, and run each task of
 -- a run where every direction solves.
@@ -172,6 +174,31 @@ abbrev pub RunRefusedByHost : Type 0
 RunRefusedByHost =
     (sheet : List ℕ) (s : Sheet) (task : ℕ) (table scratch term log : List ℕ) → read sheet ≡ accepted s
     → EverySolves (s .equations) → ServedOrHost (run-call sheet task table scratch term log .returned)
+
+-- Document 02, W5: "fills such a variable with the lowest constant of the sheet". On an accepted sheet this is a ground term over the sheet's symbols: a symbol of
+-- arity 0, and none of a lower number has arity 0.
+pub record FillingDemand (arities : List ℕ) : Type 0 where
+  pub term-is : filling arities ≡ app (lowest-constant arities) nil
+  pub ground : Ground arities (filling arities)
+  pub a-constant : entry arities (lowest-constant arities) ≡ some 0
+  pub none-lower : (f : ℕ) → entry arities f ≡ some 0 → lowest-constant arities ≤ f
+
+abbrev pub FillingDemanded : Type 0
+FillingDemanded = (sheet : List ℕ) (s : Sheet) → read sheet ≡ accepted s → FillingDemand (s .arities)
+
+-- "Every direction is usable": by ground reduction, which is stated apart from the run's text (`Reduces`). Each step of a run is a reduction by its equation in its
+-- direction at its position, with the filling for each variable that the source lacks.
+abbrev pub RunsReduce : Type 0
+RunsReduce =
+    (sheet : List ℕ) (s : Sheet) → read sheet ≡ accepted s → EverySolves (s .equations) → (k : ℕ) (subject : Term)
+    → StepsReduce (filling (s .arities)) (s .equations) subject (line-run (filling (s .arities)) (s .equations) k subject .steps)
+
+-- And where a run ends because no step is found (ending 00), no equation reduces its last term in any direction.
+abbrev pub RunsEndIrreducible : Type 0
+RunsEndIrreducible =
+    (sheet : List ℕ) (s : Sheet) → read sheet ≡ accepted s → EverySolves (s .equations) → (k : ℕ) (subject : Term)
+    → line-run (filling (s .arities)) (s .equations) k subject .ending ≡ none-found
+    → Irreducible (filling (s .arities)) (s .equations) (last-term subject (line-run (filling (s .arities)) (s .equations) k subject .steps))
 
 -- Document 02, W6: "Tutors often want only to know whether a direction always holds."
 
@@ -265,20 +292,22 @@ NoEndlessDescent = (arities : List ℕ) (sequence : ℕ → Term) → ((i : ℕ)
 -- "ground reduction cannot go on forever": on an accepted sheet, from a ground term, whichever steps are chosen.
 abbrev pub NoEndlessReduction : Type 0
 NoEndlessReduction =
-    (sheet : List ℕ) (s : Sheet) → read sheet ≡ accepted s → (terms : ℕ → Term) → Ground (s .arities) (terms 0) → ¬ ((i : ℕ) → Reduces (s .equations) (terms i) (terms (suc i)))
+    (sheet : List ℕ) (s : Sheet) → read sheet ≡ accepted s → (terms : ℕ → Term) → Ground (s .arities) (terms 0) → ¬ ((i : ℕ) → Reduces (filling (s .arities)) (s .equations) (terms i) (terms (suc i)))
 
--- Where every direction solves, each step of a run is such a step (`step-reduces`, termination/specs/Theory/Runs). So there is no endless run: on every accepted
--- sheet where every direction solves, the run with unlimited steps and without the limit of 160 nodes ends for every ground term.
+-- Where every direction solves, each step of a run is such a step (`RunsReduce`). So there is no endless run: on every accepted sheet where every direction
+-- solves, the run with unlimited steps and without the limit of 160 nodes ends for every ground term.
 abbrev pub RunsEnd : Type 0
-RunsEnd = (sheet : List ℕ) (s : Sheet) → read sheet ≡ accepted s → EverySolves (s .equations) → (subject : Term) → Ground (s .arities) subject → RunEnds (s .equations) subject
+RunsEnd = (sheet : List ℕ) (s : Sheet) → read sheet ≡ accepted s → EverySolves (s .equations) → (subject : Term) → Ground (s .arities) subject → RunEnds (filling (s .arities)) (s .equations) subject
 
 -- It has one end.
 abbrev pub RunsEndOnce : Type 0
-RunsEndOnce = (es : List Equation) (subject : Term) (u v : RunEnds es subject) → u .steps ≡ v .steps
+RunsEndOnce = (filling : Term) (es : List Equation) (subject : Term) (u v : RunEnds filling es subject) → u .steps ≡ v .steps
 
 -- Where the run of document 01, with any step limit, ends because no step is found (ending 00), both have the same steps.
 abbrev pub RunsEndAlike : Type 0
-RunsEndAlike = (es : List Equation) (k : ℕ) (subject : Term) → line-run es k subject .ending ≡ none-found → (unlimited : RunEnds es subject) → unlimited .steps ≡ line-run es k subject .steps
+RunsEndAlike =
+    (filling : Term) (es : List Equation) (k : ℕ) (subject : Term) → line-run filling es k subject .ending ≡ none-found → (unlimited : RunEnds filling es subject)
+    → unlimited .steps ≡ line-run filling es k subject .steps
 
 -- "the walk, written without its three limits, ends for every pair of terms": for every equation, that is, any two terms of any size with any number of
 -- variables, in each direction. A proof of this is a total function, which gives the last table and the number of turns.

@@ -1,4 +1,5 @@
 -- The theorems about the calls' outcomes.
+pub mod Filling
 pub mod Walks
 pub mod Determined
 pub mod Runs

@@ -4,7 +4,7 @@ use mathlib.Core.Path.{_≡_, refl, sym, ap, _∙_}
 use mathlib.Core.List.{List}
 use native.Mathlib.Omega.{arith}
 use lib.ListN.{getD}
-use Rattle.format.specs.Limits.{position-count, node-count}
+use Rattle.format.specs.Limits.{position-count, row-cells}
 use Rattle.terms.specs.Term.{Term}
 use Rattle.ordering.specs.declared.verdict.Verdict.{Verdict}
 use Rattle.ordering.specs.declared.verdict.Verdict.the-variants.{Smaller as smaller, Equal as equal, Greater as greater}
@@ -90,7 +90,7 @@ module _ {nodes lengths values : List ℕ} {i j : ℕ} {r : Decision} where
 
   -- The decision that is read from its cell.
   pub decision-kept : {ready cells : List ℕ} → SettledCells nodes lengths values ready cells → 0 < getD ready i 0 → position-count ≤ j
-      → clause-unit ≤ getD cells (i * node-count + j) 0 → DecisionHeld (getD cells (i * node-count + j) 0) r → DecisionOf nodes lengths values i j r
+      → clause-unit ≤ getD cells (i * row-cells + j) 0 → DecisionHeld (getD cells (i * row-cells + j) 0) r → DecisionOf nodes lengths values i j r
   decision-kept m o l h d =
       let settles : (s t : Term) → TermAt nodes lengths values i s → TermAt nodes lengths values j t → Settles _ s t = λ s t a b. cell-settles m o l (omega arith) a b in
       record {

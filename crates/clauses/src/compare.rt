@@ -113,7 +113,7 @@ pub fn compare(
     ensures { λ _. ⌜ SettledCells (now (nodes .entry)) (now (sizes .entry)) (now (values .entry)) (now (ready .exit)) (now (cells .exit)) ⌝ }
 {
     make_ready(ready, cells, i);
-    let cell = i * Limits::NODES + j;
+    let cell = i * Limits::ROW_CELLS + j;
     let known = cells[cell];
     if CLAUSE_UNIT <= known {
         return held_decision(known);

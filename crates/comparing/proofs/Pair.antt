@@ -4,7 +4,7 @@ use mathlib.Core.Path.{_≡_, refl, sym, ap, subst, _∙_}
 use mathlib.Core.List.{List}
 use native.Mathlib.Omega.{arith}
 use lib.ListN.{getD, set}
-use Rattle.format.specs.Limits.{first-variable, position-count, node-count}
+use Rattle.format.specs.Limits.{first-variable, position-count, node-count, row-cells}
 use Rattle.terms.specs.Term.{app, nil, size, sizes}
 use Rattle.terms.specs.Contracts.Arguments.{arguments-at}
 use Rattle.terms.specs.Theory.Append.{append}
@@ -92,10 +92,10 @@ module _ {nodes lengths values : List ℕ} {i j a : ℕ} (x : Resolves nodes len
 module _ {nodes lengths values : List ℕ} {i j a : ℕ} (x : Resolves nodes lengths values i a) (y : Resolves nodes lengths values j j) {r : Verdict} where
   -- The verdict of the two nodes, with the cells in which it is settled.
   pub settled : {ready cells after : List ℕ} {q : Verdict} → SettledCells nodes lengths values ready cells → Compares nodes lengths values a j q → r ≡ q
-      → after ≡ set cells (a * node-count + j) (verdict-number q + 1) → Compares nodes lengths values i j r × SettledCells nodes lengths values ready after
+      → after ≡ set cells (a * row-cells + j) (verdict-number q + 1) → Compares nodes lengths values i j r × SettledCells nodes lengths values ready after
   settled m c e d = (compares-resolved (rw (← x .is, e) c), rw d (cell-set m (x .below) (y .below) c))
 
   -- The verdict that stands in its cell.
-  pub known : {ready cells : List ℕ} → SettledCells nodes lengths values ready cells → 0 < getD ready a 0 → position-count ≤ j → 0 < getD cells (a * node-count + j) 0
-      → CellHolds (getD cells (a * node-count + j) 0) r → Compares nodes lengths values i j r × SettledCells nodes lengths values ready cells
+  pub known : {ready cells : List ℕ} → SettledCells nodes lengths values ready cells → 0 < getD ready a 0 → position-count ≤ j → 0 < getD cells (a * row-cells + j) 0
+      → CellHolds (getD cells (a * row-cells + j) 0) r → Compares nodes lengths values i j r × SettledCells nodes lengths values ready cells
   known m o l h c = told x m (cell-known m o l h c)

@@ -7,7 +7,7 @@ use native.Mathlib.Decide.{ℕ-discrete, decLt}
 use native.Mathlib.Omega.{arith}
 use lib.ListN.{length, getD, set, length-set}
 use lib.Seq.{getD-set-same, getD-set-other}
-use Rattle.format.specs.Limits.{node-count}
+use Rattle.format.specs.Limits.{position-count, node-count, row-cells}
 use Rattle.comparing.specs.Contracts.Cells.{Cleared, MadeReady}
 
 pub cleared-none : (cells : List ℕ) (from : ℕ) → Cleared cells from from cells
@@ -26,9 +26,9 @@ cleared-more {before} {after} {from} {at} c h l = record {
 
 -- The row was ready already.
 pub ready-before : {ready cells : List ℕ} {s : ℕ} → 0 < getD ready s 0 → MadeReady ready cells s ready cells
-ready-before h = record { ready-length = refl; cells-length = refl; is-ready = h; kept = λ i j l r. inr (r, refl) }
+ready-before h = record { ready-length = refl; cells-length = refl; is-ready = h; kept = λ i j low l r. inr (r, refl) }
 
-pub ready-now : {ready cells cleared : List ℕ} {s : ℕ} → s < length ready → Cleared cells (s * node-count) (s * node-count + node-count) cleared
+pub ready-now : {ready cells cleared : List ℕ} {s : ℕ} → s < length ready → Cleared cells (s * row-cells + position-count) (s * row-cells + row-cells) cleared
     → MadeReady ready cells s (set ready s 1) cleared
 ready-now {ready} {cells} {cleared} {s} h c = record {
   ready-length = length-set ready s 1;
@@ -37,14 +37,14 @@ ready-now {ready} {cells} {cleared} {s} h c = record {
   kept = kept;
 }
   where
-    kept : (i j : ℕ) → j < node-count → 0 < getD (set ready s 1) i 0
-        → (getD cleared (i * node-count + j) 0 ≡ 0) ⊎ ((0 < getD ready i 0) × (getD cleared (i * node-count + j) 0 ≡ getD cells (i * node-count + j) 0))
-    kept i j l r = elim (ℕ-discrete i s) [
-      | yes e ↦ inl (c .inside (i * node-count + j) (omega arith) (omega arith))
+    kept : (i j : ℕ) → position-count ≤ j → j < node-count → 0 < getD (set ready s 1) i 0
+        → (getD cleared (i * row-cells + j) 0 ≡ 0) ⊎ ((0 < getD ready i 0) × (getD cleared (i * row-cells + j) 0 ≡ getD cells (i * row-cells + j) 0))
+    kept i j low l r = elim (ℕ-discrete i s) [
+      | yes e ↦ inl (c .inside (i * row-cells + j) (omega arith) (omega arith))
       | no e ↦
           let q = rw (getD-set-other ready s i 1 0 e) at r in
           elim (decLt i s) [
-            | yes b ↦ inr (q, c .below (i * node-count + j) (omega arith))
-            | no b ↦ inr (q, c .above (i * node-count + j) (omega arith))
+            | yes b ↦ inr (q, c .below (i * row-cells + j) (omega arith))
+            | no b ↦ inr (q, c .above (i * row-cells + j) (omega arith))
           ]
     ]

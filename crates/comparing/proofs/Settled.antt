@@ -7,7 +7,7 @@ use native.Mathlib.Decide.{ℕ-discrete}
 use native.Mathlib.Omega.{arith}
 use lib.ListN.{length, getD, set, length-set}
 use lib.Seq.{getD-set-same, getD-set-other}
-use Rattle.format.specs.Limits.{position-count, node-count}
+use Rattle.format.specs.Limits.{position-count, node-count, row-cells}
 use Rattle.terms.specs.Term.{Term}
 use Rattle.ordering.specs.declared.verdict.Verdict.{Verdict}
 use Rattle.ordering.specs.declared.verdict.Verdict.the-variants.{Smaller as smaller, Equal as equal, Greater as greater}
@@ -40,41 +40,41 @@ verdict-settles {r} {s} {t} e =
 
 module _ {nodes lengths values ready cells : List ℕ} (x : SettledCells nodes lengths values ready cells) where
   -- A cell that is not 0 says what is settled.
-  pub cell-settles : {i j : ℕ} {s t : Term} → 0 < getD ready i 0 → position-count ≤ j → 0 < getD cells (i * node-count + j) 0 → TermAt nodes lengths values i s
-      → TermAt nodes lengths values j t → Settles (getD cells (i * node-count + j) 0) s t
+  pub cell-settles : {i j : ℕ} {s t : Term} → 0 < getD ready i 0 → position-count ≤ j → 0 < getD cells (i * row-cells + j) 0 → TermAt nodes lengths values i s
+      → TermAt nodes lengths values j t → Settles (getD cells (i * row-cells + j) 0) s t
   cell-settles {i} {j} {s} {t} o l h a b = elim (x .settled i j s t o l a b) [ inl e ↦ absurd (omega arith) | inr e ↦ e ]
 
-  pub cell-known : {i j : ℕ} {r : Verdict} → 0 < getD ready i 0 → position-count ≤ j → 0 < getD cells (i * node-count + j) 0
-      → CellHolds (getD cells (i * node-count + j) 0) r → Compares nodes lengths values i j r
+  pub cell-known : {i j : ℕ} {r : Verdict} → 0 < getD ready i 0 → position-count ≤ j → 0 < getD cells (i * row-cells + j) 0
+      → CellHolds (getD cells (i * row-cells + j) 0) r → Compares nodes lengths values i j r
   cell-known {i} {j} {r} o l h c = record { is = λ s t a b. c .only (verdict s t) (cell-settles o l h a b .verdict-is) }
 
   pub cell-put : {i j w : ℕ} → i < node-count → j < node-count → ((s t : Term) → TermAt nodes lengths values i s → TermAt nodes lengths values j t → Settles w s t)
-      → SettledCells nodes lengths values ready (set cells (i * node-count + j) w)
+      → SettledCells nodes lengths values ready (set cells (i * row-cells + j) w)
   cell-put {i} {j} {w} h k c = record {
     nodes-length = x .nodes-length;
     sizes-length = x .sizes-length;
     values-length = x .values-length;
     ready-length = x .ready-length;
-    cells-length = length-set cells (i * node-count + j) w ∙ x .cells-length;
+    cells-length = length-set cells (i * row-cells + j) w ∙ x .cells-length;
     symbols = x .symbols;
     settled = settled;
   }
     where
       settled : (p q : ℕ) (s t : Term) → 0 < getD ready p 0 → position-count ≤ q → TermAt nodes lengths values p s → TermAt nodes lengths values q t
-          → (getD (set cells (i * node-count + j) w) (p * node-count + q) 0 ≡ 0) ⊎ Settles (getD (set cells (i * node-count + j) w) (p * node-count + q) 0) s t
-      settled p q s t o l a b = elim (ℕ-discrete (p * node-count + q) (i * node-count + j)) [
+          → (getD (set cells (i * row-cells + j) w) (p * row-cells + q) 0 ≡ 0) ⊎ Settles (getD (set cells (i * row-cells + j) w) (p * row-cells + q) 0) s t
+      settled p q s t o l a b = elim (ℕ-discrete (p * row-cells + q) (i * row-cells + j)) [
         | yes e ↦
             let u = within a in
             let v = within b in
             let d : p ≡ i = omega arith in
             let f : q ≡ j = omega arith in
-            let z : i * node-count + j < length cells = omega (arith, x .cells-length) in
-            inr (rw (e, getD-set-same cells (i * node-count + j) w 0 z) (c s t (rw d at a) (rw f at b)))
-        | no e ↦ rw (getD-set-other cells (i * node-count + j) (p * node-count + q) w 0 e) (x .settled p q s t o l a b)
+            let z : i * row-cells + j < length cells = omega (arith, x .cells-length) in
+            inr (rw (e, getD-set-same cells (i * row-cells + j) w 0 z) (c s t (rw d at a) (rw f at b)))
+        | no e ↦ rw (getD-set-other cells (i * row-cells + j) (p * row-cells + q) w 0 e) (x .settled p q s t o l a b)
       ]
 
   pub cell-set : {i j : ℕ} {r : Verdict} → i < node-count → j < node-count → Compares nodes lengths values i j r
-      → SettledCells nodes lengths values ready (set cells (i * node-count + j) (verdict-number r + 1))
+      → SettledCells nodes lengths values ready (set cells (i * row-cells + j) (verdict-number r + 1))
   cell-set h k c = cell-put h k (λ s t a b. verdict-settles (c .is s t a b))
 
 -- The verdict of two nodes is that of the node that the first gives way to.

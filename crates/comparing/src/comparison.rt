@@ -50,7 +50,7 @@ pub fn exceeds(
         return verdict;
     }
     make_ready(ready, cells, s);
-    let cell = s * Limits::NODES + j;
+    let cell = s * Limits::ROW_CELLS + j;
     let known = cells[cell];
     if 0 < known {
         return held(known);

@@ -1,4 +1,5 @@
-// The nodes of a comparison: the positions of an equation, then those of the subject.
+// The nodes of a comparison: the positions of an equation, then those of the subject, and behind them one for the filling (document 02, W5), which counts as one of
+// the subject's.
 use format::byte::wide;
 use format::limits::Limits;
 ghost use mathlib.Core.Path.{_≡_};

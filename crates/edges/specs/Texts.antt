@@ -198,7 +198,7 @@ listings =
     ∷ lists ("010400000001" ∷ "020201" ∷ "02038080" ∷ "03ff0302" ∷ []) (
     "110000010001" ∷ "120000" ∷ "110001000001" ∷ "110100010001" ∷ "120000" ∷ "110101000001" ∷ "14010000" ∷ "14000000" ∷ "13000201" ∷ "1f0002" ∷ []
     )
-    -- "a repeated variable meets identical terms", "first holding line": xx = a on b(bb), and at x = b and x = a. Direction 01 is not usable.
+    -- "a repeated variable meets identical terms", "first holding line": xx = a on b(bb), and at x = b and x = a. Direction 01, a > xx, has no line.
     ∷ lists ("0103000002" ∷ "0202808000" ∷ "03ff0201020101" ∷ "04000001" ∷ "04000000" ∷ "04000100" ∷ []) (
     "110000050003"
     ∷ "1200018000"
@@ -215,8 +215,27 @@ listings =
     ∷ "1f0001"
     ∷ []
     )
-    -- A source that is a variable matches everywhere: x = a. Direction 01, a > x, is not usable.
+    -- A source that is a variable matches everywhere: x = a. Direction 01, a > x, does not hold at W5's filling of x, which is a.
     ∷ lists ("0103000002" ∷ "028000" ∷ "03ff020101" ∷ []) ("110000010000" ∷ "1200018000" ∷ "110001010000" ∷ "1200010080" ∷ "14000000" ∷ "13000100" ∷ "1f0001" ∷ [])
+    -- "Every direction is usable" (document 02, W5): in each direction of xy = xz the source lacks a variable of the target. z is a, the lowest constant, and bb
+    -- steps to ba by the last line, y > z.
+    ∷ lists ("0103000002" ∷ "02028081028082" ∷ "03ff020101" ∷ []) (
+    "110000030006"
+    ∷ "12000181028082"
+    ∷ "12018102808200"
+    ∷ "1200018182"
+    ∷ "110001030006"
+    ∷ "12000182028081"
+    ∷ "12018202808100"
+    ∷ "1200018281"
+    ∷ "14000000"
+    ∷ "130001020100"
+    ∷ "1f0001"
+    ∷ []
+    )
+    -- The lowest constant is 01 where 00 has an argument: h(x) = y on 02, which exceeds h(01) (direction 01, x filled), which exceeds 01 (direction 00,
+    -- y filled).
+    ∷ lists ("0103010000" ∷ "02008081" ∷ "03ff02" ∷ []) ("110000010000" ∷ "120001008081" ∷ "110001010000" ∷ "120001810080" ∷ "14000100" ∷ "14000000" ∷ "13000201" ∷ "1f0002" ∷ [])
     -- An equation whose only variable is 83: the fourth value is the one that counts.
     ∷ lists ("0103000002" ∷ "0202838300" ∷ "04000000000001" ∷ []) (
     "110000050003"

@@ -62,11 +62,18 @@ abbrev pub position-count : ℕ
 position-count = 2 * max-side-nodes
 
 -- 'Ground comparison': "verdicts for all pairs among 224 nodes (64 and 160) are 50,176 cells". The positions of an equation, then those of the subject.
+-- Behind them the filling (document 02, W5): 225 nodes. A row of cells is longer than the nodes, so that rows begin at multiples of 16: 54,000 cells.
+abbrev pub filling-node : ℕ
+filling-node = position-count + max-task-nodes
+
 abbrev pub node-count : ℕ
-node-count = position-count + max-task-nodes
+node-count = filling-node + 1
+
+abbrev pub row-cells : ℕ
+row-cells = node-count + 15
 
 abbrev pub cell-count : ℕ
-cell-count = node-count * node-count
+cell-count = node-count * row-cells
 
 -- "(ff for none)", "(ff after the last)": what stands in a record where there is no position.
 abbrev pub no-position : ℕ

@@ -25,7 +25,7 @@ ghost use Rattle.solving.specs.Judge.{first-holding};
 ghost use Rattle.comparing.specs.Contracts.Cells.{SettledCells};
 ghost use Rattle.judging.specs.Contracts.Holding.{BindingTestable, HasBinding, ElementTestable, HasInequality, BindingsAre, HasBindings, ElementsAre, HasElements, LineIs, HasLine, LinesAre, HasLines};
 
-// "each binding is an equality there, of identical terms": variable `v` and the term at `p`. A variable without a value equals no instance. Terms whose symbols
+// "each binding is an equality there, of identical terms": variable `v` and the term at `p`. A variable without a value (in a judgement, one above the highest of its equation) equals no instance. Terms whose symbols
 // differ are not compared.
 fn binding_holds(
     nodes: &[u8],

@@ -1,4 +1,4 @@
--- The program's listing (document 01, 'The program'; document 02, W8): from the bytes of standard input to the bytes of standard output.
+-- The program's listing (document 01, 'The program'; document 02, W5, W8 and W9): from the bytes of standard input to the bytes of standard output.
 use Prim.Native.Nat.{ℕ, zero, suc, _+_, _/_, _%_}
 use mathlib.Core.Bool.{true, false}
 use mathlib.Core.Option.{Option, none, some}
@@ -21,6 +21,7 @@ use Rattle.sheet.specs.Reading.{Reading, refused-at, accepted, read-with, read}
 use Rattle.solving.specs.Line.{Bindings, Element, equal, greater, Line, line}
 use Rattle.solving.specs.Walk.{Walked, solved, refused, solve-with, solve}
 use Rattle.reducing.specs.Run.{Step, Run, ending-number, last-term}
+use Rattle.terms.specs.Filling.{filling}
 use Rattle.reducing.specs.Test.{holding-line-with, holding-line, line-run-with, line-run, given-values}
 use Rattle.outcomes.specs.Asked.{WalkRefusal, first-refusal-with, first-refusal}
 
@@ -116,7 +117,7 @@ unfoldable pub judgement-frame : (holding : ℕ) → List ℕ
 judgement-frame zero = judgement-kind ∷ 0 ∷ 0 ∷ []
 judgement-frame (suc i) = judgement-kind ∷ 1 ∷ suc i ∷ []
 
--- "comparison, '16', 00 smaller, 01 equal, 02 greater"; "frame 16 gains a byte ...: 01, 02, 03, or 00 for equal" (document 02, W8)
+-- "comparison, '16', 00 smaller, 01 equal, 02 greater"; "frame 16 gains a byte ...: 01, 02, 03, or 00 for equal" (document 02, W5, W8 and W9)
 unfoldable pub comparison-frame : Decision → List ℕ
 unfolding verdict-number verdict-of clause-number-of
 comparison-frame d = comparison-kind ∷ verdict-number (verdict-of d) ∷ clause-number-of d ∷ []
@@ -134,24 +135,26 @@ module _ (variables : ℕ) where
   holding-with none d ρ = 0
   holding-with (some e) d ρ = holding-line-with variables e d ρ
 
-  unfoldable pub task-frames-with : List Equation → Task → List (List ℕ)
+  unfoldable pub task-frames-with : (filling : Term) → List Equation → Task → List (List ℕ)
   unfolding run-frames line-run-with judgement-frame holding-with given-values entry comparison-frame decision
-  task-frames-with es (run k s) = run-frames s (line-run-with variables es k s)
-  task-frames-with es (judgement n d ts) = judgement-frame (holding-with (entry es n) d (given-values ts)) ∷ []
-  task-frames-with es (comparison s t) = comparison-frame (decision s t) ∷ []
+  task-frames-with constant es (run k s) = run-frames s (line-run-with variables constant es k s)
+  task-frames-with constant es (judgement n d ts) = judgement-frame (holding-with (entry es n) d (given-values ts)) ∷ []
+  task-frames-with constant es (comparison s t) = comparison-frame (decision s t) ∷ []
 
   -- "steps of all runs"
-  unfoldable pub steps-taken-with : List Equation → List Task → ℕ
+  unfoldable pub steps-taken-with : (filling : Term) → List Equation → List Task → ℕ
   unfolding line-run-with
-  steps-taken-with es [] = 0
-  steps-taken-with es (run k s ∷ ts) = length (line-run-with variables es k s .steps) + steps-taken-with es ts
-  steps-taken-with es (judgement n d vs ∷ ts) = steps-taken-with es ts
-  steps-taken-with es (comparison s t ∷ ts) = steps-taken-with es ts
+  steps-taken-with constant es [] = 0
+  steps-taken-with constant es (run k s ∷ ts) = length (line-run-with variables constant es k s .steps) + steps-taken-with constant es ts
+  steps-taken-with constant es (judgement n d vs ∷ ts) = steps-taken-with constant es ts
+  steps-taken-with constant es (comparison s t ∷ ts) = steps-taken-with constant es ts
 
   -- "Last '1f', steps of all runs in two bytes."
   unfoldable pub sheet-frames-with : Sheet → List (List ℕ)
-  unfolding equation-frames-with task-frames-with steps-taken-with two-bytes flatMap
-  sheet-frames-with s = equation-frames-with 0 (s .equations) ++ flatMap (task-frames-with (s .equations)) (s .tasks) ++ (total-kind ∷ two-bytes (steps-taken-with (s .equations) (s .tasks))) ∷ []
+  unfolding equation-frames-with filling task-frames-with steps-taken-with two-bytes flatMap
+  sheet-frames-with s =
+      let constant = filling (s .arities) in
+      equation-frames-with 0 (s .equations) ++ flatMap (task-frames-with constant (s .equations)) (s .tasks) ++ (total-kind ∷ two-bytes (steps-taken-with constant (s .equations) (s .tasks))) ∷ []
 
   unfoldable pub walked-frames-with : Sheet → Option WalkRefusal → List (List ℕ)
   unfolding refusal-frame sheet-frames-with
@@ -177,11 +180,11 @@ unfoldable pub holding : Option Equation → Direction → Values → ℕ
 unfolding holding-with holding-line
 holding = holding-with variable-count
 
-unfoldable pub task-frames : List Equation → Task → List (List ℕ)
+unfoldable pub task-frames : (filling : Term) → List Equation → Task → List (List ℕ)
 unfolding task-frames-with line-run holding
 task-frames = task-frames-with variable-count
 
-unfoldable pub steps-taken : List Equation → List Task → ℕ
+unfoldable pub steps-taken : (filling : Term) → List Equation → List Task → ℕ
 unfolding steps-taken-with line-run
 steps-taken = steps-taken-with variable-count
 

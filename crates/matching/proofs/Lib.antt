@@ -3,4 +3,3 @@ pub mod Meeting
 pub mod Row
 pub mod Steps
 pub mod Progress
-pub mod Cover

@@ -9,50 +9,50 @@ use native.Mathlib.Omega.{arith}
 use native.Mathlib.Decide.{ℕ-discrete}
 use lib.ListN.{length, getD, set, replicate, length-set, getD-replicate}
 use lib.Seq.{getD-set-same, getD-set-other, ext-getD}
-use Rattle.format.specs.Limits.{variable-count}
+use Rattle.format.specs.Limits.{variable-count, filling-node}
 use Rattle.terms.specs.Term.{Term, identical?}
 use Rattle.terms.specs.Contracts.Stored.{GroundStored}
 use Rattle.reducing.specs.Match.{Match, meet}
 use Rattle.matching.specs.Contracts.Matching.{HasGround, SlotIs, MatchIs, HasMatch, Matched}
 
 -- 1. The first `v` variables met no term.
-pub forgets : (values : List ℕ) (v : ℕ) → v < length values → ((k : ℕ) → k < v → getD values k 0 ≡ 0) → (k : ℕ) → k < v + 1 → getD (set values v 0) k 0 ≡ 0
+pub forgets : (values : List ℕ) (v : ℕ) → v < length values → ((k : ℕ) → k < v → getD values k 0 ≡ filling-node) → (k : ℕ) → k < v + 1 → getD (set values v filling-node) k 0 ≡ filling-node
 forgets values v h before k l = elim (ℕ-discrete k v) [
-  | yes e ↦ ap (λ j. getD (set values v 0) j 0) e ∙ getD-set-same values v 0 0 h
-  | no n ↦ getD-set-other values v k 0 0 n ∙ before k (omega arith)
+  | yes e ↦ ap (λ j. getD (set values v filling-node) j 0) e ∙ getD-set-same values v filling-node 0 h
+  | no n ↦ getD-set-other values v k filling-node 0 n ∙ before k (omega arith)
 ]
 
-pub forgotten : (values : List ℕ) → length values ≡ variable-count → ((k : ℕ) → k < variable-count → getD values k 0 ≡ 0) → values ≡ replicate variable-count 0
-forgotten values e none-met = ext-getD 0 values (replicate variable-count 0) e (λ k l. none-met k (omega arith) ∙ sym (getD-replicate variable-count k 0 0 (omega arith)))
+pub forgotten : (values : List ℕ) → length values ≡ variable-count → ((k : ℕ) → k < variable-count → getD values k 0 ≡ filling-node) → values ≡ replicate variable-count filling-node
+forgotten values e none-met = ext-getD 0 values (replicate variable-count filling-node) e (λ k l. none-met k (omega arith) ∙ sym (getD-replicate variable-count k filling-node 0 (omega arith)))
 
 -- 2. A variable meets a term.
-pub met-before : {nodes lengths values : List ℕ} → HasMatch nodes lengths values → (v : ℕ) → v < variable-count → (getD values v 0 ≡ 0 → ⊥) → HasGround nodes lengths (getD values v 0)
+pub met-before : {nodes lengths values : List ℕ} → HasMatch nodes lengths values → (v : ℕ) → v < variable-count → (getD values v 0 ≡ filling-node → ⊥) → HasGround nodes lengths (getD values v 0)
 met-before {nodes} {lengths} {values} m v l n = go (getD (m .found) v none) (m .is .each v l)
   where
     go : (o : Option Term) → SlotIs nodes lengths (m .arities) o (getD values v 0) → HasGround nodes lengths (getD values v 0)
     go none s = absurd (n s)
-    go (some u) s = record { arities = m .arities; term = u; stored = s }
+    go (some u) s = record { arities = m .arities; term = u; stored = s .0; before-filling = s .1 }
 
 module _ {nodes lengths arities values : List ℕ} {m : Match} {node : ℕ} {t : Term} (v : ℕ) (l : v < variable-count)
-    (g : GroundStored nodes lengths arities node t) (is : MatchIs nodes lengths arities m values) where
+    (g : GroundStored nodes lengths arities node t) (below : node < filling-node) (is : MatchIs nodes lengths arities m values) where
   set-met : MatchIs nodes lengths arities (set m v (some t)) (set values v node)
   set-met = record { slots = length-set m v (some t) ∙ is .slots; values-length = length-set values v node ∙ is .values-length; each = each }
     where
       each : (w : ℕ) → w < variable-count → SlotIs nodes lengths arities (getD (set m v (some t)) w none) (getD (set values v node) w 0)
       each w k = elim (ℕ-discrete w v) [
-        | yes e ↦ rw (e, getD-set-same m v (some t) none (omega (arith, is .slots)), getD-set-same values v node 0 (omega (arith, is .values-length))) g
+        | yes e ↦ rw (e, getD-set-same m v (some t) none (omega (arith, is .slots)), getD-set-same values v node 0 (omega (arith, is .values-length))) (g, below)
         | no n ↦ rw (getD-set-other m v w (some t) none n, getD-set-other values v w node 0 n) (is .each w k)
       ]
 
-  pub meets-first : getD values v 0 ≡ 0 → Matched nodes lengths arities (meet m v t (getD m v none)) (set values v node) true
+  pub meets-first : getD values v 0 ≡ filling-node → Matched nodes lengths arities (meet m v t (getD m v none)) (set values v node) true
   unfolding meet
   meets-first e = go (getD m v none) (is .each v l)
     where
       go : (o : Option Term) → SlotIs nodes lengths arities o (getD values v 0) → Matched nodes lengths arities (meet m v t o) (set values v node) true
       go none s = (refl, set-met)
-      go (some u) s = absurd (omega (arith, s .low))
+      go (some u) s = absurd (omega (arith, s .1))
 
-  pub meets-again : (first : ℕ) (r : Bool) → first ≡ getD values v 0 → (getD values v 0 ≡ 0 → ⊥)
+  pub meets-again : (first : ℕ) (r : Bool) → first ≡ getD values v 0 → (getD values v 0 ≡ filling-node → ⊥)
       → ((arities : List ℕ) (s t : Term) → GroundStored nodes lengths arities first s → GroundStored nodes lengths arities node t → (r ≡ true) ↔ (s ≡ t))
       → Matched nodes lengths arities (meet m v t (getD m v none)) values r
   unfolding meet
@@ -65,4 +65,4 @@ module _ {nodes lengths arities values : List ℕ} {m : Match} {node : ℕ} {t :
 
       go : (o : Option Term) → SlotIs nodes lengths arities o (getD values v 0) → Matched nodes lengths arities (meet m v t o) values r
       go none s = absurd (n s)
-      go (some u) s = decided (identical? u t) r (same arities u t (rw e s) g)
+      go (some u) s = decided (identical? u t) r (same arities u t (rw e (s .0)) g)

@@ -6,10 +6,11 @@ use mathlib.Core.List.{List}
 use mathlib.Core.Option.{Option, none, some}
 use native.Mathlib.Omega.{arith}
 use lib.ListN.{getD, replicate, getD-replicate}
-use Rattle.format.specs.Limits.{first-variable, variable-count}
-use Rattle.terms.specs.Term.{Term, Terms, var, app, nil, cons, count, arity}
+use Rattle.format.specs.Limits.{first-variable, variable-count, filling-node}
+use Rattle.terms.specs.Term.{Term, Terms, var, app, nil, cons, size, count, arity}
 use Rattle.terms.specs.declared.arguments.Arguments.{Arguments}
 use Rattle.terms.specs.Contracts.Stored.{GroundStored}
+use Rattle.terms.specs.Theory.Position.{size-pos}
 use Rattle.terms.specs.Theory.Append.{append, nil-cons, count-append}
 use Rattle.terms.specs.Theory.Stored.{ground-size}
 use Rattle.terms.specs.Theory.Spelled.{Spelled, First, variable-first, symbol-first, spelled-one, first-spelled, spelled-none, spelled-some}
@@ -28,19 +29,19 @@ pub record Progress (bytes : List ℕ) (end : ℕ) (nodes lengths arities : List
   pub is : MatchIs nodes lengths arities found values
   pub left : match s t no-match ≡ match-each patterns parts found
 
-nothing-met : (nodes lengths arities : List ℕ) → MatchIs nodes lengths arities no-match (replicate variable-count 0)
+nothing-met : (nodes lengths arities : List ℕ) → MatchIs nodes lengths arities no-match (replicate variable-count filling-node)
 unfolding no-match
-nothing-met nodes lengths arities = record { slots = refl; values-length = refl; each = λ v h. rw (getD-replicate {A = Option Term} variable-count v none none h) (getD-replicate variable-count v 0 0 h) }
+nothing-met nodes lengths arities = record { slots = refl; values-length = refl; each = λ v h. rw (getD-replicate {A = Option Term} variable-count v none none h) (getD-replicate variable-count v filling-node 0 h) }
 
 pub start : {bytes nodes lengths arities : List ℕ} {side : Arguments} {node : ℕ} {s t : Term} → SidePart bytes side nodes lengths node arities s t
-    → Progress bytes (side .end) nodes lengths arities s t (replicate variable-count 0) (side .from) node
+    → Progress bytes (side .end) nodes lengths arities s t (replicate variable-count filling-node) (side .from) node
 unfolding count
 start {nodes = nodes} {lengths = lengths} {arities = arities} {s = s} {t = t} p = record {
   patterns = cons s nil;
   parts = cons t nil;
   found = no-match;
   spelled = spelled-one (p .part .few-symbols) (p .fits) (p .spelled) (p .ends);
-  row = row-one (p .part);
+  row = row-one (p .part) (p .inside);
   paired = refl;
   is = nothing-met nodes lengths arities;
   left = one-term s t no-match;
@@ -55,12 +56,12 @@ of-some h each = each (h .arities) (h .pattern) (h .part) (h .is)
 module _ {bytes : List ℕ} {end : ℕ} {nodes lengths arities : List ℕ} {s t : Term} {values : List ℕ} {i at : ℕ} (p : Progress bytes end nodes lengths arities s t values i at) where
   -- As long as the side is not read to its end, a term of the subject is to be met.
   pub part-there : i < end → HasGround nodes lengths at
-  unfolding count
+  unfolding count size
   part-there h = go (p .parts) (p .row) (omega (arith, spelled-some (p .patterns) (p .spelled) h, p .paired))
     where
       go : (ts : Terms) → Row nodes lengths arities at ts → 0 < count ts → HasGround nodes lengths at
       go nil w c = absurd (omega arith)
-      go (cons u ts) w c = record { arities = arities; term = u; stored = row-first w }
+      go (cons u ts) w c = record { arities = arities; term = u; stored = row-first w; before-filling = omega (arith, w .within, size-pos u) }
 
   pub match-there : HasMatch nodes lengths values
   match-there = record { arities = arities; found = p .found; is = p .is }

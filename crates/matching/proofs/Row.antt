@@ -4,7 +4,7 @@ use mathlib.Core.Path.{_≡_, _∙_}
 use mathlib.Core.List.{List, _++_, map, map-append, append-nil}
 use native.Mathlib.Omega.{arith}
 use lib.ListN.{length, getD, length-map}
-use Rattle.format.specs.Limits.{max-symbols, position-count, node-count}
+use Rattle.format.specs.Limits.{max-symbols, position-count, filling-node}
 use Rattle.terms.specs.Term.{Term, Terms, app, nil, cons, size, sizes, Grounds}
 use Rattle.terms.specs.Position.{subterms, subterms-of}
 use Rattle.terms.specs.Prefix.{prefix, prefixes}
@@ -22,7 +22,7 @@ pub record Row (nodes lengths arities : List ℕ) (i : ℕ) (ts : Terms) : Type 
   pub bytes : PartAt nodes i (prefixes ts)
   pub lengths-there : PartAt lengths i (map size (subterms-of ts))
   pub low : position-count ≤ i
-  pub within : i + sizes ts ≤ node-count
+  pub within : i + sizes ts ≤ filling-node
 
 grounds-append : (arities : List ℕ) (ss ts : Terms) → Grounds arities ss → Grounds arities ts → Grounds arities (append ss ts)
 unfolding append
@@ -30,15 +30,15 @@ grounds-append arities nil ts g h = h
 grounds-append arities (cons s ss) ts g h = (g .0, grounds-append arities ss ts (g .1) h)
 
 module _ {nodes lengths arities : List ℕ} {i : ℕ} where
-  pub row-one : {t : Term} → GroundStored nodes lengths arities i t → Row nodes lengths arities i (cons t nil)
+  pub row-one : {t : Term} → GroundStored nodes lengths arities i t → i + size t ≤ filling-node → Row nodes lengths arities i (cons t nil)
   unfolding prefix subterms size
-  row-one {t} g = record {
+  row-one {t} g h = record {
     few-symbols = g .few-symbols;
     ground = (g .ground, tt);
     bytes = rw (append-nil (prefix t)) (g .stored .bytes);
     lengths-there = rw (append-nil (subterms t)) (g .stored .lengths-there);
     low = g .low;
-    within = omega (arith, g .within);
+    within = omega (arith, h);
   }
 
   module _ {t : Term} {ts : Terms} (r : Row nodes lengths arities i (cons t ts)) where

@@ -1,4 +1,3 @@
-// Matching a side of an equation with a part of the subject, and usable directions.
+// Matching a side of an equation with a part of the subject.
 pub mod same;
 pub mod side;
-pub mod usable;

@@ -8,23 +8,20 @@ ghost use mathlib.Core.List.{List};
 ghost use mathlib.Core.Option.{none};
 ghost use Prim.Native.Nat.{ℕ, _<_};
 ghost use lib.ListN.{length, getD, replicate};
-ghost use Rattle.format.specs.Limits.{variable-count};
+ghost use Rattle.format.specs.Limits.{variable-count, filling-node};
 ghost use Rattle.terms.specs.Term.{Term};
 ghost use Rattle.terms.specs.Contracts.Stored.{GroundStored};
 ghost use Rattle.reducing.specs.Match.{Match, no-match, meet, match};
 ghost use Rattle.matching.specs.Contracts.Matching.{HasGround, HasMatch, MatchIs, Matched, SidePart, HasSidePart};
 
-// What a variable that met no term has in place of a node. The subject's nodes stand behind those of an equation.
-const NOT_MET: u8 = 0;
-
-// No variable has met a term.
+// No variable has met a term: each has the filling (document 02, W5), whose node stands behind the subject's.
 fn forget(values: &mut [u8])
     requires { ⌜ length (now values) ≡ variable-count ⌝ }
-    ensures { λ _. ⌜ now (values .exit) ≡ replicate variable-count 0 ⌝ }
+    ensures { λ _. ⌜ now (values .exit) ≡ replicate variable-count filling-node ⌝ }
 {
     let mut v = 0;
     while v < Limits::VARIABLES {
-        values[v] = NOT_MET;
+        values[v] = Limits::FILLING_NODE as u8;
         v = v + 1;
     }
 }
@@ -34,15 +31,15 @@ fn meet(nodes: &[u8], sizes: &[u8], v: usize, node: usize, values: &mut [u8]) ->
     requires { ⌜ HasGround (now nodes) (now sizes) node × HasMatch (now nodes) (now sizes) (now values) × (v < variable-count) ⌝ }
     ensures { λ r. ⌜ ((arities : List ℕ) (t : Term) (m : Match) → GroundStored (now (nodes .entry)) (now (sizes .entry)) arities node t → MatchIs (now (nodes .entry)) (now (sizes .entry)) arities m (now (values .entry)) → Matched (now (nodes .entry)) (now (sizes .entry)) arities (meet m v t (getD m v none)) (now (values .exit)) r) ⌝ }
 {
-    let met = values[v];
-    if met == NOT_MET {
+    let met = wide(values[v]);
+    if met == Limits::FILLING_NODE {
         values[v] = node as u8;
         return true;
     }
-    same_terms(nodes, sizes, wide(met), node)
+    same_terms(nodes, sizes, met, node)
 }
 
-// Whether the side matches the term at `node`. If so, `values` has the node of the term that each variable met.
+// Whether the side matches the term at `node`. If so, `values` has the node of the term that each variable met, and the filling's for those that met none.
 pub fn match_side(
     bytes: &[u8],
     side: Arguments,

@@ -9,6 +9,7 @@ use Rattle.format.specs.declared.refusal.Refusal.the-variants.{ShortBuffer as s
 use Rattle.format.specs.Lists.{entry}
 use Rattle.terms.specs.Term.{Term, Values}
 use Rattle.terms.specs.Equation.{Equation, Direction, left-right, right-left, direction-of}
+use Rattle.terms.specs.Filling.{filling}
 use Rattle.sheet.specs.Sheet.{Task, run, judgement, comparison, Sheet}
 use Rattle.sheet.specs.Reading.{Reading, refused-at, accepted, read}
 use Rattle.solving.specs.Walk.{solved, refused, solve-with, solve}
@@ -82,21 +83,22 @@ unfoldable pub judgement-task : (task : ℕ) → Sheet → Option Judgement
 unfolding judgement-in entry
 judgement-task task s = judgement-in (s .equations) (entry (s .tasks) task)
 
--- Run asks for a task of a step limit and a subject, over all equations of the sheet.
+-- Run asks for a task of a step limit and a subject, over all equations of the sheet, with the sheet's filling (document 02, W5).
 pub record Reduction : Type 0 where
+  pub filling : Term
   pub equations : List Equation
   pub limit : ℕ
   pub subject : Term
 
-unfoldable pub reduction-in : List Equation → Option Task → Option Reduction
-reduction-in es none = none
-reduction-in es (some (run k s)) = some (record { equations = es; limit = k; subject = s })
-reduction-in es (some (judgement e d ts)) = none
-reduction-in es (some (comparison s t)) = none
+unfoldable pub reduction-in : (filling : Term) → List Equation → Option Task → Option Reduction
+reduction-in constant es none = none
+reduction-in constant es (some (run k s)) = some (record { filling = constant; equations = es; limit = k; subject = s })
+reduction-in constant es (some (judgement e d ts)) = none
+reduction-in constant es (some (comparison s t)) = none
 
 unfoldable pub reduction-task : (task : ℕ) → Sheet → Option Reduction
-unfolding reduction-in entry
-reduction-task task s = reduction-in (s .equations) (entry (s .tasks) task)
+unfolding reduction-in entry filling
+reduction-task task s = reduction-in (filling (s .arities)) (s .equations) (entry (s .tasks) task)
 
 -- 8 to 10: "The line is the equation's." Frame 01 is line 1, and the equations follow.
 unfoldable pub equation-line : ℕ → ℕ

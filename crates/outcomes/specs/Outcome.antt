@@ -1,5 +1,5 @@
--- The outcome of each of the six calls (document 01, 'Calls and lent memory' and 'Who can cause a refusal'; document 02, W6, W8 and W9): from the sheet, the arguments and the
--- former bytes of the lent buffers to the number returned and every byte of every buffer at exit. A buffer's length is that of its list.
+-- The outcome of each of the six calls (document 01, 'Calls and lent memory' and 'Who can cause a refusal'; document 02, W5, W6, W8 and W9): from the sheet,
+-- the arguments and the former bytes of the lent buffers to the number returned and every byte of every buffer at exit. A buffer's length is that of its list.
 use Prim.Native.Nat.{ℕ, zero, suc}
 use mathlib.Core.Bool.{Bool, true, false, _&&_}
 use mathlib.Core.Option.{Option, none, some}
@@ -165,7 +165,7 @@ run-done table scratch term log subject r =
 unfoldable pub run-walked : (table scratch term log : List ℕ) → Reduction → Option WalkRefusal → RunOutcome
 unfolding refusal-number blanked cleared run-done line-run
 run-walked table scratch term log t (some r) = record { returned = refusal-number (r .refusal) (r .line); table = blanked table; scratch = cleared scratch; term = term; log = log }
-run-walked table scratch term log t none = run-done table scratch term log (t .subject) (line-run (t .equations) (t .limit) (t .subject))
+run-walked table scratch term log t none = run-done table scratch term log (t .subject) (line-run (t .filling) (t .equations) (t .limit) (t .subject))
 
 unfoldable pub run-answer : (table scratch term log : List ℕ) → Reading Reduction → RunOutcome
 unfolding refusal-number run-walked first-refusal

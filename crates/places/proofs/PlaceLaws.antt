@@ -10,6 +10,7 @@ use native.Mathlib.Decide.{ℕ-discrete}
 use lib.ListN.{length, take, drop}
 use Rattle.format.specs.Limits.{max-equations, max-tasks, max-steps}
 use Rattle.format.specs.Lists.{entry}
+use Rattle.terms.specs.Filling.{filling}
 use Rattle.terms.specs.Equation.{Equation}
 use Rattle.sheet.specs.Sheet.{Task, Sheet}
 use Rattle.scanning.specs.declared.known.Known.{Known}
@@ -127,11 +128,11 @@ entry-there (x ∷ xs) (suc i) h = entry-there xs i (omega arith)
 
 module _ {input : List ℕ} {known : Known} {fits : Bool} {equations lengths bounds table : List ℕ} {s : Sheet} (r : Ready input known fits equations lengths bounds table s)
     {task : ℕ} (low : task < length (s .tasks)) {before out : List ℕ} (p : TaskListed)
-    (given : (s : Sheet) (t : Task) → Ready input known fits equations lengths bounds table s → entry (s .tasks) task ≡ some t → TaskGiven (s .equations) t before out p) where
+    (given : (s : Sheet) (t : Task) → Ready input known fits equations lengths bounds table s → entry (s .tasks) task ≡ some t → TaskGiven (s .arities) (s .equations) t before out p) where
   its-task : (t : Task) × (entry (s .tasks) task ≡ some t)
   its-task = entry-there (s .tasks) task low
 
-  its-frames : TaskGiven (s .equations) (its-task .0) before out p
+  its-frames : TaskGiven (s .arities) (s .equations) (its-task .0) before out p
   its-frames = given s (its-task .0) r (its-task .1)
 
   pub steps-low : p .steps ≤ max-steps
@@ -142,14 +143,14 @@ module _ {input : List ℕ} {known : Known} {fits : Bool} {equations lengths bou
       → Progress input (TaskPlace task steps) equations lengths bounds table′ scratch out x
   task-done {table′} {scratch} steps stay e h =
       let g = its-frames in
-      let n : left-frames s (TaskPlace (suc task) (steps + task-steps (s .equations) (its-task .0))) ≡ left-frames s (TaskPlace (task + 1) (steps + p .steps)) =
+      let n : left-frames s (TaskPlace (suc task) (steps + task-steps (filling (s .arities)) (s .equations) (its-task .0))) ≡ left-frames s (TaskPlace (task + 1) (steps + p .steps)) =
       ap₂ (λ k m. left-frames s (TaskPlace k (steps + m))) (sym (add-one task)) (sym (g .steps-are)) in
       let ready : Ready input known fits equations lengths bounds table′ s =
       record { reads = r .reads; knows = r .knows; every = r .every; rows = r .rows; bounds-length = r .bounds-length; lines = stay (s .equations) (r .every) (r .lines) } in
       subst (Progress input (TaskPlace task steps) equations lengths bounds table′ scratch out) (sym e) (record {
         gives =
-            gives-frames s (r .reads) tt tt (task-frames (s .equations) (its-task .0))
-            (task-left s task steps (its-task .0) (its-task .1) ∙ ap (task-frames (s .equations) (its-task .0) ++_) n)
+            gives-frames s (r .reads) tt tt (task-frames (filling (s .arities)) (s .equations) (its-task .0))
+            (task-left s task steps (its-task .0) (its-task .1) ∙ ap (task-frames (filling (s .arities)) (s .equations) (its-task .0) ++_) n)
             (g .appended) (g .within) (omega (arith, few-tasks r));
         stands = under-way s ready (omega arith, omega (arith, g .few-steps));
       })

@@ -1,20 +1,19 @@
--- Matching and usable directions (document 01, 'Runs').
+-- Matching, and the values of a match (document 01, 'Runs'; document 02, W5).
 use Prim.Native.Nat.{ℕ}
 use native.Mathlib.Decide.{ℕ-discrete}
-use mathlib.Core.Bool.{Bool, true, false, _||_, _&&_}
+use mathlib.Core.Bool.{Bool, false, _||_}
 use mathlib.Core.Option.{Option, none, some, Option·getD}
 use mathlib.Core.List.{List}
 use lib.ListN.{getD, set, replicate}
 use lib.Dec.{eqb}
 use Rattle.format.specs.Limits.{variable-count}
 use Rattle.terms.specs.Term.{Term, Terms, var, app, nil, cons, identical?, Values}
-use Rattle.terms.specs.Equation.{Equation, Direction, source, target}
 
 -- The terms that the variables met so far: a slot for each variable.
 abbrev pub Match : Type 0
 Match = List (Option Term)
 
--- None of `variables` variables is met.
+-- None of `variables` variables has met a term.
 abbrev pub unmet : (variables : ℕ) → Match
 unmet variables = replicate variables none
 
@@ -42,9 +41,10 @@ unfoldable mutual
   match-each (cons s ss) nil m = none
   match-each (cons s ss) (cons t ts) m = elim (match s t m) [ none ↦ none | some n ↦ match-each ss ts n ]
 
--- The values that a match gives the variables; one that was not met stands for itself.
-unfoldable pub values-of : Match → Values
-values-of m v = Option·getD (getD m v none) (var v)
+-- The values that a match gives the variables. One that met no term takes the filling: "fills such a variable with the lowest constant of the sheet"
+-- (document 02, W5).
+unfoldable pub values-of : (filling : Term) → Match → Values
+values-of filling m v = Option·getD (getD m v none) filling
 
 -- Does the variable `v` occur in a term?
 unfoldable mutual
@@ -55,20 +55,3 @@ unfoldable mutual
   pub have-variable : ℕ → Terms → Bool
   have-variable v nil = false
   have-variable v (cons t ts) = has-variable v t || have-variable v ts
-
--- Does every variable of the first term occur in the second?
-unfoldable mutual
-  unfolding has-variable
-
-  pub covered : Term → Term → Bool
-  covered (var v) s = has-variable v s
-  covered (app f ts) s = all-covered ts s
-
-  pub all-covered : Terms → Term → Bool
-  all-covered nil s = true
-  all-covered (cons t ts) s = covered t s && all-covered ts s
-
--- "A direction is usable if every variable of its target side occurs in its source side."
-unfoldable pub usable : Equation → Direction → Bool
-unfolding covered source target
-usable e d = covered (target e d) (source e d)

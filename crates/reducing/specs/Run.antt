@@ -1,4 +1,4 @@
--- Runs (document 01, 'Runs'), over the test that a match has to pass.
+-- Runs (document 01, 'Runs'), over the test that a match has to pass and the filling of variables that it does not meet (document 02, W5).
 use Prim.Native.Nat.{ℕ, zero, suc}
 use mathlib.Core.Bool.{Bool, true, false}
 use mathlib.Core.Option.{Option, none, some}
@@ -11,7 +11,7 @@ use Rattle.terms.specs.Equation.{Equation, Direction, left-right, right-left, s
 use Rattle.ordering.specs.Order.{_≻_}
 pub use Rattle.reducing.specs.declared.ending.Ending.{Ending}
 pub use Rattle.reducing.specs.declared.ending.Ending.the-variants.{NoneFound as none-found, LimitReached as limit-reached, ResultTooLarge as result-too-large}
-use Rattle.reducing.specs.Match.{unmet, no-match, match, values-of, usable}
+use Rattle.reducing.specs.Match.{unmet, no-match, match, values-of}
 
 -- "The steps (equation, direction, position)", each with the term that it gives.
 pub record Step : Type 0 where
@@ -39,20 +39,17 @@ unfolding size
 large-result t = ltb max-task-nodes (size t)
 
 -- With any number of variables.
-module _ (variables : ℕ) (test : Equation → Direction → Values → Bool) where
-  -- One direction at one position of the subject: "usable, whose source side matches (a repeated variable meets identical terms)" and whose match passes the test.
-  -- "The matched part becomes the target's instance."
+module _ (variables : ℕ) (filling : Term) (test : Equation → Direction → Values → Bool) where
+  -- One direction at one position of the subject: "whose source side matches (a repeated variable meets identical terms)" and whose match passes the test.
+  -- "Every direction is usable, with that filling before the lines are judged" (document 02, W5). "The matched part becomes the target's instance."
   unfoldable pub try-with : (subject : Term) → (p : ℕ) → (part : Term) → (n : ℕ) → Equation → Direction → Option Step
-  unfolding usable match values-of replace inst source target
+  unfolding match values-of replace inst source target
   try-with subject p part n e d =
-      elim (usable e d) [
-        | false ↦ none
-        | true ↦ elim (match (source e d) part (unmet variables)) [
-          | none ↦ none
-          | some m ↦ elim (test e d (values-of m)) [
-            | false ↦ none
-            | true ↦ some (record { equation = n; direction = d; position = p; result = replace subject p (inst (values-of m) (target e d)) })
-          ]
+      elim (match (source e d) part (unmet variables)) [
+        | none ↦ none
+        | some m ↦ elim (test e d (values-of filling m)) [
+          | false ↦ none
+          | true ↦ some (record { equation = n; direction = d; position = p; result = replace subject p (inst (values-of filling m) (target e d)) })
         ]
       ]
 
@@ -96,30 +93,30 @@ module _ (variables : ℕ) (test : Equation → Direction → Values → Bool) w
   run-with = run-within-with large-result
 
 -- With the sheet's number of variables.
-module _ (test : Equation → Direction → Values → Bool) where
+module _ (filling : Term) (test : Equation → Direction → Values → Bool) where
   unfoldable pub try : (subject : Term) → (p : ℕ) → (part : Term) → (n : ℕ) → Equation → Direction → Option Step
   unfolding try-with no-match
-  try = try-with variable-count test
+  try = try-with variable-count filling test
 
   unfoldable pub try-equations : Term → ℕ → Term → (n : ℕ) → List Equation → Option Step
   unfolding try-equations-with try
-  try-equations = try-equations-with variable-count test
+  try-equations = try-equations-with variable-count filling test
 
   unfoldable pub try-positions : List Equation → Term → (p : ℕ) → (parts : List Term) → Option Step
   unfolding try-positions-with try-equations
-  try-positions = try-positions-with variable-count test
+  try-positions = try-positions-with variable-count filling test
 
   unfoldable pub step : List Equation → Term → Option Step
   unfolding step-with try-positions
-  step = step-with variable-count test
+  step = step-with variable-count filling test
 
   unfoldable pub run-within : (large : Term → Bool) → List Equation → (k : ℕ) → (subject : Term) → Run
   unfolding run-within-with step
-  run-within = run-within-with variable-count test
+  run-within = run-within-with variable-count filling test
 
   unfoldable pub run : List Equation → (k : ℕ) → (subject : Term) → Run
   unfolding run-with run-within
-  run = run-with variable-count test
+  run = run-with variable-count filling test
 
 -- "The terms of a run are its frame's term and then the result of each step." The last of them: "Ending 02 keeps the term before it."
 unfoldable pub last-term : Term → List Step → Term

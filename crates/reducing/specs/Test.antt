@@ -30,9 +30,9 @@ module _ (variables : ℕ) where
   line-test-with e d ρ = ltb 0 (holding-line-with e d ρ)
 
   -- "the run is the one that this section defines over these tables"
-  unfoldable pub line-run-with : List Equation → (k : ℕ) → (subject : Term) → Run
+  unfoldable pub line-run-with : (filling : Term) → List Equation → (k : ℕ) → (subject : Term) → Run
   unfolding run-with line-test-with
-  line-run-with = run-with variables line-test-with
+  line-run-with filling = run-with variables filling line-test-with
 
 -- With the sheet's number of variables.
 unfoldable pub holding-line : Equation → Direction → Values → ℕ
@@ -43,7 +43,7 @@ unfoldable pub line-test : Equation → Direction → Values → Bool
 unfolding line-test-with holding-line
 line-test = line-test-with variable-count
 
-unfoldable pub line-run : List Equation → (k : ℕ) → (subject : Term) → Run
+unfoldable pub line-run : (filling : Term) → List Equation → (k : ℕ) → (subject : Term) → Run
 unfolding line-run-with run line-test
 line-run = line-run-with variable-count
 
@@ -53,9 +53,10 @@ unfolding exceeds? inst source target
 reference-test e d ρ = elim (exceeds? (inst ρ (source e d)) (inst ρ (target e d))) [ yes g ↦ true | no n ↦ false ]
 
 -- "The reference run is this text with 'one of whose lines holds' replaced by 'whose source instance exceeds its target instance by L1 to L3'."
-unfoldable pub reference-run : List Equation → (k : ℕ) → (subject : Term) → Run
+-- It "takes the same filling before it compares instances" (document 02, W5).
+unfoldable pub reference-run : (filling : Term) → List Equation → (k : ℕ) → (subject : Term) → Run
 unfolding run reference-test
-reference-run = run reference-test
+reference-run filling = run filling reference-test
 
 -- "where every direction solves"
 abbrev pub EverySolves : List Equation → Type 0

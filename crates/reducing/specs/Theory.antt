@@ -5,3 +5,4 @@ pub mod Step
 pub mod First
 pub mod Runs
 pub mod Reference
+pub mod Irreducible

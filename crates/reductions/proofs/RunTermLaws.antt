@@ -1,18 +1,18 @@
 -- Laws for the run of a task's term: what its code hands on, and what it gives.
-use Prim.Native.Nat.{ℕ, _+_, _≤_}
+use Prim.Native.Nat.{ℕ, _+_, _-_, _≤_}
 use mathlib.Core.Path.{_≡_, refl, sym, ap, subst, _∙_}
 use mathlib.Core.Bool.{Bool, true, false}
-use mathlib.Core.List.{List, map, append-nil}
+use mathlib.Core.List.{List}
 use lib.ListN.{length, take, drop, length-drop}
 use lib.Seq.{take-at, take-take, length-take-le}
 use native.Mathlib.Omega.{arith}
-use Rattle.format.specs.Limits.{max-steps, max-task-nodes, position-count}
+use Rattle.format.specs.Limits.{max-symbols, max-steps, max-task-nodes, position-count, node-count}
 use Rattle.format.specs.Buffer.{written}
 use Rattle.terms.specs.Term.{Term, nil, cons, size}
 use Rattle.terms.specs.Equation.{Equation}
-use Rattle.terms.specs.Position.{subterms}
+use Rattle.terms.specs.Filling.{filling}
 use Rattle.terms.specs.Prefix.{prefix}
-use Rattle.terms.specs.Contracts.Stored.{PartAt, SubjectIs, AllSymbols}
+use Rattle.terms.specs.Contracts.Stored.{SubjectIs}
 use Rattle.terms.specs.Theory.Prefix.{length-prefix}
 use Rattle.scanning.specs.declared.known.Known.{Known}
 use Rattle.scanning.specs.Contracts.Scan.{known-arities}
@@ -34,25 +34,6 @@ use Rattle.reductions.specs.Contracts.RunTerm.{LinesReady, RunTermIs, Ru
 abbrev taken-arities : Known → List ℕ
 taken-arities known = take (known .symbols) (known .arities)
 
-subject-loaded : {arities nodes lengths : List ℕ} {s : Term} {n : ℕ} → Loaded arities nodes lengths (cons s nil) n → SubjectIs nodes lengths arities s
-unfolding prefix subterms size AllSymbols
-subject-loaded {arities} {nodes} {lengths} {s} l =
-    record {
-      nodes-length = l .nodes-length;
-      lengths-length = l .lengths-length;
-      symbols = λ i h. l .symbols i;
-      stored = record {
-        few-symbols = l .few-symbols;
-        ground = l .ground .0;
-        stored = record {
-          bytes = subst (PartAt nodes position-count) (append-nil (prefix s)) (l .bytes);
-          lengths-there = subst (λ p. PartAt lengths position-count (map size p)) (append-nil (subterms s)) (l .lengths-there);
-        };
-        low = omega arith;
-        within = omega (arith, l .few-nodes);
-      };
-    }
-
 loaded-size : {arities nodes lengths : List ℕ} {s : Term} {n : ℕ} → Loaded arities nodes lengths (cons s nil) n → n ≡ size s
 unfolding size
 loaded-size l = omega (arith, l .counted)
@@ -65,7 +46,7 @@ module _ {sheet : List ℕ} {known : Known} {from end : ℕ} {equations lengths 
   pub term-symbols-taken : known .symbols ≡ length (taken-arities known)
   term-symbols-taken = symbols-taken (t .roomy) (t .term-in .few-symbols)
 
-  arities-are : known-arities known ≡ taken-arities known
+  pub arities-are : known-arities known ≡ taken-arities known
   arities-are = arities-taken (t .roomy) (t .term-in .few-symbols)
 
   abbrev rule-count : ℕ
@@ -96,43 +77,58 @@ module _ {sheet : List ℕ} {known : Known} {from end : ℕ} {equations lengths 
   pub terms-have : HasTermsIn sheet (taken-arities known) from end
   terms-have = record { terms = cons subject nil; are = terms-taken }
 
-  pub run-is : (fits : Bool) (table next nodes sizes : List ℕ) (n : ℕ) → LinesReady fits bounds table es
+  -- What the filling's code is called with.
+  pub loaded-fits : {nodes sizes : List ℕ} {n : ℕ} → ((ts : _) → TermsIn sheet (taken-arities known) from end ts → Loaded (taken-arities known) nodes sizes ts n)
+      → (length (taken-arities known) ≤ max-symbols) × (length nodes ≡ node-count) × (length sizes ≡ node-count)
+  loaded-fits load = let l = load (cons subject nil) terms-taken in (l .few-symbols, l .nodes-length, l .lengths-length)
+
+  pub run-is : (fits : Bool) (table next loaded-nodes loaded-sizes nodes sizes : List ℕ) (n : ℕ) → LinesReady fits bounds table es
       → NextReady fits table next
-      → ((ts : _) → TermsIn sheet (taken-arities known) from end ts → Loaded (taken-arities known) nodes sizes ts n)
+      → ((ts : _) → TermsIn sheet (taken-arities known) from end ts → Loaded (taken-arities known) loaded-nodes loaded-sizes ts n)
+      → ((s : Term) (n : ℕ) → Loaded (taken-arities known) loaded-nodes loaded-sizes (cons s nil) n → SubjectIs nodes sizes (taken-arities known) s)
       → RunIs equations lengths rule-count bounds next fits table nodes sizes n (taken-arities known) es subject
-  run-is fits table next nodes sizes n r h load =
+  run-is fits table next loaded-nodes loaded-sizes nodes sizes n r h load fill =
       let l = load (cons subject nil) terms-taken in
       record {
         rows = subst (λ a. RowsAre equations lengths a es) arities-are (t .rows);
         counted = omega (arith, t .counted);
         ready = rules-ready fits table next r h;
-        subject-is = subject-loaded l;
+        subject-is = fill subject n l;
         size-is = loaded-size l;
       }
 
+  pub course-known : {k : ℕ} {term term-after log log-after : List ℕ} {c : Course} → RunCourse (taken-arities known) es k subject term term-after log log-after c
+      → RunCourse (known-arities known) es k subject term term-after log log-after c
+  course-known {k} {term} {term-after} {log} {log-after} {c} = subst (λ a. RunCourse a es k subject term term-after log log-after c) (sym arities-are)
+
 -- 2. What the run gives.
+
+-- The nodes from the subject's first on, the filling's among them.
+abbrev subject-room : ℕ
+subject-room = node-count - position-count
+
 module _ {es : List Equation} {k : ℕ} {subject : Term} {arities nodes sizes log log-after : List ℕ} {c : Course}
-    (i : CourseIs es k subject arities nodes sizes log log-after c) where
+    (i : CourseIs arities es k subject nodes sizes log log-after c) where
   pub course-small : c .size ≤ max-task-nodes
-  course-small = omega (arith, i .size-is, i .last-is .stored .within)
+  course-small = omega (arith, i .size-is, i .last-is .inside)
 
   pub course-few : k ≤ max-steps → c .steps ≤ max-steps
   unfolding line-run
-  course-few h = omega (arith, i .steps-are, run-few line-test es k subject)
+  course-few h = omega (arith, i .steps-are, run-few (filling arities) line-test es k subject)
 
-  pub course-front : c .size ≤ length (take max-task-nodes (drop position-count nodes))
+  pub course-front : c .size ≤ length (take subject-room (drop position-count nodes))
   course-front =
-      let behind : max-task-nodes ≤ length (drop position-count nodes) = omega (arith, length-drop position-count nodes, i .last-is .nodes-length) in
-      omega (arith, course-small, length-take-le max-task-nodes (drop position-count nodes) behind)
+      let behind : subject-room ≤ length (drop position-count nodes) = omega (arith, length-drop position-count nodes, i .last-is .nodes-length) in
+      omega (arith, course-small, length-take-le subject-room (drop position-count nodes) behind)
 
-  last-bytes : take (c .size) (take max-task-nodes (drop position-count nodes)) ≡ prefix (last-of es k subject)
+  last-bytes : take (c .size) (take subject-room (drop position-count nodes)) ≡ prefix (last-of arities es k subject)
   last-bytes =
       let there = i .last-is .stored .stored .bytes in
-      take-take (c .size) max-task-nodes (drop position-count nodes) course-small
+      take-take (c .size) subject-room (drop position-count nodes) (omega (arith, course-small))
       ∙ ap (take (c .size)) (there .is)
-      ∙ take-at (prefix (last-of es k subject)) (there .rest) (c .size) (length-prefix (last-of es k subject) ∙ sym (i .size-is))
+      ∙ take-at (prefix (last-of arities es k subject)) (there .rest) (c .size) (length-prefix (last-of arities es k subject) ∙ sym (i .size-is))
 
-  pub course-ran : (term term-after : List ℕ) → term-after ≡ written (take (c .size) (take max-task-nodes (drop position-count nodes))) term → RunCourse es k subject term term-after log log-after c
+  pub course-ran : (term term-after : List ℕ) → term-after ≡ written (take (c .size) (take subject-room (drop position-count nodes))) term → RunCourse arities es k subject term term-after log log-after c
   course-ran term term-after x = record {
     steps-are = i .steps-are;
     few-steps = course-few;
@@ -143,14 +139,14 @@ module _ {es : List Equation} {k : ℕ} {subject : Term} {arities nodes sizes lo
     log-is = i .logged;
   }
 
-pub number-ran : {es : List Equation} {k : ℕ} {subject : Term} {term term-after log log-after : List ℕ} {c : Course} (n r : ℕ) → RunCourse es k subject term term-after log log-after c
-    → n ≡ ending-number (c .ending) → r ≡ fields (c .steps) n (c .size) → Ran es k subject term term-after log log-after r
-number-ran {es} {k} {subject} {c = c} n r i y z = record {
+pub number-ran : {arities : List ℕ} {es : List Equation} {k : ℕ} {subject : Term} {term term-after log log-after : List ℕ} {c : Course} (n r : ℕ) → RunCourse arities es k subject term term-after log log-after c
+    → n ≡ ending-number (c .ending) → r ≡ fields (c .steps) n (c .size) → Ran arities es k subject term term-after log log-after r
+number-ran {arities} {es} {k} {subject} {c = c} n r i y z = record {
   returned =
       z
       ∙ ap (λ s. fields s n (c .size)) (i .steps-are)
-      ∙ ap (λ m. fields (length (the-run es k subject .steps)) m (c .size)) (y ∙ ap ending-number (i .ending-is))
-      ∙ ap (λ m. fields (length (the-run es k subject .steps)) (ending-number (the-run es k subject .ending)) m) (i .size-is);
+      ∙ ap (λ m. fields (length (the-run arities es k subject .steps)) m (c .size)) (y ∙ ap ending-number (i .ending-is))
+      ∙ ap (λ m. fields (length (the-run arities es k subject .steps)) (ending-number (the-run arities es k subject .ending)) m) (i .size-is);
   term-is = i .term-is;
   log-is = i .log-is;
 }

@@ -1,4 +1,5 @@
 // The run of a task's term: its steps, its ending and its last term.
+use crate::filling::put_filling;
 use answers::number::fields_number;
 use comparing::nodes::SUBJECT;
 use format::copy::copy_front;
@@ -18,6 +19,7 @@ ghost use lib.ListN.{length, drop};
 ghost use Rattle.format.specs.Limits.{max-steps, table-bytes, scratch-bytes, term-bytes, log-bytes};
 ghost use Rattle.terms.specs.Term.{Term};
 ghost use Rattle.terms.specs.Equation.{Equation};
+ghost use Rattle.scanning.specs.Contracts.Scan.{known-arities};
 ghost use Rattle.searching.specs.Contracts.Next.{next-bytes, NextIs, RulesKept, HasRulesKept};
 ghost use Rattle.reductions.specs.Contracts.RunTerm.{LinesReady, RunTermIs, HasRunTerm, RunCourse, Ran};
 
@@ -40,7 +42,8 @@ fn prepare_next(
     }
 }
 
-// The run of the term that the digits from `from` to `end` write, over rules that all solve: its steps and ending, the last term and the log. Lines that are kept stay.
+// The run of the term that the digits from `from` to `end` write, over rules that all solve: its steps and ending, the last term and the log. Lines that are
+// kept stay.
 pub fn run_course(
     sheet: &[u8],
     known: Known,
@@ -58,7 +61,7 @@ pub fn run_course(
 ) -> Course
     requires { ⌜ HasRunTerm (now sheet) known from end (now equations) (now lengths) (now bounds) fits (now table) × (limit ≤ max-steps) ⌝ }
     requires { ⌜ (table-bytes ≤ length (now table)) × (scratch-bytes ≤ length (now scratch)) × (term-bytes ≤ length (now term)) × (log-bytes ≤ length (now log)) ⌝ }
-    ensures { λ r. ⌜ ((es : List Equation) (subject : Term) → RunTermIs (now (sheet .entry)) known from end (now (equations .entry)) (now (lengths .entry)) (now (bounds .entry)) es subject → LinesReady fits (now (bounds .entry)) (now (table .entry)) es → RunCourse es limit subject (now (term .entry)) (now (term .exit)) (now (log .entry)) (now (log .exit)) r) ⌝ }
+    ensures { λ r. ⌜ ((es : List Equation) (subject : Term) → RunTermIs (now (sheet .entry)) known from end (now (equations .entry)) (now (lengths .entry)) (now (bounds .entry)) es subject → LinesReady fits (now (bounds .entry)) (now (table .entry)) es → RunCourse (known-arities known) es limit subject (now (term .entry)) (now (term .exit)) (now (log .entry)) (now (log .exit)) r) ⌝ }
     ensures { λ _. ⌜ (fits ≡ true → now (table .exit) ≡ now (table .entry)) ⌝ }
     ensures { λ _. ⌜ drop table-bytes (now (table .exit)) ≡ drop table-bytes (now (table .entry)) ⌝ }
     ensures { λ _. ⌜ drop scratch-bytes (now (scratch .exit)) ≡ drop scratch-bytes (now (scratch .entry)) ⌝ }
@@ -77,6 +80,7 @@ pub fn run_course(
         &mut nodes,
         &mut sizes,
     );
+    put_filling(&arities[..known.symbols], &mut nodes, &mut sizes);
     let course = run_steps(
         equations,
         lengths,
@@ -115,7 +119,7 @@ pub fn run_term(
 ) -> u64
     requires { ⌜ HasRunTerm (now sheet) known from end (now equations) (now lengths) (now bounds) fits (now table) × (limit ≤ max-steps) ⌝ }
     requires { ⌜ (table-bytes ≤ length (now table)) × (scratch-bytes ≤ length (now scratch)) × (term-bytes ≤ length (now term)) × (log-bytes ≤ length (now log)) ⌝ }
-    ensures { λ r. ⌜ ((es : List Equation) (subject : Term) → RunTermIs (now (sheet .entry)) known from end (now (equations .entry)) (now (lengths .entry)) (now (bounds .entry)) es subject → LinesReady fits (now (bounds .entry)) (now (table .entry)) es → Ran es limit subject (now (term .entry)) (now (term .exit)) (now (log .entry)) (now (log .exit)) r) ⌝ }
+    ensures { λ r. ⌜ ((es : List Equation) (subject : Term) → RunTermIs (now (sheet .entry)) known from end (now (equations .entry)) (now (lengths .entry)) (now (bounds .entry)) es subject → LinesReady fits (now (bounds .entry)) (now (table .entry)) es → Ran (known-arities known) es limit subject (now (term .entry)) (now (term .exit)) (now (log .entry)) (now (log .exit)) r) ⌝ }
     ensures { λ _. ⌜ drop table-bytes (now (table .exit)) ≡ drop table-bytes (now (table .entry)) ⌝ }
     ensures { λ _. ⌜ drop scratch-bytes (now (scratch .exit)) ≡ drop scratch-bytes (now (scratch .entry)) ⌝ }
 {

@@ -18,7 +18,7 @@ pub record Counted (bytes : List ℕ) (end : ℕ) (nodes lengths values arities 
   pub terms : Terms
   pub left : Left bytes end nodes lengths values arities ρ i terms
   pub counted : size (inst ρ t) ≡ n + sizes (insts ρ terms)
-  pub few : n + max-task-nodes * sizes terms ≤ max-task-nodes * position-count
+  pub few : n + (max-task-nodes + 1) * sizes terms ≤ (max-task-nodes + 1) * position-count
 
 pub count-start : {bytes nodes lengths values arities : List ℕ} {side : Arguments} {t : Term} {ρ : Values} → InstanceIs bytes side nodes lengths values arities t ρ
     → Counted bytes (side .end) nodes lengths values arities t ρ (side .from) 0
@@ -36,7 +36,7 @@ module _ {bytes : List ℕ} {end : ℕ} {nodes lengths values arities : List ℕ
   unfolding size inst
   symbol-counted h l = go (next (c .terms) (c .left) h) (c .counted) (c .few)
     where
-      go : {ts : Terms} → Next bytes end nodes lengths values arities ρ i ts → size (inst ρ t) ≡ n + sizes (insts ρ ts) → n + max-task-nodes * sizes ts ≤ max-task-nodes * position-count
+      go : {ts : Terms} → Next bytes end nodes lengths values arities ρ i ts → size (inst ρ t) ≡ n + sizes (insts ρ ts) → n + (max-task-nodes + 1) * sizes ts ≤ (max-task-nodes + 1) * position-count
           → Counted bytes end nodes lengths values arities t ρ (i + 1) (n + 1)
       go (next-variable b k g s) e f = absurd (omega arith)
       go (next-symbol {args = args} {ss = ss} b k s) e f =
@@ -46,7 +46,7 @@ module _ {bytes : List ℕ} {end : ℕ} {nodes lengths values arities : List ℕ
   unfolding size inst
   value-counted h l = go (next (c .terms) (c .left) h) (c .counted) (c .few)
     where
-      go : {ts : Terms} → Next bytes end nodes lengths values arities ρ i ts → size (inst ρ t) ≡ n + sizes (insts ρ ts) → n + max-task-nodes * sizes ts ≤ max-task-nodes * position-count
+      go : {ts : Terms} → Next bytes end nodes lengths values arities ρ i ts → size (inst ρ t) ≡ n + sizes (insts ρ ts) → n + (max-task-nodes + 1) * sizes ts ≤ (max-task-nodes + 1) * position-count
           → Counted bytes end nodes lengths values arities t ρ (i + 1) (n + getD lengths (getD values (getD bytes i 0 - first-variable) 0) 0)
       go (next-symbol b k s) e f = absurd (omega arith)
       go (next-variable {v} {ss} b k g s) e f =

@@ -50,7 +50,7 @@ pub data Next (bytes : List ℕ) (end : ℕ) (nodes lengths values arities : Lis
   next-symbol : {f : ℕ} {args ss : Terms} → getD bytes i 0 ≡ f → f < first-variable → Left bytes end nodes lengths values arities ρ (i + 1) (append args ss)
       → Next bytes end nodes lengths values arities ρ i (cons (app f args) ss)
 
--- The value of a variable: it has a slot, and its node is one of the subject's.
+-- The value of a variable: it has a slot, and its node stands behind the equation's.
 pub record ValueThere (bytes nodes lengths values : List ℕ) (i : ℕ) : Type 0 where
   pub slot : getD bytes i 0 - first-variable < length values
   pub stands : Standing nodes lengths (getD values (getD bytes i 0 - first-variable) 0)

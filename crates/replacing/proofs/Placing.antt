@@ -1,18 +1,19 @@
 -- The result takes the subject's place.
 use Prim.Native.Nat.{ℕ, _+_, _-_, _≤_, _<_}
-use mathlib.Core.Path.{_≡_, sym, ap, subst, _∙_}
+use mathlib.Core.Path.{refl, _≡_, sym, ap, subst, _∙_}
 use mathlib.Core.List.{List, _++_, append-assoc, append-nil}
 use native.Mathlib.Omega.{arith}
-use lib.ListN.{length, getD, take, drop, length-append, take-append-drop}
-use lib.Seq.{slice, take-at, drop-at, getD-drop, length-take-le}
-use Rattle.format.specs.Limits.{first-variable, position-count, max-task-nodes}
+use lib.ListN.{length, getD, take, drop, length-append, length-drop, take-append-drop}
+use lib.Seq.{slice, take-at, drop-at, drop-drop, getD-drop, length-take-le}
+use Rattle.format.specs.Limits.{first-variable, position-count, filling-node, max-task-nodes}
 use Rattle.format.specs.Buffer.{written}
 use Rattle.terms.specs.Term.{Term, nil, cons, size, sizes, Values, inst, Ground}
 use Rattle.terms.specs.Position.{subterms, replace}
 use Rattle.terms.specs.Prefix.{prefix, prefixes}
 use Rattle.terms.specs.declared.arguments.Arguments.{Arguments}
 use Rattle.terms.specs.Contracts.Sizes.{Measurable, node-sizes}
-use Rattle.terms.specs.Contracts.Stored.{SubjectIs, AllSymbols}
+use Rattle.terms.specs.Contracts.Stored.{GroundStored, SubjectIs, AllSymbols}
+use Rattle.terms.specs.Filling.{filling}
 use Rattle.terms.specs.Theory.Prefix.{ground-fits, length-prefix}
 use Rattle.terms.specs.Theory.Placed.{Placed, placed-stored, placed-measurable, placed-sizes}
 use Rattle.terms.specs.Theory.Ground.{instance-ground}
@@ -26,6 +27,14 @@ pub ground-result : {bytes : List ℕ} {side : Arguments} {arities nodes lengths
     → ReplacementIs bytes side arities nodes lengths values node n subject t ρ p → Ground arities (replace subject p (inst ρ t))
 ground-result {arities = arities} {subject = subject} {t} {ρ} {p} r =
     ground-replace arities (inst ρ t) (instance-ground arities ρ (λ v. Ground arities (ρ v)) (λ v g. g) t (r .instance-is .fits) (variables-are (λ v. Ground arities (ρ v)) t (λ v e. r .instance-is .given v e .ground))) subject p (r .stands .stored .ground)
+
+-- What stands behind a new front is kept.
+kept-behind : (front all : List ℕ) (k : ℕ) → length front ≤ k → drop k (front ++ drop (length front) all) ≡ drop k all
+kept-behind front all k h =
+    let j = k - length front in
+    let e : length front + j ≡ k = omega arith in
+    ap (λ n. drop n (front ++ drop (length front) all)) (sym e) ∙ (sym (drop-drop j (length front) (front ++ drop (length front) all))
+    ∙ (ap (drop j) (drop-at front (drop (length front) all) (length front) refl) ∙ (drop-drop j (length front) all ∙ ap (λ n. drop n all) e)))
 
 -- The bytes of `u` stand first in `result`, and are copied to where the subject stood.
 module _ {nodes lengths arities : List ℕ} {subject : Term} (s : SubjectIs nodes lengths arities subject) (u : Term) (g : Ground arities u)
@@ -81,11 +90,62 @@ module _ {nodes lengths arities : List ℕ} {subject : Term} (s : SubjectIs node
       let b : AllSymbols behind = λ j. omega (arith, getD-drop (length (take position-count nodes ++ prefix u)) nodes j 0, s .symbols (length (take position-count nodes ++ prefix u) + j) (omega (arith, length-append (take position-count nodes) (prefix u), front-length))) in
       omega (arith, symbols-append (prefix u) behind (ground-symbols arities (s .stored .few-symbols) u g) b k)
 
-  pub result-subject : length after ≡ length nodes → (measured rest : List ℕ) → length measured ≡ length lengths
-      → measured ≡ take position-count lengths ++ (node-sizes arities (slice position-count (position-count + n) after) ++ rest)
+  -- The filling stands where it stood.
+  nodes-kept : drop filling-node after ≡ drop filling-node nodes
+  nodes-kept =
+      let front = take position-count nodes ++ prefix u in
+      let short : length front ≤ filling-node = omega (arith, length-append (take position-count nodes) (prefix u), front-length, length-prefix u) in
+      ap (drop filling-node) (after-is ∙ sym (append-assoc (take position-count nodes) (prefix u) behind)) ∙ kept-behind front nodes filling-node short
+
+  module _ (measured : List ℕ) (m : length measured ≡ length lengths) (e : measured ≡ take position-count lengths ++ (node-sizes arities (slice position-count (position-count + n) after) ++ drop (position-count + n) lengths)) where
+    measured-front : List ℕ
+    measured-front = take position-count lengths ++ node-sizes arities (slice position-count (position-count + n) after)
+
+    front-whole : length measured-front ≡ position-count + n
+    unfolding measured-front
+    front-whole =
+        let sizes-there = node-sizes arities (slice position-count (position-count + n) after) in
+        let rest = drop (position-count + n) lengths in
+        omega (
+          arith,
+          m,
+          ap length e,
+          length-append (take position-count lengths) (sizes-there ++ rest),
+          length-append (take position-count lengths) sizes-there,
+          length-append sizes-there rest,
+          length-take-le position-count lengths (omega (arith, s .lengths-length)),
+          length-drop (position-count + n) lengths,
+          s .lengths-length,
+          few,
+        )
+
+    sizes-kept : drop filling-node measured ≡ drop filling-node lengths
+    unfolding measured-front
+    sizes-kept =
+        ap (drop filling-node) (e ∙ (sym (append-assoc (take position-count lengths) (node-sizes arities (slice position-count (position-count + n) after)) (drop (position-count + n) lengths))
+        ∙ ap (λ k. measured-front ++ drop k lengths) (sym front-whole))) ∙ kept-behind measured-front lengths filling-node (omega (arith, front-whole))
+
+    filling-kept : GroundStored after measured arities filling-node (filling arities)
+    filling-kept =
+        let f = s .filling-stored in
+        record {
+          few-symbols = f .few-symbols;
+          ground = f .ground;
+          stored = record {
+            bytes = record { rest = f .stored .bytes .rest; is = nodes-kept ∙ f .stored .bytes .is };
+            lengths-there = record { rest = f .stored .lengths-there .rest; is = sizes-kept ∙ f .stored .lengths-there .is };
+          };
+          low = f .low;
+          within = f .within;
+        }
+
+  pub result-subject : length after ≡ length nodes → (measured : List ℕ) → length measured ≡ length lengths
+      → measured ≡ take position-count lengths ++ (node-sizes arities (slice position-count (position-count + n) after) ++ drop (position-count + n) lengths)
       → SubjectIs after measured arities u
   unfolding subterms
-  result-subject l measured rest m e = record {
+  result-subject l measured m e = record {
+    inside = omega (arith, counted, few);
+    filling-stored = filling-kept measured m e;
     nodes-length = l ∙ s .nodes-length;
     lengths-length = m ∙ s .lengths-length;
     symbols = no-variable;
@@ -94,7 +154,7 @@ module _ {nodes lengths arities : List ℕ} {subject : Term} (s : SubjectIs node
       ground = g;
       stored = record {
         bytes = placed-stored placed;
-        lengths-there = rw (append-nil (subterms u)) at (placed-sizes arities (s .stored .few-symbols) (cons u nil) (ground-fits arities u g, tt) after placed-one n one-size lengths measured rest (omega (arith, s .lengths-length)) e);
+        lengths-there = rw (append-nil (subterms u)) at (placed-sizes arities (s .stored .few-symbols) (cons u nil) (ground-fits arities u g, tt) after placed-one n one-size lengths measured (drop (position-count + n) lengths) (omega (arith, s .lengths-length)) e);
       };
       low = omega arith;
       within = omega arith;

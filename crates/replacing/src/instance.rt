@@ -1,11 +1,11 @@
-// The instance of a side at the terms that its variables met.
+// The instance of a side at the values of its variables.
 use format::byte::wide;
 use format::copy::copy_front;
 use format::limits::Limits;
 use terms::arguments::Arguments;
 ghost use mathlib.Core.Path.{_≡_};
 ghost use mathlib.Core.List.{List};
-ghost use Prim.Native.Nat.{ℕ, _*_, _≤_};
+ghost use Prim.Native.Nat.{ℕ, _+_, _*_, _≤_};
 ghost use lib.ListN.{length};
 ghost use Rattle.format.specs.Buffer.{written};
 ghost use Rattle.format.specs.Limits.{position-count, max-task-nodes};
@@ -13,7 +13,7 @@ ghost use Rattle.terms.specs.Term.{Term, Values, size, inst};
 ghost use Rattle.terms.specs.Prefix.{prefix};
 ghost use Rattle.replacing.specs.Contracts.Replacing.{InstanceIs, HasInstance};
 
-// The number of nodes of the side's instance: for each node of the side at most as many as a subject may have.
+// The number of nodes of the side's instance: for each node of the side at most as many as stand behind the equation's, which are the subject's and the filling's.
 pub fn instance_size(
     bytes: &[u8],
     side: Arguments,
@@ -23,7 +23,7 @@ pub fn instance_size(
 ) -> usize
     requires { ⌜ HasInstance (now bytes) side (now nodes) (now sizes) (now values) ⌝ }
     ensures { λ r. ⌜ ((arities : List ℕ) (t : Term) (ρ : Values) → InstanceIs (now (bytes .entry)) side (now (nodes .entry)) (now (sizes .entry)) (now (values .entry)) arities t ρ → r ≡ size (inst ρ t)) ⌝ }
-    ensures { λ r. ⌜ r ≤ max-task-nodes * position-count ⌝ }
+    ensures { λ r. ⌜ r ≤ (max-task-nodes + 1) * position-count ⌝ }
 {
     let mut i = side.from;
     let mut size = 0;

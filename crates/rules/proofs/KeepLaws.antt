@@ -1,7 +1,6 @@
 -- The walk of a rule over its equation's row, and the lines that are kept of it.
 use Prim.Native.Nat.{ℕ, _+_, _-_, _*_, _%_, _≤_, _<_}
-use mathlib.Core.Path.{_≡_, refl, sym, ap, subst, _∙_}
-use mathlib.Core.Bool.{Bool, true, false, not}
+use mathlib.Core.Path.{_≡_, sym, ap, subst, _∙_}
 use mathlib.Core.Option.{some}
 use mathlib.Core.List.{List, [], _∷_, _++_}
 use native.Mathlib.Omega.{arith}
@@ -10,10 +9,9 @@ use lib.Seq.{take-at, take-append-le}
 use lib.Dec.{ltb}
 use Rattle.format.specs.Limits.{record-bytes, table-bytes}
 use Rattle.format.specs.declared.refusal.Refusal.{Refusal}
-use Rattle.terms.specs.Term.{Term, Values}
+use Rattle.terms.specs.Term.{Values}
 use Rattle.terms.specs.Prefix.{equation-bytes}
-use Rattle.terms.specs.Equation.{Equation, Direction, left-right, right-left, direction-number, direction-of, source, target, value}
-use Rattle.terms.specs.declared.arguments.Arguments.{Arguments}
+use Rattle.terms.specs.Equation.{Equation, Direction, left-right, right-left, direction-number, direction-of, value}
 use Rattle.terms.specs.Contracts.Limits.{WithinLimits, positions}
 use Rattle.unifying.specs.Contracts.Equation.{equation-sizes}
 use Rattle.unifying.specs.Theory.Equation.{length-nodes, length-sizes}
@@ -23,20 +21,17 @@ use Rattle.solving.specs.Judge.{first-holding}
 use Rattle.solving.specs.Contracts.Written.{WrittenLines}
 use Rattle.walking.specs.Contracts.Walking.{memory-bytes}
 use Rattle.lines.specs.Contracts.Layout.{placed}
-use Rattle.lines.specs.Theory.Placed.{placed-none}
 use Rattle.solver.specs.declared.positions.WalkEnd.{WalkEnd}
 use Rattle.solver.specs.declared.positions.WalkEnd.the-variants.{Solved, Refused}
 use Rattle.solver.specs.declared.positions.WalkResult.{WalkResult as Reported}
 use Rattle.solver.specs.Contracts.Equation.{SidesAre}
 use Rattle.solver.specs.Contracts.Reports.{LeavesEnd, Leaves}
-use Rattle.matching.specs.Contracts.Matching.{Spells}
-use Rattle.reducing.specs.Match.{covered, usable}
 use Rattle.reducing.specs.Test.{holding-in, line-test}
 use Rattle.judging.specs.declared.trimmed.Kept.{Kept}
 use Rattle.judging.specs.declared.trimmed.Kept.the-variants.{Full, End}
 use Rattle.judging.specs.Contracts.Trimmed.{trimmed, trimmed-lines, RecordsAre, KeptAs}
 use Rattle.judging.proofs.Lengths.{length-trimmed}
-use Rattle.rules.specs.Contracts.Rows.{RuleIs, SideIs}
+use Rattle.rules.specs.Contracts.Rows.{RuleIs}
 use Rattle.rules.specs.Contracts.Lines.{RuleLines}
 use Rattle.rules.specs.Theory.Proper.{walked-proper}
 use Rattle.rules.proofs.RowLaws.{row-start, rule-row, row-end, row-room}
@@ -97,25 +92,7 @@ unfolding trimmed-lines
 trimmed-short n [] w = omega arith
 trimmed-short n (line θ es ∷ ls) w = omega (arith, length-append (trimmed (line θ es)) (trimmed-lines ls), length-trimmed θ es (w .0 .slots), w .0 .few-elements, trimmed-short n ls (w .1))
 
--- 3. Whether the rule is usable.
-pub side-spells : {equations lengths arities : List ℕ} {side : Arguments} {t : Term} → SideIs equations lengths arities side t → Spells equations side t
-side-spells {arities = arities} s = record { arities = arities; few-symbols = s .few-symbols; fits = s .fits; spelled = s .stored .bytes; ends = s .ends }
-
-module _ (e : Equation) (d : Direction) where
-  pub rule-unusable : {b : Bool} → b ≡ covered (target e d) (source e d) → not b ≡ true → usable e d ≡ false
-  unfolding usable
-  rule-unusable {b = true} x y = let z : _≡_ {A = ℕ} 0 1 = cc in absurd (omega arith)
-  rule-unusable {b = false} x y = sym x
-
-  pub rule-usable : {b : Bool} → b ≡ covered (target e d) (source e d) → not b ≡ false → usable e d ≡ true
-  unfolding usable
-  rule-usable {b = true} x y = sym x
-  rule-usable {b = false} x y = let z : _≡_ {A = ℕ} 0 1 = cc in absurd (omega arith)
-
-  no-lines : usable e d ≡ false → RuleLines e d []
-  no-lines u = record { proper = record { written = tt; irreducible = tt }; unusable = λ x. refl; tests = λ x. let z : _≡_ {A = ℕ} 0 1 = cc in absurd (omega arith) }
-
--- 4. The lines of a walk that solves.
+-- 3. The lines of a walk that solves.
 module _ {e : Equation} (w : WithinLimits e) (d : Direction) {memory : List ℕ} {told : Reported} (l : Leaves (solve e d) memory told) (x : told .ending ≡ Solved) where
   abbrev ends : LeavesEnd (solve e d) memory Solved (told .lines) (told .turns)
   ends = subst (λ x. LeavesEnd (solve e d) memory x (told .lines) (told .turns)) x (l .ends)
@@ -138,21 +115,16 @@ module _ {e : Equation} (w : WithinLimits e) (d : Direction) {memory : List ℕ}
   unfolding line-test
   holds-there ρ = ap (λ t. ltb 0 (holding-in e ρ t)) (ends .1)
 
-  rule-lines : usable e d ≡ true → RuleLines e d walked-lines
-  rule-lines u = record { proper = walked-proper w d (ends .1); unusable = λ x. let z : _≡_ {A = ℕ} 0 1 = cc in absurd (omega arith); tests = λ u ρ. holds-there ρ }
+  rule-lines : RuleLines e d walked-lines
+  rule-lines = record { proper = walked-proper w d (ends .1); tests = holds-there }
 
   few-bytes : length (trimmed-lines walked-lines) ≤ table-bytes
   few-bytes = omega (arith, trimmed-short (positions e) walked-lines (walked-proper w d (ends .1) .written), ends .2, ends .3)
-
-  pub none-kept : usable e d ≡ false → {start : ℕ} (table : List ℕ) → start ≤ table-bytes
-      → Solves e d × (ls : List Line) × RuleLines e d ls × (start ≡ start + length (trimmed-lines ls)) × (start ≤ table-bytes) × (table ≡ placed start (trimmed-lines ls) table)
-  unfolding trimmed-lines
-  none-kept u {start} table h = (solves, [], no-lines e d u, omega arith, h, sym (placed-none start table))
 
   module _ (start : ℕ) (before after : List ℕ) (kept : Kept) (k : (ls : List Line) → RecordsAre memory (told .lines) ls → KeptAs ls start before after kept) where
     pub full-kept : kept ≡ Full → Solves e d × (0 < start) × (drop table-bytes after ≡ drop table-bytes before)
     full-kept y = let (long, same) = subst (KeptAs walked-lines start before after) y (k walked-lines records-there) in (solves, omega (arith, few-bytes), same)
 
-    pub lines-kept : usable e d ≡ true → {end : ℕ} → kept ≡ End end
+    pub lines-kept : {end : ℕ} → kept ≡ End end
         → Solves e d × (ls : List Line) × RuleLines e d ls × (end ≡ start + length (trimmed-lines ls)) × (end ≤ table-bytes) × (after ≡ placed start (trimmed-lines ls) before)
-    lines-kept u y = let (ends-there, room, there) = subst (KeptAs walked-lines start before after) y (k walked-lines records-there) in (solves, walked-lines, rule-lines u, ends-there, room, there)
+    lines-kept y = let (ends-there, room, there) = subst (KeptAs walked-lines start before after) y (k walked-lines records-there) in (solves, walked-lines, rule-lines, ends-there, room, there)

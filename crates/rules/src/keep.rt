@@ -1,11 +1,9 @@
 // The walk of one rule, and its lines kept.
-use crate::sides::sides_of;
 use format::byte::wide;
 use format::limits::Limits;
 use format::refusal::Refusal;
 use judging::trimmed::Kept;
 use judging::trimmed::keep_lines;
-use matching::usable::is_usable;
 use solver::positions::MEMORY;
 use solver::positions::WalkEnd;
 use solver::positions::WalkResult;
@@ -46,7 +44,7 @@ pub enum RuleKept {
     End(usize),
 }
 
-// Walks a rule, and keeps its lines from `start` on if it is usable.
+// Walks a rule, and keeps its lines from `start` on.
 pub fn keep_rule(
     equations: &[u8],
     lengths: &[u8],
@@ -65,10 +63,6 @@ pub fn keep_rule(
     match ending {
         WalkEnd::Refused(why) => RuleKept::Refused(why),
         WalkEnd::Solved => {
-            let sides = sides_of(lengths, rule);
-            if !is_usable(equations, sides.source, sides.target) {
-                return RuleKept::End(start);
-            }
             match keep_lines(scratch, walked.lines, table, start) {
                 Kept::Full => RuleKept::Full,
                 Kept::End(end) => RuleKept::End(end),

@@ -23,7 +23,7 @@ pub enum Walks {
     Kept,
 }
 
-// Walks every rule of the `count` equations in order, and keeps the lines of those that are usable, one behind the other. Where they do not fit together, only
+// Walks every rule of the `count` equations in order, and keeps their lines, one behind the other. Where they do not fit together, only
 // those of the last rule are kept.
 pub fn keep_rules(
     equations: &[u8],

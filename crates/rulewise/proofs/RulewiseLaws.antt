@@ -13,6 +13,7 @@ use Rattle.format.specs.Lists.{entry}
 use Rattle.format.specs.Theory.Lists.{entry-length}
 use Rattle.format.specs.Theory.Behind.{behind-more, cells-behind}
 use Rattle.terms.specs.Term.{Term, size, sizes}
+use Rattle.terms.specs.Filling.{filling}
 use Rattle.terms.specs.Equation.{Equation, Direction, source}
 use Rattle.terms.specs.declared.arguments.Arguments.{Arguments}
 use Rattle.terms.specs.Contracts.Stored.{SubjectIs}
@@ -87,7 +88,7 @@ module _ (equations lengths : List ℕ) (rule : ℕ) (table : List ℕ) (lines :
     pub settled : Settled nodes sizes ready cells
     pub same : (arities : List ℕ) (subject : Term) → SubjectIs nodes₀ sizes₀ arities subject → SubjectIs nodes sizes arities subject
     pub none-before : (arities : List ℕ) (i : ℕ) (e : Equation) (d : Direction) (subject : Term) → KeptTry equations lengths rule table lines nodes₀ sizes₀ from end arities i e d subject
-        → (p : ℕ) → position-count + p < node → try line-test subject p (part-at subject p) i e d ≡ none
+        → (p : ℕ) → position-count + p < node → try (filling arities) line-test subject p (part-at subject p) i e d ≡ none
 
 pub subject-settled : {nodes sizes arities cells ready : List ℕ} {subject : Term} → SubjectIs nodes sizes arities subject → length cells ≡ cell-count → ready ≡ replicate node-count 0
     → Settled nodes sizes ready cells
@@ -122,7 +123,7 @@ module _ {equations lengths : List ℕ} {rule : ℕ} {table : List ℕ} {lines :
     }
 
     module _ (l : node < end) {r : Bool}
-        (a : (arities : List ℕ) (i : ℕ) (e : Equation) (d : Direction) (subject : Term) (p : ℕ) → TryIs equations lengths rule table lines nodes sizes node arities i e d subject p → Applies subject p i e d r) where
+        (a : (arities : List ℕ) (i : ℕ) (e : Equation) (d : Direction) (subject : Term) (p : ℕ) → TryIs equations lengths rule table lines nodes sizes node arities i e d subject p → Applies (filling arities) subject p i e d r) where
       pub trying-next : {nodes′ sizes′ ready′ cells′ : List ℕ} → r ≡ false → Settled nodes′ sizes′ ready′ cells′
           → ((arities : List ℕ) (subject : Term) → SubjectIs nodes sizes arities subject → SubjectIs nodes′ sizes′ arities subject)
           → Trying equations lengths rule table lines nodes₀ sizes₀ from end nodes′ sizes′ ready′ cells′ (node + 1)
@@ -135,12 +136,12 @@ module _ {equations lengths : List ℕ} {rule : ℕ} {table : List ℕ} {lines :
           | yes b ↦ k .none-before arities i e d subject t p b
           | no n ↦
               let z : node - position-count ≡ p = omega (arith, t .low, k .low) in
-              subst (λ p. try line-test subject p (part-at subject p) i e d ≡ none) z (a arities i e d subject (node - position-count) (try-here l t) .cannot h)
+              subst (λ p. try (filling arities) line-test subject p (part-at subject p) i e d ≡ none) z (a arities i e d subject (node - position-count) (try-here l t) .cannot h)
         ];
       }
 
       pub trying-found : r ≡ true → (arities : List ℕ) (i : ℕ) (e : Equation) (d : Direction) (subject : Term) → KeptTry equations lengths rule table lines nodes₀ sizes₀ from end arities i e d subject
-          → FirstFor subject i e d end node
+          → FirstFor arities subject i e d end node
       trying-found h arities i e d subject t =
           let (s, x) = a arities i e d subject (node - position-count) (try-here l t) .can h in
           record { within = k .within; none-before = k .none-before arities i e d subject t; can = λ l. (node - position-count, s, omega (arith, t .low, k .low), x) }
@@ -153,14 +154,14 @@ module _ {equations lengths : List ℕ} {rule : ℕ} {table : List ℕ} {lines :
       trying-sizes = k .same (h .arities) (h .subject) (h .is .subject-is) .lengths-length ∙ sym (h .is .subject-is .lengths-length)
 
     pub trying-done : end ≤ node → (arities : List ℕ) (i : ℕ) (e : Equation) (d : Direction) (subject : Term) → KeptTry equations lengths rule table lines nodes₀ sizes₀ from end arities i e d subject
-        → FirstFor subject i e d end end
+        → FirstFor arities subject i e d end end
     trying-done h arities i e d subject t =
         record { within = omega arith; none-before = λ p l. k .none-before arities i e d subject t p (omega arith); can = λ l. absurd (omega arith) }
 
 -- 3. A rule whose lines are not kept.
 module _ {equations lengths : List ℕ} {rule : ℕ} {nodes sizes : List ℕ} {end : ℕ} {arities : List ℕ} {i : ℕ} {e : Equation} {d : Direction} {subject : Term}
     (u : UnkeptTry equations lengths rule nodes sizes end arities i e d subject) where
-  pub none-for : ((p : ℕ) → position-count + p < end → try line-test subject p (part-at subject p) i e d ≡ none) → FirstFor subject i e d end end
+  pub none-for : ((p : ℕ) → position-count + p < end → try (filling arities) line-test subject p (part-at subject p) i e d ≡ none) → FirstFor arities subject i e d end end
   none-for h = record { within = omega arith; none-before = h; can = λ l. absurd (omega arith) }
 
   pub source-there : {side : Arguments} → SideIs equations lengths arities side (source e d) → SourceIs equations side nodes sizes end arities (source e d) subject
@@ -193,7 +194,7 @@ module _ {equations lengths : List ℕ} {rule : ℕ} {nodes sizes : List ℕ} {e
         low = m .low;
         ordered = m .within;
         inside = u .inside;
-        none-before = λ p l. none-matches subject p i e d (m .none-before p l);
+        none-before = λ p l. none-matches (filling arities) subject p i e d (m .none-before p l);
       }
 
 -- The lines of a rule are kept at the front of the table, and what is behind the table stays.
@@ -212,7 +213,7 @@ pub scratch-after-cells : (cells walked : List ℕ) → length cells ≡ cell-co
 scratch-after-cells cells walked h = cells-behind walked cells h
 
 -- 4. The first step of all. The rules before `rule` cannot step before node `best`; rule `found`, if there is one, can step there, and none before it can.
-pub record FoundHere (es : List Equation) (subject : Term) (best found : ℕ) : Type 0 where
+pub record FoundHere (arities : List ℕ) (es : List Equation) (subject : Term) (best found : ℕ) : Type 0 where
   pub number : ℕ
   pub equation : Equation
   pub direction : Direction
@@ -222,13 +223,13 @@ pub record FoundHere (es : List Equation) (subject : Term) (best found : ℕ) : 
   pub node-is : best ≡ position-count + position
   pub inside : position < size subject
   pub numbered : entry es number ≡ some equation
-  pub possible : try line-test subject position (part-at subject position) number equation direction ≡ some this
-  pub none-earlier : (j : ℕ) (e : Equation) (c : Direction) → entry es j ≡ some e → rule-number j c < found → try line-test subject position (part-at subject position) j e c ≡ none
+  pub possible : try (filling arities) line-test subject position (part-at subject position) number equation direction ≡ some this
+  pub none-earlier : (j : ℕ) (e : Equation) (c : Direction) → entry es j ≡ some e → rule-number j c < found → try (filling arities) line-test subject position (part-at subject position) j e c ≡ none
 
-pub record FoundTo (es : List Equation) (subject : Term) (rules best found rule : ℕ) : Type 0 where
+pub record FoundTo (arities : List ℕ) (es : List Equation) (subject : Term) (rules best found rule : ℕ) : Type 0 where
   pub none-before : (p j : ℕ) (e : Equation) (c : Direction) → position-count + p < best → entry es j ≡ some e → rule-number j c < rule
-      → try line-test subject p (part-at subject p) j e c ≡ none
-  pub here : found < rules → FoundHere es subject best found
+      → try (filling arities) line-test subject p (part-at subject p) j e c ≡ none
+  pub here : found < rules → FoundHere arities es subject best found
   pub unfound : rules ≤ found → position-count + size subject ≤ best
 
 module _ (equations lengths : List ℕ) (rules : ℕ) (nodes₀ sizes₀ : List ℕ) (n : ℕ) (table₀ scratch₀ : List ℕ) where
@@ -240,7 +241,7 @@ module _ (equations lengths : List ℕ) (rules : ℕ) (nodes₀ sizes₀ : List 
     pub same : (arities : List ℕ) (subject : Term) → SubjectIs nodes₀ sizes₀ arities subject → SubjectIs nodes sizes arities subject
     pub low : position-count ≤ best
     pub within : best ≤ position-count + n
-    pub so-far : (arities : List ℕ) (es : List Equation) (subject : Term) → AllSolve equations lengths rules nodes₀ sizes₀ n arities es subject → FoundTo es subject rules best found rule
+    pub so-far : (arities : List ℕ) (es : List Equation) (subject : Term) → AllSolve equations lengths rules nodes₀ sizes₀ n arities es subject → FoundTo arities es subject rules best found rule
 
   pub finding-start : Finding table₀ nodes₀ sizes₀ scratch₀ (position-count + n) rules 0
   finding-start = record {
@@ -290,16 +291,16 @@ module _ {equations lengths : List ℕ} {rules : ℕ} {nodes₀ sizes₀ : List 
 
   -- The rule is tried, and its first node is `node`.
   module _ (h : HasAllSolve equations lengths rules nodes₀ sizes₀ n) (l : rule < rules) {node : ℕ} (after-table after-nodes after-sizes after-scratch : List ℕ)
-      (a : (arities : List ℕ) (i : ℕ) (e : Equation) (d : Direction) (subject : Term) → UnkeptTry equations lengths rule nodes sizes best arities i e d subject → FirstFor subject i e d best node)
+      (a : (arities : List ℕ) (i : ℕ) (e : Equation) (d : Direction) (subject : Term) → UnkeptTry equations lengths rule nodes sizes best arities i e d subject → FirstFor arities subject i e d best node)
       (same : (arities : List ℕ) (subject : Term) → SubjectIs nodes sizes arities subject → SubjectIs after-nodes after-sizes arities subject)
       (same-table : length after-table ≡ length table) (same-scratch : length after-scratch ≡ length scratch)
       (table-rest : drop table-bytes after-table ≡ drop table-bytes table) (scratch-rest : drop scratch-bytes after-scratch ≡ drop scratch-bytes scratch) where
     first-of : {arities : List ℕ} {es : List Equation} {subject : Term} → AllSolve equations lengths rules nodes₀ sizes₀ n arities es subject → (i : ℕ) (e : Equation) (d : Direction)
-        → entry es i ≡ some e → rule ≡ rule-number i d → FirstFor subject i e d best node
+        → entry es i ≡ some e → rule ≡ rule-number i d → FirstFor arities subject i e d best node
     first-of {arities} {es} {subject} s i e d x y = a arities i e d subject (try-rule s i e d x y)
 
     none-yet : {arities : List ℕ} {es : List Equation} {subject : Term} → AllSolve equations lengths rules nodes₀ sizes₀ n arities es subject → node ≤ best → (p j : ℕ) (e : Equation) (c : Direction)
-        → position-count + p < node → entry es j ≡ some e → rule-number j c < rule + 1 → try line-test subject p (part-at subject p) j e c ≡ none
+        → position-count + p < node → entry es j ≡ some e → rule-number j c < rule + 1 → try (filling arities) line-test subject p (part-at subject p) j e c ≡ none
     none-yet {arities} {es} {subject} s w p j e c b x m = elim (decLt (rule-number j c) rule) [
       | yes q ↦ k .so-far arities es subject s .none-before p j e c (omega arith) x q
       | no q ↦ first-of s j e c x (omega arith) .none-before p b
@@ -379,10 +380,10 @@ module _ {equations lengths : List ℕ} {rules : ℕ} {nodes₀ sizes₀ : List 
 
   -- All rules are tried.
   module _ (all : rules ≤ rule) (arities : List ℕ) (es : List Equation) (subject : Term) (a : AllSolve equations lengths rules nodes₀ sizes₀ n arities es subject) where
-    none-at : (p j : ℕ) (e : Equation) (c : Direction) → position-count + p < best → entry es j ≡ some e → try line-test subject p (part-at subject p) j e c ≡ none
+    none-at : (p j : ℕ) (e : Equation) (c : Direction) → position-count + p < best → entry es j ≡ some e → try (filling arities) line-test subject p (part-at subject p) j e c ≡ none
     none-at p j e c l x = k .so-far arities es subject a .none-before p j e c l x (omega (arith, a .counted, rule-low j c (entry-length es j x)))
 
-    pub step-found : found < rules → StepAt es subject found best
+    pub step-found : found < rules → StepAt arities es subject found best
     step-found l =
         let f = k .so-far arities es subject a .here l in
         record {
@@ -396,7 +397,7 @@ module _ {equations lengths : List ℕ} {rules : ℕ} {nodes₀ sizes₀ : List 
           inside = f .inside;
           numbered = f .numbered;
           possible = f .possible;
-          first = step-first line-test subject es (record {
+          first = step-first (filling arities) line-test subject es (record {
             inside = f .inside;
             numbered = f .numbered;
             possible = f .possible;
@@ -405,5 +406,5 @@ module _ {equations lengths : List ℕ} {rules : ℕ} {nodes₀ sizes₀ : List 
           });
         }
 
-    pub nothing-found : rules ≤ found → step line-test es subject ≡ none
-    nothing-found l = step-none line-test subject es (λ p j c m e x. none-at p j e c (omega (arith, k .so-far arities es subject a .unfound l)) x)
+    pub nothing-found : rules ≤ found → step (filling arities) line-test es subject ≡ none
+    nothing-found l = step-none (filling arities) line-test subject es (λ p j c m e x. none-at p j e c (omega (arith, k .so-far arities es subject a .unfound l)) x)

@@ -5,7 +5,6 @@ use comparing::nodes::SUBJECT;
 use format::limits::Limits;
 use judging::trimmed::KeptLines;
 use matching::side::match_side;
-use matching::usable::is_usable;
 use rules::keep::RuleKept;
 use rules::keep::keep_rule;
 use rules::sides::sides_of;
@@ -52,7 +51,7 @@ fn first_applying(
     end: usize,
 ) -> usize
     requires { ⌜ HasKeptTry (now equations) (now lengths) rule (now table) lines (now nodes) (now sizes) from end × (length (now cells) ≡ cell-count) ⌝ }
-    ensures { λ r. ⌜ ((arities : List ℕ) (i : ℕ) (e : Equation) (d : Direction) (subject : Term) → KeptTry (now (equations .entry)) (now (lengths .entry)) rule (now (table .entry)) lines (now (nodes .entry)) (now (sizes .entry)) from end arities i e d subject → FirstFor subject i e d end r) ⌝ }
+    ensures { λ r. ⌜ ((arities : List ℕ) (i : ℕ) (e : Equation) (d : Direction) (subject : Term) → KeptTry (now (equations .entry)) (now (lengths .entry)) rule (now (table .entry)) lines (now (nodes .entry)) (now (sizes .entry)) from end arities i e d subject → FirstFor arities subject i e d end r) ⌝ }
     ensures { λ _. ⌜ ((arities : List ℕ) (subject : Term) → SubjectIs (now (nodes .entry)) (now (sizes .entry)) arities subject → SubjectIs (now (nodes .exit)) (now (sizes .exit)) arities subject) ⌝ }
 {
     let mut ready = [0u8; Limits::NODES];
@@ -90,15 +89,12 @@ fn first_node(
 ) -> usize
     requires { ⌜ HasUnkeptTry (now equations) (now lengths) rule (now nodes) (now sizes) end ⌝ }
     requires { ⌜ (table-bytes ≤ length (now table)) × (scratch-bytes ≤ length (now scratch)) ⌝ }
-    ensures { λ r. ⌜ ((arities : List ℕ) (i : ℕ) (e : Equation) (d : Direction) (subject : Term) → UnkeptTry (now (equations .entry)) (now (lengths .entry)) rule (now (nodes .entry)) (now (sizes .entry)) end arities i e d subject → FirstFor subject i e d end r) ⌝ }
+    ensures { λ r. ⌜ ((arities : List ℕ) (i : ℕ) (e : Equation) (d : Direction) (subject : Term) → UnkeptTry (now (equations .entry)) (now (lengths .entry)) rule (now (nodes .entry)) (now (sizes .entry)) end arities i e d subject → FirstFor arities subject i e d end r) ⌝ }
     ensures { λ _. ⌜ ((arities : List ℕ) (subject : Term) → SubjectIs (now (nodes .entry)) (now (sizes .entry)) arities subject → SubjectIs (now (nodes .exit)) (now (sizes .exit)) arities subject) ⌝ }
     ensures { λ _. ⌜ drop table-bytes (now (table .exit)) ≡ drop table-bytes (now (table .entry)) ⌝ }
     ensures { λ _. ⌜ drop scratch-bytes (now (scratch .exit)) ≡ drop scratch-bytes (now (scratch .entry)) ⌝ }
 {
     let sides = sides_of(lengths, rule);
-    if !is_usable(equations, sides.source, sides.target) {
-        return end;
-    }
     let from = first_match(equations, sides.source, nodes, sizes, end);
     if end <= from {
         return end;
@@ -136,7 +132,7 @@ pub fn find_by_rules(
 ) -> Found
     requires { ⌜ HasAllSolve (now equations) (now lengths) rules (now nodes) (now sizes) n ⌝ }
     requires { ⌜ (table-bytes ≤ length (now table)) × (scratch-bytes ≤ length (now scratch)) ⌝ }
-    ensures { λ r. ⌜ ((arities : List ℕ) (es : List Equation) (subject : Term) → AllSolve (now (equations .entry)) (now (lengths .entry)) rules (now (nodes .entry)) (now (sizes .entry)) n arities es subject → FoundIs es subject r) ⌝ }
+    ensures { λ r. ⌜ ((arities : List ℕ) (es : List Equation) (subject : Term) → AllSolve (now (equations .entry)) (now (lengths .entry)) rules (now (nodes .entry)) (now (sizes .entry)) n arities es subject → FoundIs arities es subject r) ⌝ }
     ensures { λ _. ⌜ ((arities : List ℕ) (subject : Term) → SubjectIs (now (nodes .entry)) (now (sizes .entry)) arities subject → SubjectIs (now (nodes .exit)) (now (sizes .exit)) arities subject) ⌝ }
     ensures { λ _. ⌜ drop table-bytes (now (table .exit)) ≡ drop table-bytes (now (table .entry)) ⌝ }
     ensures { λ _. ⌜ drop scratch-bytes (now (scratch .exit)) ≡ drop scratch-bytes (now (scratch .entry)) ⌝ }

@@ -10,6 +10,7 @@ use borrow.Author.Tests.{lt-ltb, le-ltb}
 use Rattle.format.specs.Limits.{max-byte, max-task-nodes, position-count, table-bytes, scratch-bytes}
 use Rattle.format.specs.Buffer.{written}
 use Rattle.terms.specs.Term.{Term, size}
+use Rattle.terms.specs.Filling.{filling}
 use Rattle.terms.specs.Equation.{Equation, Direction, left-right, right-left, direction-number}
 use Rattle.terms.specs.Contracts.Stored.{SubjectIs}
 use Rattle.reducing.specs.declared.ending.Ending.{Ending}
@@ -38,23 +39,23 @@ module _ {equations lengths : List ℕ} {rules : ℕ} {bounds next : List ℕ} {
   run-kept h s x = record { rows = is .rows; counted = is .counted; ready = ready-kept fits h (is .ready); subject-is = s; size-is = x }
 
 -- 2. The definition's run, by what is found before its first step.
-module _ (es : List Equation) where
-  run-without : (k : ℕ) (t : Term) → step line-test es t ≡ none → line-run es k t ≡ stopped none-found
+module _ (c : Term) (es : List Equation) where
+  run-without : (k : ℕ) (t : Term) → step c line-test es t ≡ none → line-run c es k t ≡ stopped none-found
   unfolding line-run run
   run-without zero t e = ap at-limit e
-  run-without (suc k) t e = ap (below-limit (λ s. line-run es k (s .result))) e
+  run-without (suc k) t e = ap (below-limit (λ s. line-run c es k (s .result))) e
 
-  run-at-limit : (t : Term) (s : Step) → step line-test es t ≡ some s → line-run es 0 t ≡ stopped limit-reached
+  run-at-limit : (t : Term) (s : Step) → step c line-test es t ≡ some s → line-run c es 0 t ≡ stopped limit-reached
   unfolding line-run run
   run-at-limit t s e = ap at-limit e
 
-  run-too-large : (k : ℕ) (t : Term) (s : Step) → step line-test es t ≡ some s → max-task-nodes < size (s .result) → line-run es (suc k) t ≡ stopped result-too-large
+  run-too-large : (k : ℕ) (t : Term) (s : Step) → step c line-test es t ≡ some s → max-task-nodes < size (s .result) → line-run c es (suc k) t ≡ stopped result-too-large
   unfolding line-run run
-  run-too-large k t s e h = ap (below-limit (λ s. line-run es k (s .result))) e ∙ ap (unless-large s (line-run es k (s .result))) (lt-ltb max-task-nodes (size (s .result)) h)
+  run-too-large k t s e h = ap (below-limit (λ s. line-run c es k (s .result))) e ∙ ap (unless-large s (line-run c es k (s .result))) (lt-ltb max-task-nodes (size (s .result)) h)
 
-  run-goes-on : (k : ℕ) (t : Term) (s : Step) → step line-test es t ≡ some s → size (s .result) ≤ max-task-nodes → line-run es (suc k) t ≡ after-step s (line-run es k (s .result))
+  run-goes-on : (k : ℕ) (t : Term) (s : Step) → step c line-test es t ≡ some s → size (s .result) ≤ max-task-nodes → line-run c es (suc k) t ≡ after-step s (line-run c es k (s .result))
   unfolding line-run run
-  run-goes-on k t s e h = ap (below-limit (λ s. line-run es k (s .result))) e ∙ ap (unless-large s (line-run es k (s .result))) (le-ltb max-task-nodes (size (s .result)) h)
+  run-goes-on k t s e h = ap (below-limit (λ s. line-run c es k (s .result))) e ∙ ap (unless-large s (line-run c es k (s .result))) (le-ltb max-task-nodes (size (s .result)) h)
 
 -- 3. The log of the steps done, and one more.
 pub length-log : (steps : List Step) → length (log-of steps) ≡ 3 * length steps
@@ -91,7 +92,7 @@ module _ (equations lengths : List ℕ) (rules : ℕ) (bounds next : List ℕ) (
     pub current : Term
     pub counted : steps ≡ length done
     pub is : RunIs equations lengths rules bounds next fits table nodes sizes n arities es current
-    pub goes-on : line-run es limit subject ≡ steps-then done (line-run es (limit - steps) current)
+    pub goes-on : line-run (filling arities) es limit subject ≡ steps-then done (line-run (filling arities) es (limit - steps) current)
     pub last : (more : List Step) → last-term subject (done ++ more) ≡ last-term current more
     pub logged : log ≡ written (log-of done) log₀
 
@@ -119,19 +120,19 @@ module _ {equations lengths : List ℕ} {rules : ℕ} {bounds next : List ℕ} {
     so-far = λ es subject is. record { done = []; current = subject; counted = refl; is = is; goes-on = whole es subject; last = λ more. refl; logged = refl };
   }
     where
-      whole : (es : List Equation) (subject : Term) → line-run es limit subject ≡ steps-then [] (line-run es (limit - 0) subject)
-      whole es subject = let e : limit ≡ limit - 0 = omega arith in subst (λ k. line-run es limit subject ≡ steps-then [] (line-run es k subject)) e refl
+      whole : (es : List Equation) (subject : Term) → line-run (filling arities) es limit subject ≡ steps-then [] (line-run (filling arities) es (limit - 0) subject)
+      whole es subject = let e : limit ≡ limit - 0 = omega arith in subst (λ k. line-run (filling arities) es limit subject ≡ steps-then [] (line-run (filling arities) es k subject)) e refl
 
   module _ {es : List Equation} {subject : Term} {table nodes sizes log : List ℕ} {n steps : ℕ} (h : Halfway equations lengths rules bounds next fits arities limit log₀ es subject table nodes sizes log n steps) where
     -- 5. The endings.
-    ended : {nodes′ sizes′ : List ℕ} (ending : Ending) → line-run es (limit - steps) (h .current) ≡ stopped ending → SubjectIs nodes′ sizes′ arities (h .current)
-        → CourseIs es limit subject arities nodes′ sizes′ log₀ log (record { steps = steps; ending = ending; size = n })
+    ended : {nodes′ sizes′ : List ℕ} (ending : Ending) → line-run (filling arities) es (limit - steps) (h .current) ≡ stopped ending → SubjectIs nodes′ sizes′ arities (h .current)
+        → CourseIs arities es limit subject nodes′ sizes′ log₀ log (record { steps = steps; ending = ending; size = n })
     unfolding last-term
     ended {nodes′} {sizes′} ending x s =
-        let whole : line-run es limit subject ≡ steps-then (h .done) (stopped ending) = h .goes-on ∙ ap (steps-then (h .done)) x in
-        let all : line-run es limit subject .steps ≡ h .done ++ [] = ap (λ r. r .steps) whole in
-        let same : line-run es limit subject .steps ≡ h .done = all ∙ append-nil (h .done) in
-        let final : last-term subject (line-run es limit subject .steps) ≡ h .current = ap (last-term subject) all ∙ h .last [] in
+        let whole : line-run (filling arities) es limit subject ≡ steps-then (h .done) (stopped ending) = h .goes-on ∙ ap (steps-then (h .done)) x in
+        let all : line-run (filling arities) es limit subject .steps ≡ h .done ++ [] = ap (λ r. r .steps) whole in
+        let same : line-run (filling arities) es limit subject .steps ≡ h .done = all ∙ append-nil (h .done) in
+        let final : last-term subject (line-run (filling arities) es limit subject .steps) ≡ h .current = ap (last-term subject) all ∙ h .last [] in
         record {
           steps-are = h .counted ∙ ap length (sym same);
           ending-is = sym (ap (λ r. r .ending) whole);
@@ -141,24 +142,24 @@ module _ {equations lengths : List ℕ} {rules : ℕ} {bounds next : List ℕ} {
         }
 
     module _ {nodes′ sizes′ : List ℕ} (s : SubjectIs nodes′ sizes′ arities (h .current)) where
-      pub none-ends : step line-test es (h .current) ≡ none → CourseIs es limit subject arities nodes′ sizes′ log₀ log (record { steps = steps; ending = none-found; size = n })
-      none-ends x = ended none-found (run-without es (limit - steps) (h .current) x) s
+      pub none-ends : step (filling arities) line-test es (h .current) ≡ none → CourseIs arities es limit subject nodes′ sizes′ log₀ log (record { steps = steps; ending = none-found; size = n })
+      none-ends x = ended none-found (run-without (filling arities) es (limit - steps) (h .current) x) s
 
-      module _ {rule node : ℕ} (found : StepAt es (h .current) rule node) where
-        pub limit-ends : steps ≡ limit → CourseIs es limit subject arities nodes′ sizes′ log₀ log (record { steps = steps; ending = limit-reached; size = n })
+      module _ {rule node : ℕ} (found : StepAt arities es (h .current) rule node) where
+        pub limit-ends : steps ≡ limit → CourseIs arities es limit subject nodes′ sizes′ log₀ log (record { steps = steps; ending = limit-reached; size = n })
         limit-ends x =
             let none-left : limit - steps ≡ 0 = omega arith in
-            ended limit-reached (ap (λ k. line-run es k (h .current)) none-left ∙ run-at-limit es (h .current) (found .this) (found .first)) s
+            ended limit-reached (ap (λ k. line-run (filling arities) es k (h .current)) none-left ∙ run-at-limit (filling arities) es (h .current) (found .this) (found .first)) s
 
         pub size-ends : (nodes″ sizes″ : List ℕ) → steps < limit → ReplacedAs arities nodes′ sizes′ nodes″ sizes″ (found .this .result) TooLarge
-            → CourseIs es limit subject arities nodes″ sizes″ log₀ log (record { steps = steps; ending = result-too-large; size = n })
+            → CourseIs arities es limit subject nodes″ sizes″ log₀ log (record { steps = steps; ending = result-too-large; size = n })
         size-ends nodes″ sizes″ x (large, a, b) =
             let more-left : limit - steps ≡ suc (limit - (steps + 1)) = omega arith in
             let left-as-is : SubjectIs nodes″ sizes″ arities (h .current) = subst (λ l. SubjectIs l sizes″ arities (h .current)) (sym a) (subst (λ l. SubjectIs nodes′ l arities (h .current)) (sym b) s) in
-            ended result-too-large (ap (λ k. line-run es k (h .current)) more-left ∙ run-too-large es (limit - (steps + 1)) (h .current) (found .this) (found .first) large) left-as-is
+            ended result-too-large (ap (λ k. line-run (filling arities) es k (h .current)) more-left ∙ run-too-large (filling arities) es (limit - (steps + 1)) (h .current) (found .this) (found .first) large) left-as-is
 
     -- 6. A step that is found can be taken and logged.
-    module _ {rule node : ℕ} (found : StepAt es (h .current) rule node) where
+    module _ {rule node : ℕ} (found : StepAt arities es (h .current) rule node) where
       pub step-is : {nodes′ sizes′ : List ℕ} → SubjectIs nodes′ sizes′ arities (h .current)
           → StepIs equations lengths rule arities nodes′ sizes′ node n (found .number) (found .equation) (found .direction) (h .current) (found .position) (found .this)
       step-is s = record {
@@ -181,7 +182,7 @@ module _ {equations lengths : List ℕ} {rules : ℕ} {bounds next : List ℕ} {
 
       bytes-are : step-bytes ≡ found .this .equation ∷ direction-number (found .this .direction) ∷ found .this .position ∷ []
       bytes-are =
-          let p = step-possible (h .current) (found .position) (found .number) (found .equation) (found .direction) (found .this) (found .possible) in
+          let p = step-possible (filling arities) (h .current) (found .position) (found .number) (found .equation) (found .direction) (found .this) (found .possible) in
           let (a, b) = rule-parts rule (found .number) (found .direction) (found .rule-is) in
           let place : node - position-count ≡ found .position = omega (arith, found .node-is) in
           let x : rule / 2 ≡ found .this .equation = a ∙ sym (p .numbered) in
@@ -197,7 +198,7 @@ module _ {equations lengths : List ℕ} {rules : ℕ} {bounds next : List ℕ} {
           let this = found .this in
           let more-left : limit - steps ≡ suc (limit - (steps + 1)) = omega arith in
           let small : size (this .result) ≤ max-task-nodes = omega (arith, s .stored .within) in
-          let further = line-run es (limit - (steps + 1)) (this .result) in
+          let further = line-run (filling arities) es (limit - (steps + 1)) (this .result) in
           record {
             done = h .done ++ (this ∷ []);
             current = this .result;
@@ -205,7 +206,7 @@ module _ {equations lengths : List ℕ} {rules : ℕ} {bounds next : List ℕ} {
             is = run-kept (h .is) t s x;
             goes-on =
                 h .goes-on
-                ∙ (ap (steps-then (h .done)) (ap (λ k. line-run es k (h .current)) more-left ∙ run-goes-on es (limit - (steps + 1)) (h .current) this (found .first) small)
+                ∙ (ap (steps-then (h .done)) (ap (λ k. line-run (filling arities) es k (h .current)) more-left ∙ run-goes-on (filling arities) es (limit - (steps + 1)) (h .current) this (found .first) small)
                 ∙ ap (λ l. record { steps = l; ending = further .ending }) (sym (append-assoc (h .done) (this ∷ []) (further .steps))));
             last = λ more. ap (last-term subject) (append-assoc (h .done) (this ∷ []) more) ∙ h .last (this ∷ more);
             logged =

@@ -43,7 +43,7 @@ pub fn run_steps(
 ) -> Course
     requires { ⌜ ((es : List Equation) × (subject : Term) × RunIs (now equations) (now lengths) rules (now bounds) (now next) fits (now table) (now nodes) (now sizes) n (now arities) es subject) ⌝ }
     requires { ⌜ (table-bytes ≤ length (now table)) × (scratch-bytes ≤ length (now scratch)) × (log-bytes ≤ length (now log)) × (limit ≤ max-steps) ⌝ }
-    ensures { λ r. ⌜ ((es : List Equation) (subject : Term) → RunIs (now (equations .entry)) (now (lengths .entry)) rules (now (bounds .entry)) (now (next .entry)) fits (now (table .entry)) (now (nodes .entry)) (now (sizes .entry)) n (now (arities .entry)) es subject → CourseIs es limit subject (now (arities .entry)) (now (nodes .exit)) (now (sizes .exit)) (now (log .entry)) (now (log .exit)) r) ⌝ }
+    ensures { λ r. ⌜ ((es : List Equation) (subject : Term) → RunIs (now (equations .entry)) (now (lengths .entry)) rules (now (bounds .entry)) (now (next .entry)) fits (now (table .entry)) (now (nodes .entry)) (now (sizes .entry)) n (now (arities .entry)) es subject → CourseIs (now (arities .entry)) es limit subject (now (nodes .exit)) (now (sizes .exit)) (now (log .entry)) (now (log .exit)) r) ⌝ }
     ensures { λ _. ⌜ (fits ≡ true → now (table .exit) ≡ now (table .entry)) ⌝ }
     ensures { λ _. ⌜ drop table-bytes (now (table .exit)) ≡ drop table-bytes (now (table .entry)) ⌝ }
     ensures { λ _. ⌜ drop scratch-bytes (now (scratch .exit)) ≡ drop scratch-bytes (now (scratch .entry)) ⌝ }

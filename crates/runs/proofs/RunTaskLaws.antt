@@ -14,6 +14,7 @@ use Rattle.format.specs.declared.refusal.Refusal.{Refusal}
 use Rattle.format.specs.declared.refusal.Refusal.the-variants.{AbsentArgument as absent-argument}
 use Rattle.terms.specs.Term.{Term, nil, cons, size, Ground}
 use Rattle.terms.specs.Equation.{Equation}
+use Rattle.terms.specs.Filling.{filling}
 use Rattle.terms.specs.Prefix.{prefix}
 use Rattle.sheet.specs.Sheet.{Task, run, judgement, comparison, Sheet}
 use Rattle.sheet.specs.Reading.{accepted, read}
@@ -49,16 +50,16 @@ module _ (es : List Equation) (bounds table : List ℕ) where
   walks-ready Full other w = w .1
   walks-ready Kept other w = w .2
 
-pub ran-as : {es : List Equation} {k : ℕ} {subject : Term} {term term-after log log-after : List ℕ} {r : ℕ} (walks : Walks) → ((why : Refusal) (number : ℕ) → walks ≡ Refused why number → ⊥)
-    → Ran es k subject term term-after log log-after r → RanAs walks es k subject term term-after log log-after r
+pub ran-as : {arities : List ℕ} {es : List Equation} {k : ℕ} {subject : Term} {term term-after log log-after : List ℕ} {r : ℕ} (walks : Walks) → ((why : Refusal) (number : ℕ) → walks ≡ Refused why number → ⊥)
+    → Ran arities es k subject term term-after log log-after r → RanAs walks arities es k subject term term-after log log-after r
 ran-as (Refused why number) other d = absurd (other why number refl)
 ran-as Full other d = d
 ran-as Kept other d = d
 
-pub refused-as : {walks : Walks} (es : List Equation) (k : ℕ) (subject : Term) (term log : List ℕ) {r : ℕ} {why : Refusal} {number : ℕ} → walks ≡ Refused why number → r ≡ refusal-number why (number + 2)
-    → RanAs walks es k subject term term log log r
+pub refused-as : {walks : Walks} (arities : List ℕ) (es : List Equation) (k : ℕ) (subject : Term) (term log : List ℕ) {r : ℕ} {why : Refusal} {number : ℕ} → walks ≡ Refused why number → r ≡ refusal-number why (number + 2)
+    → RanAs walks arities es k subject term term log log r
 unfolding equation-line
-refused-as es k subject term log {r} e x = subst (λ w. RanAs w es k subject term term log log r) (sym e) (x, refl, refl)
+refused-as arities es k subject term log {r} e x = subst (λ w. RanAs w arities es k subject term term log log r) (sym e) (x, refl, refl)
 
 -- 2. What run earns.
 abbrev pub outcome : ℕ → (table scratch term log : List ℕ) → RunOutcome
@@ -76,27 +77,27 @@ module _ (table scratch term log : List ℕ) (k : ℕ) (subject : Term) {r : ℕ
       ∙ ap (λ t. outcome r blank clear t l) (sym y)
       ∙ ap (outcome r blank clear term-after) (sym z)
 
-  ran-outcome : (es : List Equation) → first-refusal 0 es ≡ none → Ran es k subject term term-after log log-after r
-      → run-walked table scratch term log (record { equations = es; limit = k; subject = subject }) (first-refusal 0 es) ≡ outcome r blank clear term-after log-after
+  ran-outcome : (arities : List ℕ) (es : List Equation) → first-refusal 0 es ≡ none → Ran arities es k subject term term-after log log-after r
+      → run-walked table scratch term log (record { filling = filling arities; equations = es; limit = k; subject = subject }) (first-refusal 0 es) ≡ outcome r blank clear term-after log-after
   unfolding run-walked run-done
-  ran-outcome es e d = ap (run-walked table scratch term log (record { equations = es; limit = k; subject = subject })) e ∙ left-as _ _ _ (d .returned) (d .term-is) (d .log-is)
+  ran-outcome arities es e d = ap (run-walked table scratch term log (record { filling = filling arities; equations = es; limit = k; subject = subject })) e ∙ left-as _ _ _ (d .returned) (d .term-is) (d .log-is)
 
-  walked-outcome : (walks : Walks) (es : List Equation) (bounds kept : List ℕ) → WalksAs es bounds kept walks → RanAs walks es k subject term term-after log log-after r
-      → run-walked table scratch term log (record { equations = es; limit = k; subject = subject }) (first-refusal 0 es) ≡ outcome r blank clear term-after log-after
+  walked-outcome : (walks : Walks) (arities : List ℕ) (es : List Equation) (bounds kept : List ℕ) → WalksAs es bounds kept walks → RanAs walks arities es k subject term term-after log log-after r
+      → run-walked table scratch term log (record { filling = filling arities; equations = es; limit = k; subject = subject }) (first-refusal 0 es) ≡ outcome r blank clear term-after log-after
   unfolding run-walked
-  walked-outcome (Refused why number) es bounds kept w d =
-      ap (run-walked table scratch term log (record { equations = es; limit = k; subject = subject })) w ∙ left-as _ _ _ (d .0) (d .1) (d .2)
-  walked-outcome Full es bounds kept w d = ran-outcome es (w .0) d
-  walked-outcome Kept es bounds kept w d = ran-outcome es (w .0) d
+  walked-outcome (Refused why number) arities es bounds kept w d =
+      ap (run-walked table scratch term log (record { filling = filling arities; equations = es; limit = k; subject = subject })) w ∙ left-as _ _ _ (d .0) (d .1) (d .2)
+  walked-outcome Full arities es bounds kept w d = ran-outcome arities es (w .0) d
+  walked-outcome Kept arities es bounds kept w d = ran-outcome arities es (w .0) d
 
 module _ (sheet table scratch term log : List ℕ) (task : ℕ) where
   abbrev pub answered : RunOutcome
   answered = run-answer table scratch term log (asked true sheet (reduction-task task))
 
-  answer-of : (s : Sheet) → read sheet ≡ accepted s → (o : Option Task) → entry (s .tasks) task ≡ o → answered ≡ run-answer table scratch term log (found (reduction-in (s .equations) o))
+  answer-of : (s : Sheet) → read sheet ≡ accepted s → (o : Option Task) → entry (s .tasks) task ≡ o → answered ≡ run-answer table scratch term log (found (reduction-in (filling (s .arities)) (s .equations) o))
   unfolding asked find reduction-task
   answer-of s r o h =
-      ap (λ x. run-answer table scratch term log (find (reduction-task task) x)) r ∙ ap (λ o. run-answer table scratch term log (found (reduction-in (s .equations) o))) h
+      ap (λ x. run-answer table scratch term log (find (reduction-task task) x)) r ∙ ap (λ o. run-answer table scratch term log (found (reduction-in (filling (s .arities)) (s .equations) o))) h
 
   module _ (known : Known) (a : Accepts sheet known) where
     pub task-absent : known .tasks ≤ task → {n : ℕ} → n ≡ refusal-number absent-argument 0 → answered ≡ outcome n table scratch term log
@@ -153,14 +154,16 @@ module _ {sheet : List ℕ} {known : Known} {limit from end task : ℕ} (i : Red
   pub its-equations-counted : known .equations ≡ length its-equations
   its-equations-counted = i .accepts .2 .equations-are ∙ ap (λ s. length (s .equations)) same-sheet
 
+  its-arities : known-arities known ≡ i .is-task .0 .arities
+  its-arities = i .accepts .2 .arities-are ∙ ap (λ s. s .arities) same-sheet
+
   its-term : TermsIn sheet (known-arities known) from end (cons (i .subject) nil)
   unfolding task-terms prefix size
   its-term =
       let g = i .accepts .2 in
-      let arities = g .arities-are ∙ ap (λ s. s .arities) same-sheet in
       record {
         spans = subst (Spans sheet from end) (sym (append-nil (prefix (i .subject)))) (i .spans);
-        ground = (subst (λ arities. Ground arities (i .subject)) (sym arities) (valid-task .1), tt);
+        ground = (subst (λ arities. Ground arities (i .subject)) (sym its-arities) (valid-task .1), tt);
         few-nodes = omega (arith, valid-task .2);
         few-symbols = omega (arith, ap length (g .arities-are), g .valid .symbols .few-symbols);
       }
@@ -177,9 +180,10 @@ module _ {sheet : List ℕ} {known : Known} {limit from end task : ℕ} (i : Red
       }
 
   pub reduction-answered : (table scratch term log : List ℕ) {r : ℕ} {blank clear term-after log-after : List ℕ} (walks : Walks) (bounds kept : List ℕ) → blank ≡ blanked table → clear ≡ cleared scratch
-      → WalksAs its-equations bounds kept walks → RanAs walks its-equations limit (i .subject) term term-after log log-after r
+      → WalksAs its-equations bounds kept walks → RanAs walks (known-arities known) its-equations limit (i .subject) term term-after log log-after r
       → answered sheet table scratch term log task ≡ outcome r blank clear term-after log-after
   unfolding run-answer found reduction-in
-  reduction-answered table scratch term log walks bounds kept b c w d =
+  reduction-answered table scratch term log {r} {term-after = term-after} {log-after} walks bounds kept b c w d =
       answer-of sheet table scratch term log task (i .is-task .0) (i .is-task .1) (some (run limit (i .subject))) (i .is-task .2)
-      ∙ walked-outcome table scratch term log limit (i .subject) b c walks its-equations bounds kept w d
+      ∙ walked-outcome table scratch term log limit (i .subject) b c walks (i .is-task .0 .arities) its-equations bounds kept w
+      (subst (λ a. RanAs walks a its-equations limit (i .subject) term term-after log log-after r) its-arities d)

@@ -21,6 +21,7 @@ ghost use lib.ListN.{length, drop};
 ghost use Rattle.format.specs.Limits.{max-steps, table-bytes, scratch-bytes, term-bytes, log-bytes};
 ghost use Rattle.terms.specs.Term.{Term};
 ghost use Rattle.terms.specs.Equation.{Equation};
+ghost use Rattle.scanning.specs.Contracts.Scan.{known-arities};
 ghost use Rattle.reading.specs.Contracts.Seek.{Accepts};
 ghost use Rattle.outcomes.specs.Asked.{asked, reduction-task};
 ghost use Rattle.outcomes.specs.Outcome.{run-answer};
@@ -57,7 +58,7 @@ fn run_walked(
 ) -> u64
     requires { ⌜ HasWalked (now sheet) known from end (now equations) (now lengths) (now bounds) walks (now table) × (limit ≤ max-steps) ⌝ }
     requires { ⌜ (table-bytes ≤ length (now table)) × (scratch-bytes ≤ length (now scratch)) × (term-bytes ≤ length (now term)) × (log-bytes ≤ length (now log)) ⌝ }
-    ensures { λ r. ⌜ ((es : List Equation) (subject : Term) → RunTermIs (now (sheet .entry)) known from end (now (equations .entry)) (now (lengths .entry)) (now (bounds .entry)) es subject → WalksAs es (now (bounds .entry)) (now (table .entry)) walks → RanAs walks es limit subject (now (term .entry)) (now (term .exit)) (now (log .entry)) (now (log .exit)) r) ⌝ }
+    ensures { λ r. ⌜ ((es : List Equation) (subject : Term) → RunTermIs (now (sheet .entry)) known from end (now (equations .entry)) (now (lengths .entry)) (now (bounds .entry)) es subject → WalksAs es (now (bounds .entry)) (now (table .entry)) walks → RanAs walks (known-arities known) es limit subject (now (term .entry)) (now (term .exit)) (now (log .entry)) (now (log .exit)) r) ⌝ }
     ensures { λ _. ⌜ drop table-bytes (now (table .exit)) ≡ drop table-bytes (now (table .entry)) ⌝ }
     ensures { λ _. ⌜ drop scratch-bytes (now (scratch .exit)) ≡ drop scratch-bytes (now (scratch .entry)) ⌝ }
 {

@@ -25,7 +25,7 @@ use Rattle.terms.specs.Theory.Stored.{stored-head, stored-room}
 use Rattle.solving.specs.Line.{Line, line, binding-byte, element-bytes}
 use Rattle.solving.specs.Judge.{first-holding}
 use Rattle.reducing.specs.Theory.Step.{tested}
-use Rattle.reducing.specs.Match.{Match, no-match, match, match-each, values-of, usable}
+use Rattle.reducing.specs.Match.{Match, no-match, match, match-each, values-of}
 use Rattle.reducing.specs.Run.{Step, try}
 use Rattle.reducing.specs.Test.{line-test}
 use Rattle.reducing.specs.Contracts.Rules.{rule-number}
@@ -127,29 +127,22 @@ unfolding direction-number
 rule-below es i left-right x = omega (arith, entry-length es i x)
 rule-below es i right-left x = omega (arith, entry-length es i x)
 
--- A rule that fails its test wherever it is usable and matches cannot step.
-module _ (subject : Term) (p : ℕ) (part : Term) (i : ℕ) (e : Equation) (d : Direction) where
+-- A rule that fails its test wherever it matches cannot step.
+module _ (filling subject : Term) (p : ℕ) (part : Term) (i : ℕ) (e : Equation) (d : Direction) where
   abbrev when-matched : Option Match → Option Step
-  when-matched o = elim o [ none ↦ none | some m ↦ tested subject p i e d m (line-test e d (values-of m)) ]
+  when-matched o = elim o [ none ↦ none | some m ↦ tested filling subject p i e d m (line-test e d (values-of filling m)) ]
 
-  abbrev when-used : Bool → Option Step
-  when-used b = elim b [ false ↦ none | true ↦ when-matched (match (source e d) part no-match) ]
-
-  no-step : ((m : Match) → match (source e d) part no-match ≡ some m → usable e d ≡ true → line-test e d (values-of m) ≡ false) → try line-test subject p part i e d ≡ none
+  no-step : ((m : Match) → match (source e d) part no-match ≡ some m → line-test e d (values-of filling m) ≡ false) → try filling line-test subject p part i e d ≡ none
   unfolding try
-  no-step h = by-use (usable e d) refl
+  no-step h = by-match (match (source e d) part no-match) refl
     where
-      by-test : (m : Match) (b : Bool) → b ≡ false → tested subject p i e d m b ≡ none
+      by-test : (m : Match) (b : Bool) → b ≡ false → tested filling subject p i e d m b ≡ none
       by-test m false x = refl
       by-test m true x = let z : _≡_ {A = ℕ} 0 1 = cc in absurd (omega arith)
 
-      by-match : usable e d ≡ true → (o : Option Match) → match (source e d) part no-match ≡ o → when-matched o ≡ none
-      by-match u none x = refl
-      by-match u (some m) x = by-test m (line-test e d (values-of m)) (h m x u)
-
-      by-use : (b : Bool) → usable e d ≡ b → when-used b ≡ none
-      by-use false u = refl
-      by-use true u = by-match u (match (source e d) part no-match) refl
+      by-match : (o : Option Match) → match (source e d) part no-match ≡ o → when-matched o ≡ none
+      by-match none x = refl
+      by-match (some m) x = by-test m (line-test e d (values-of filling m)) (h m x)
 
 -- Terms with other symbols do not match.
 other-top : (g f : ℕ) (ss ts : Terms) → (g ≡ f → ⊥) → match (app g ss) (app f ts) no-match ≡ none
@@ -171,16 +164,17 @@ no-lines (line θ es ∷ ls) h =
 module _ {bounds table : List ℕ} {rule : ℕ} {e : Equation} {d : Direction} (r : RuleAt bounds table rule e d) where
   idle-without-lines : (f i : ℕ) → getD bounds (suc rule) 0 ≤ getD bounds rule 0 → Idle f i e d
   unfolding first-holding
-  idle-without-lines f i h subject p ts =
+  idle-without-lines f i h filling subject p ts =
       let none-kept : r .lines ≡ [] = no-lines (r .lines) (omega (arith, r .there .ends)) in
-      no-step subject p (app f ts) i e d (λ m x u. r .are .tests u (values-of m) ∙ ap (λ ls. ltb 0 (first-holding (values-of m) (value e (values-of m)) ls)) none-kept)
+      no-step filling subject p (app f ts) i e d
+      (λ m x. r .are .tests (values-of filling m) ∙ ap (λ ls. ltb 0 (first-holding (values-of filling m) (value e (values-of filling m)) ls)) none-kept)
 
   passed-idle : {equations : List ℕ} {from top : ℕ} {live : Bool} {f : ℕ} (i : ℕ) → PartAt equations from (prefix (source e d)) → top ≡ getD equations from 0
       → (live ≡ false → getD bounds (suc rule) 0 ≤ getD bounds rule 0) → PassedAt top live f → Idle f i e d
   unfolding prefix
   passed-idle {f = f} i s t l (inl h) = idle-without-lines f i (l h)
-  passed-idle {equations} {from} {top} {f = f} i s t l (inr (h, n)) = λ subject p ts.
-      no-step subject p (app f ts) i e d (λ m x u. absurd (go (source e d) s ts x))
+  passed-idle {equations} {from} {top} {f = f} i s t l (inr (h, n)) = λ filling subject p ts.
+      no-step filling subject p (app f ts) i e d (λ m x. absurd (go (source e d) s ts x))
     where
       go : (t : Term) → PartAt equations from (prefix t) → (ts : Terms) {m : Match} → match t (app f ts) no-match ≡ some m → ⊥
       go (var v) s ts x = omega (arith, stored-head s)

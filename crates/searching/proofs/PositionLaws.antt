@@ -11,6 +11,7 @@ use Rattle.format.specs.Limits.{max-symbols, max-equations, variable-count, pos
 use Rattle.format.specs.Lists.{entry}
 use Rattle.terms.specs.Term.{Term, Terms, var, app, size}
 use Rattle.terms.specs.Prefix.{prefix}
+use Rattle.terms.specs.Filling.{filling}
 use Rattle.terms.specs.Equation.{Equation, Direction}
 use Rattle.terms.specs.Contracts.Stored.{GroundStored, SubjectIs}
 use Rattle.terms.specs.Theory.Stored.{stored-head, ground-size}
@@ -57,15 +58,15 @@ module _ (equations lengths : List ℕ) (rules : ℕ) (bounds next table nodes s
   abbrev Search : List ℕ → List Equation → Term → Type 0
   Search = SearchIs equations lengths rules bounds next table nodes sizes
 
-  pub record NoneBelow (es : List Equation) (subject : Term) (rule : ℕ) : Type 0 where
+  pub record NoneBelow (arities : List ℕ) (es : List Equation) (subject : Term) (rule : ℕ) : Type 0 where
     pub within : rule ≤ rules
     pub none-earlier : (p j : ℕ) (e : Equation) (c : Direction) → node ≡ position-count + p → entry es j ≡ some e → rule-number j c < rule
-        → try line-test subject p (part-at subject p) j e c ≡ none
+        → try (filling arities) line-test subject p (part-at subject p) j e c ≡ none
 
   pub record Seeking (nodes-now sizes-now ready cells : List ℕ) (rule : ℕ) : Type 0 where
     pub settled : Settled nodes-now sizes-now ready cells
     pub subject-kept : (arities : List ℕ) (subject : Term) → SubjectIs nodes sizes arities subject → SubjectIs nodes-now sizes-now arities subject
-    pub passed : (arities : List ℕ) (es : List Equation) (subject : Term) → Search arities es subject → NoneBelow es subject rule
+    pub passed : (arities : List ℕ) (es : List Equation) (subject : Term) → Search arities es subject → NoneBelow arities es subject rule
 
 -- The kept lines of a rule, as the code reads their bounds.
 abbrev lines-of : List ℕ → ℕ → KeptLines
@@ -94,11 +95,11 @@ module _ {equations lengths : List ℕ} {rules : ℕ} {bounds next table nodes s
 
     idle-here : {arities : List ℕ} {es : List Equation} {subject : Term} → SearchIs equations lengths rules bounds next table nodes sizes arities es subject
         → (p k i : ℕ) (e : Equation) (d : Direction) → node ≡ position-count + p → entry es i ≡ some e → k ≤ rule-number i d → rule-number i d < next-at next f k
-        → try line-test subject p (part-at subject p) i e d ≡ none
-    idle-here {subject = subject} s p k i e d a n b c =
+        → try (filling arities) line-test subject p (part-at subject p) i e d ≡ none
+    idle-here {arities} {subject = subject} s p k i e d a n b c =
         let y = symbol-at (s .subject-is) (inside-all (s .subject-is) a) a in
         let part : part-at subject p ≡ app f (y .arguments) = y .is ∙ ap (λ g. app g (y .arguments)) (sym read) in
-        subst (λ t. try line-test subject p t i e d ≡ none) (sym part) (s .next-is .idle f k i e d symbol-known n b c subject p (y .arguments))
+        subst (λ t. try (filling arities) line-test subject p t i e d ≡ none) (sym part) (s .next-is .idle f k i e d symbol-known n b c (filling arities) subject p (y .arguments))
 
     pub seeking-start : {first : ℕ} {ready cells : List ℕ} → first ≡ getD next (f * bound-count) 0 → Settled nodes sizes ready cells
         → Seeking equations lengths rules bounds next table nodes sizes node nodes sizes ready cells first
@@ -151,9 +152,9 @@ module _ {equations lengths : List ℕ} {rules : ℕ} {bounds next table nodes s
         }
 
     module _ {r : Bool} (told : (arities : List ℕ) (i : ℕ) (e : Equation) (d : Direction) (subject : Term) (p : ℕ)
-        → TryIs equations lengths rule table (lines-of bounds rule) nodes-now sizes-now node arities i e d subject p → Applies subject p i e d r) where
+        → TryIs equations lengths rule table (lines-of bounds rule) nodes-now sizes-now node arities i e d subject p → Applies (filling arities) subject p i e d r) where
       pub seeking-found : r ≡ true → (arities : List ℕ) (es : List Equation) (subject : Term) → SearchIs equations lengths rules bounds next table nodes sizes arities es subject
-          → FirstRule es subject rules node rule
+          → FirstRule arities es subject rules node rule
       seeking-found y arities es subject s = record {
         within = omega arith;
         none-earlier = x .passed arities es subject s .none-earlier;
@@ -188,7 +189,7 @@ module _ {equations lengths : List ℕ} {rules : ℕ} {bounds next table nodes s
 
 pub seeking-done : {equations lengths : List ℕ} {rules : ℕ} {bounds next table nodes sizes : List ℕ} {node : ℕ} {nodes-now sizes-now ready cells : List ℕ} {rule : ℕ}
     → Seeking equations lengths rules bounds next table nodes sizes node nodes-now sizes-now ready cells rule → rules ≤ rule
-    → (arities : List ℕ) (es : List Equation) (subject : Term) → SearchIs equations lengths rules bounds next table nodes sizes arities es subject → FirstRule es subject rules node rules
+    → (arities : List ℕ) (es : List Equation) (subject : Term) → SearchIs equations lengths rules bounds next table nodes sizes arities es subject → FirstRule arities es subject rules node rules
 seeking-done x l arities es subject s = record {
   within = omega arith;
   none-earlier = λ p j e c a n b. x .passed arities es subject s .none-earlier p j e c a n (omega (arith, b, l));
@@ -202,7 +203,7 @@ module _ (equations lengths : List ℕ) (rules : ℕ) (bounds next table nodes s
     pub settled : Settled nodes-now sizes-now ready cells
     pub subject-kept : (arities : List ℕ) (subject : Term) → SubjectIs nodes sizes arities subject → SubjectIs nodes-now sizes-now arities subject
     pub passed : (arities : List ℕ) (es : List Equation) (subject : Term) → SearchIs equations lengths rules bounds next table nodes sizes arities es subject
-        → (p j : ℕ) (c : Direction) → position-count + p < node → NoneAt line-test subject es p j c
+        → (p j : ℕ) (c : Direction) → position-count + p < node → NoneAt (filling arities) line-test subject es p j c
 
 module _ {equations lengths : List ℕ} {rules : ℕ} {bounds next table nodes sizes : List ℕ} {n : ℕ} (h : HasSearch equations lengths rules bounds next table nodes sizes n) where
   pub finding-start : {cells : List ℕ} → length cells ≡ cell-count → Finding equations lengths rules bounds next table nodes sizes nodes sizes (replicate node-count 0) cells position-count
@@ -236,9 +237,9 @@ module _ {equations lengths : List ℕ} {rules : ℕ} {bounds next table nodes s
     }
 
     module _ {rule : ℕ} (told : (arities : List ℕ) (es : List Equation) (subject : Term) → SearchIs equations lengths rules bounds next table nodes-now sizes-now arities es subject
-        → FirstRule es subject rules node rule) where
+        → FirstRule arities es subject rules node rule) where
       pub finding-found : rule < rules → (arities : List ℕ) (es : List Equation) (subject : Term) → SearchIs equations lengths rules bounds next table nodes sizes arities es subject
-          → StepAt es subject rule node
+          → StepAt arities es subject rule node
       finding-found a arities es subject s =
           let f = told arities es subject (search-now s) in
           let (i, e, d, t, is, numbered, possible) = f .can (node - position-count) back a in
@@ -254,7 +255,7 @@ module _ {equations lengths : List ℕ} {rules : ℕ} {bounds next table nodes s
             inside = inside;
             numbered = numbered;
             possible = possible;
-            first = step-first line-test subject es (record {
+            first = step-first (filling arities) line-test subject es (record {
               inside = inside;
               numbered = numbered;
               possible = possible;
@@ -281,6 +282,6 @@ module _ {equations lengths : List ℕ} {rules : ℕ} {bounds next table nodes s
 
   pub finding-done : {nodes-now sizes-now ready cells : List ℕ} {node : ℕ} → Finding equations lengths rules bounds next table nodes sizes nodes-now sizes-now ready cells node
       → position-count + n ≤ node → (arities : List ℕ) (es : List Equation) (subject : Term) → SearchIs equations lengths rules bounds next table nodes sizes arities es subject
-      → step line-test es subject ≡ none
+      → step (filling arities) line-test es subject ≡ none
   finding-done x l arities es subject s =
-      step-none line-test subject es (λ p j c b. x .passed arities es subject s p j c (omega (arith, b, l, h .counted, same-size (s .subject-is) (h .is .subject-is))))
+      step-none (filling arities) line-test subject es (λ p j c b. x .passed arities es subject s p j c (omega (arith, b, l, h .counted, same-size (s .subject-is) (h .is .subject-is))))

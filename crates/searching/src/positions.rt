@@ -39,7 +39,7 @@ fn first_rule(
 ) -> usize
     requires { ⌜ HasSearchAt (now equations) (now lengths) rules (now bounds) (now next) (now table) (now nodes) (now sizes) node ⌝ }
     requires { ⌜ Settled (now nodes) (now sizes) (now ready) (now cells) ⌝ }
-    ensures { λ r. ⌜ ((arities : List ℕ) (es : List Equation) (subject : Term) → SearchIs (now (equations .entry)) (now (lengths .entry)) rules (now (bounds .entry)) (now (next .entry)) (now (table .entry)) (now (nodes .entry)) (now (sizes .entry)) arities es subject → FirstRule es subject rules node r) ⌝ }
+    ensures { λ r. ⌜ ((arities : List ℕ) (es : List Equation) (subject : Term) → SearchIs (now (equations .entry)) (now (lengths .entry)) rules (now (bounds .entry)) (now (next .entry)) (now (table .entry)) (now (nodes .entry)) (now (sizes .entry)) arities es subject → FirstRule arities es subject rules node r) ⌝ }
     ensures { λ _. ⌜ ((arities : List ℕ) (subject : Term) → SubjectIs (now (nodes .entry)) (now (sizes .entry)) arities subject → SubjectIs (now (nodes .exit)) (now (sizes .exit)) arities subject) ⌝ }
     ensures { λ _. ⌜ Settled (now (nodes .exit)) (now (sizes .exit)) (now (ready .exit)) (now (cells .exit)) ⌝ }
 {
@@ -83,7 +83,7 @@ pub fn find_by_positions(
     n: usize,
 ) -> Found
     requires { ⌜ HasSearch (now equations) (now lengths) rules (now bounds) (now next) (now table) (now nodes) (now sizes) n × (length (now cells) ≡ cell-count) ⌝ }
-    ensures { λ r. ⌜ ((arities : List ℕ) (es : List Equation) (subject : Term) → SearchIs (now (equations .entry)) (now (lengths .entry)) rules (now (bounds .entry)) (now (next .entry)) (now (table .entry)) (now (nodes .entry)) (now (sizes .entry)) arities es subject → FoundIs es subject r) ⌝ }
+    ensures { λ r. ⌜ ((arities : List ℕ) (es : List Equation) (subject : Term) → SearchIs (now (equations .entry)) (now (lengths .entry)) rules (now (bounds .entry)) (now (next .entry)) (now (table .entry)) (now (nodes .entry)) (now (sizes .entry)) arities es subject → FoundIs arities es subject r) ⌝ }
     ensures { λ _. ⌜ ((arities : List ℕ) (subject : Term) → SubjectIs (now (nodes .entry)) (now (sizes .entry)) arities subject → SubjectIs (now (nodes .exit)) (now (sizes .exit)) arities subject) ⌝ }
 {
     let mut ready = [0u8; Limits::NODES];

@@ -31,7 +31,7 @@ pub fn find_step(
 ) -> Found
     requires { ⌜ HasRun (now equations) (now lengths) rules (now bounds) (now next) fits (now table) (now nodes) (now sizes) n ⌝ }
     requires { ⌜ (table-bytes ≤ length (now table)) × (scratch-bytes ≤ length (now scratch)) ⌝ }
-    ensures { λ r. ⌜ ((arities : List ℕ) (es : List Equation) (subject : Term) → RunIs (now (equations .entry)) (now (lengths .entry)) rules (now (bounds .entry)) (now (next .entry)) fits (now (table .entry)) (now (nodes .entry)) (now (sizes .entry)) n arities es subject → FoundIs es subject r) ⌝ }
+    ensures { λ r. ⌜ ((arities : List ℕ) (es : List Equation) (subject : Term) → RunIs (now (equations .entry)) (now (lengths .entry)) rules (now (bounds .entry)) (now (next .entry)) fits (now (table .entry)) (now (nodes .entry)) (now (sizes .entry)) n arities es subject → FoundIs arities es subject r) ⌝ }
     ensures { λ _. ⌜ ((arities : List ℕ) (subject : Term) → SubjectIs (now (nodes .entry)) (now (sizes .entry)) arities subject → SubjectIs (now (nodes .exit)) (now (sizes .exit)) arities subject) ⌝ }
     ensures { λ _. ⌜ (fits ≡ true → now (table .exit) ≡ now (table .entry)) ⌝ }
     ensures { λ _. ⌜ drop table-bytes (now (table .exit)) ≡ drop table-bytes (now (table .entry)) ⌝ }

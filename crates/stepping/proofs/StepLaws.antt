@@ -1,24 +1,27 @@
 -- A step that is possible: its match is found again, and the matched part is replaced by the target's instance.
-use Prim.Native.Nat.{ℕ, _≤_, _<_}
+use Prim.Native.Nat.{ℕ, _<_}
 use mathlib.Core.Path.{_≡_, sym, ap, ap₂, subst, _∙_}
 use mathlib.Core.Bool.{Bool, true, false, not}
-use mathlib.Core.Option.{Option, none, some}
+use mathlib.Core.Logic.{inl, inr}
+use mathlib.Core.Option.{Option, none, some, Option·getD}
 use mathlib.Core.List.{List}
 use native.Mathlib.Omega.{arith}
-use native.Mathlib.Decide.{decLt}
-use lib.ListN.{length, getD, List·getD-eq-default}
+use lib.ListN.{getD}
+use lib.Dec.{eqb→eq}
 use Rattle.format.specs.Limits.{variable-count}
-use Rattle.terms.specs.Term.{Term, sizes, inst}
+use Rattle.terms.specs.Term.{Term, Terms, var, app, nil, cons, sizes, inst}
+use Rattle.terms.specs.Filling.{filling}
+use Rattle.terms.specs.Contracts.Limits.{VariablesBelow, AllVariablesBelow}
 use Rattle.terms.specs.Position.{replace}
 use Rattle.terms.specs.Equation.{Equation, Direction, source, target}
 use Rattle.terms.specs.declared.arguments.Arguments.{Arguments}
 use Rattle.terms.specs.Contracts.Stored.{GroundStored}
 use Rattle.terms.specs.Theory.Prefix.{fits-variables}
-use Rattle.reducing.specs.Match.{Match, no-match, match, values-of, has-variable, usable}
+use Rattle.reducing.specs.Match.{Match, no-match, match, values-of, has-variable, have-variable}
 use Rattle.reducing.specs.Run.{Step, try}
 use Rattle.reducing.specs.Test.{line-test}
 use Rattle.reducing.specs.Theory.Step.{try-some}
-use Rattle.reducing.specs.Theory.Variables.{match-meets, covered-has}
+use Rattle.reducing.specs.Theory.Match.{either}
 use Rattle.matching.specs.Contracts.Matching.{SlotIs, MatchIs, Matched, SidePart}
 use Rattle.replacing.specs.Contracts.Replacing.{ReplacementIs, ReplacedAs}
 use Rattle.replacing.specs.declared.part.Replaced.{Replaced}
@@ -30,51 +33,56 @@ use Rattle.applying.proofs.TryLaws.{outcome, try-is}
 use Rattle.applying.proofs.MatchLaws.{side-part}
 
 -- 1. What a possible step is, in the direction that was tried.
-module _ (subject : Term) (p i : ℕ) (e : Equation) (d : Direction) (s : Step) where
+module _ (filling subject : Term) (p i : ℕ) (e : Equation) (d : Direction) (s : Step) where
   pub record Possible : Type 0 where
     pub numbered : s .equation ≡ i
     pub directed : s .direction ≡ d
     pub placed : s .position ≡ p
-    pub direction-usable : usable e d ≡ true
     pub found : Match
     pub matches : match (source e d) (part-at subject p) no-match ≡ some found
-    pub gives : s .result ≡ replace subject p (inst (values-of found) (target e d))
+    pub gives : s .result ≡ replace subject p (inst (values-of filling found) (target e d))
 
-  same-direction : try line-test subject p (part-at subject p) i e d ≡ some s → s .direction ≡ d
-  same-direction h = go (usable e d) (match (source e d) (part-at subject p) no-match) (sym (try-is subject p i e d) ∙ h)
+  same-direction : try filling line-test subject p (part-at subject p) i e d ≡ some s → s .direction ≡ d
+  same-direction h = go (match (source e d) (part-at subject p) no-match) (sym (try-is filling subject p i e d) ∙ h)
     where
-      by-test : (m : Match) (b : Bool) → tested subject p i e d m b ≡ some s → s .direction ≡ d
-      by-test m true h = let z : s ≡ stepped subject p i e d m = cc in ap (λ x. x .direction) z
+      by-test : (m : Match) (b : Bool) → tested filling subject p i e d m b ≡ some s → s .direction ≡ d
+      by-test m true h = let z : s ≡ stepped filling subject p i e d m = cc in ap (λ x. x .direction) z
       by-test m false h = let z : _≡_ {A = ℕ} 0 1 = cc in absurd (omega arith)
 
-      go : (b : Bool) (o : Option Match) → outcome subject p i e d b o ≡ some s → s .direction ≡ d
-      go true (some m) h = by-test m (line-test e d (values-of m)) h
-      go true none h = let z : _≡_ {A = ℕ} 0 1 = cc in absurd (omega arith)
-      go false o h = let z : _≡_ {A = ℕ} 0 1 = cc in absurd (omega arith)
+      go : (o : Option Match) → outcome filling subject p i e d o ≡ some s → s .direction ≡ d
+      go (some m) h = by-test m (line-test e d (values-of filling m)) h
+      go none h = let z : _≡_ {A = ℕ} 0 1 = cc in absurd (omega arith)
 
-  pub step-possible : try line-test subject p (part-at subject p) i e d ≡ some s → Possible
+  pub step-possible : try filling line-test subject p (part-at subject p) i e d ≡ some s → Possible
   step-possible h =
-      let (a, b, r) = try-some line-test subject p (part-at subject p) i e d s h in
+      let (a, b, r) = try-some filling line-test subject p (part-at subject p) i e d s h in
       let c = same-direction h in
       record {
         numbered = a;
         directed = c;
         placed = b;
-        direction-usable = subst (λ x. usable e x ≡ true) c (r .direction-usable);
         found = r .found;
         matches = subst (λ x. match (source e x) (part-at subject p) no-match ≡ some (r .found)) c (r .matches);
-        gives = r .gives ∙ ap₂ (λ q x. replace subject q (inst (values-of (r .found)) (target e x))) b c;
+        gives = r .gives ∙ ap₂ (λ q x. replace subject q (inst (values-of filling (r .found)) (target e x))) b c;
       }
 
-met-value : (m : Match) (v : ℕ) (u : Term) → getD m v none ≡ some u → values-of m v ≡ u
-unfolding values-of
-met-value m v u x = rw x
+-- A variable of a term whose variables are below a number is below it.
+mutual
+  unfolding has-variable
+
+  has-below : (v : ℕ) (t : Term) → VariablesBelow variable-count t → has-variable v t ≡ true → v < variable-count
+  has-below v (var w) b h = rw (eqb→eq v w (rw h tt)) b
+  has-below v (app f ts) b h = have-below v ts b h
+
+  have-below : (v : ℕ) (ts : Terms) → AllVariablesBelow variable-count ts → have-variable v ts ≡ true → v < variable-count
+  have-below v nil b h = let z : _≡_ {A = ℕ} 0 1 = cc in absurd (omega arith)
+  have-below v (cons t ts) b h = elim (either (has-variable v t) (have-variable v ts) h) [ inl x ↦ has-below v t (b .0) x | inr x ↦ have-below v ts (b .1) x ]
 
 -- 2. The code matches the rule's source and puts the target's instance.
 module _ {equations lengths : List ℕ} {rule : ℕ} {arities nodes sizes : List ℕ} {node n i : ℕ} {e : Equation} {d : Direction} {subject : Term} {p : ℕ} {s : Step}
     (is : StepIs equations lengths rule arities nodes sizes node n i e d subject p s) where
-  pub possible : Possible subject p i e d s
-  possible = step-possible subject p i e d s (is .possible)
+  pub possible : Possible (filling arities) subject p i e d s
+  possible = step-possible (filling arities) subject p i e d s (is .possible)
 
   pub source-part : {side : Arguments} → SideIs equations lengths arities side (source e d) → SidePart equations side nodes sizes node arities (source e d) (part-at subject p)
   source-part x = side-part x (is .subject-is) (is .inside) (is .there)
@@ -91,26 +99,16 @@ module _ {equations lengths : List ℕ} {rule : ℕ} {arities nodes sizes : List
         let z : _≡_ {A = ℕ} 0 1 = cc in
         absurd (omega arith)
 
-    given : (v : ℕ) → has-variable v (target e d) ≡ true → GroundStored nodes sizes arities (getD values v 0) (values-of (possible .found) v)
-    unfolding usable
-    given v h =
-        let in-source = covered-has (source e d) v (target e d) (possible .direction-usable) h in
-        let (u, y) = match-meets (source e d) (part-at subject p) (possible .found) v (fits-variables arities (source e d) (x .fits)) (possible .matches) in-source in
-        subst (GroundStored nodes sizes arities (getD values v 0)) (sym (met-value (possible .found) v u y))
-        (subst (λ o. SlotIs nodes sizes arities o (getD values v 0)) y (match-found .1 .each v (low u y)))
+    given : (v : ℕ) → v < variable-count → GroundStored nodes sizes arities (getD values v 0) (values-of (filling arities) (possible .found) v)
+    unfolding values-of
+    given v l = go (getD (possible .found) v none) (match-found .1 .each v l)
       where
-        low : (u : Term) → getD (possible .found) v none ≡ some u → v < variable-count
-        low u y = elim (decLt v variable-count) [
-          | yes l ↦ l
-          | no m ↦
-              let beyond : length (possible .found) ≤ v = omega (arith, match-found .1 .slots) in
-              let w = List·getD-eq-default (possible .found) none beyond in
-              let z : _≡_ {A = ℕ} 0 1 = cc (y, w) in
-              absurd (omega arith)
-        ]
+        go : (o : Option Term) → SlotIs nodes sizes arities o (getD values v 0) → GroundStored nodes sizes arities (getD values v 0) (Option·getD o (filling arities))
+        go none x = rw x (is .subject-is .filling-stored)
+        go (some u) x = x .0
 
     pub replacement : {target-side : Arguments} → SideIs equations lengths arities target-side (target e d)
-        → ReplacementIs equations target-side arities nodes sizes values node n subject (target e d) (values-of (possible .found)) p
+        → ReplacementIs equations target-side arities nodes sizes values node n subject (target e d) (values-of (filling arities) (possible .found)) p
     replacement y = record {
       stands = is .subject-is;
       counted = is .counted;
@@ -123,11 +121,11 @@ module _ {equations lengths : List ℕ} {rule : ℕ} {arities nodes sizes : List
         spelled = y .stored .bytes;
         ends = y .ends;
         slots = match-found .1 .values-length;
-        given = given;
+        given = λ v h. given v (has-below v (target e d) (fits-variables arities (target e d) (y .fits)) h);
       };
     }
 
     pub step-replaced : (nodes-after sizes-after : List ℕ) (answer : Replaced)
-        → ReplacedAs arities nodes sizes nodes-after sizes-after (replace subject p (inst (values-of (possible .found)) (target e d))) answer
+        → ReplacedAs arities nodes sizes nodes-after sizes-after (replace subject p (inst (values-of (filling arities) (possible .found)) (target e d))) answer
         → ReplacedAs arities nodes sizes nodes-after sizes-after (s .result) answer
     step-replaced nodes-after sizes-after answer = subst (λ t. ReplacedAs arities nodes sizes nodes-after sizes-after t answer) (sym (possible .gives))

@@ -31,32 +31,32 @@ pub lines-stay : (fits : Bool) (bounds : List ℕ) (es : List Equation) {table a
 lines-stay true bounds es h l = subst (λ t. LinesReady true bounds t es) (sym (h refl)) l
 lines-stay false bounds es h l = l
 
-module _ {es : List Equation} {k : ℕ} {subject : Term} {term term-after log log-after : List ℕ} {course : Course} (r : RunCourse es k subject term term-after log log-after course) where
-  last-bytes : take (course .size) term-after ≡ prefix (last-of es k subject)
+module _ {arities : List ℕ} {es : List Equation} {k : ℕ} {subject : Term} {term term-after log log-after : List ℕ} {course : Course} (r : RunCourse arities es k subject term term-after log log-after course) where
+  last-bytes : take (course .size) term-after ≡ prefix (last-of arities es k subject)
   unfolding written
   last-bytes =
-      let last = prefix (last-of es k subject) in
-      ap (take (course .size)) (r .term-is) ∙ take-at last (drop (length last) term) (course .size) (length-prefix (last-of es k subject) ∙ sym (r .size-is))
+      let last = prefix (last-of arities es k subject) in
+      ap (take (course .size)) (r .term-is) ∙ take-at last (drop (length last) term) (course .size) (length-prefix (last-of arities es k subject) ∙ sym (r .size-is))
 
-  logged : take (3 * course .steps) log-after ≡ log-of (the-run es k subject .steps)
+  logged : take (3 * course .steps) log-after ≡ log-of (the-run arities es k subject .steps)
   unfolding written
   logged =
-      let steps = the-run es k subject .steps in
+      let steps = the-run arities es k subject .steps in
       ap (take (3 * course .steps)) (r .log-is) ∙ take-at (log-of steps) (drop (length (log-of steps)) log) (3 * course .steps) (length-log steps ∙ ap (3 *_) (sym (r .steps-are)))
 
   pub run-given : {out between after : List ℕ} {middle end : ℕ} → k ≤ max-steps
       → ((taken : List Step) → course .steps ≡ length taken → take (3 * course .steps) log-after ≡ log-of taken → Appended out 0 (printed (map step-frame taken)) between middle)
       → Appended between middle (printed ((run-kind ∷ ending-number (course .ending) ∷ course .steps ∷ take (course .size) term-after) ∷ [])) after end
-      → TaskGiven es (run k subject) out after (record { bytes = end; steps = course .steps })
+      → TaskGiven arities es (run k subject) out after (record { bytes = end; steps = course .steps })
   unfolding task-frames run-frames task-steps
   run-given {out} {after = after} {end = end} low x y =
-      let steps = the-run es k subject .steps in
+      let steps = the-run arities es k subject .steps in
       let told = run-kind ∷ ending-number (course .ending) ∷ course .steps ∷ take (course .size) term-after in
-      let last = run-kind ∷ ending-number (the-run es k subject .ending) ∷ length steps ∷ prefix (last-of es k subject) in
+      let last = run-kind ∷ ending-number (the-run arities es k subject .ending) ∷ length steps ∷ prefix (last-of arities es k subject) in
       let same : told ≡ last =
       ap (λ n. run-kind ∷ ending-number n ∷ course .steps ∷ take (course .size) term-after) (r .ending-is)
-      ∙ (ap (λ n. run-kind ∷ ending-number (the-run es k subject .ending) ∷ n ∷ take (course .size) term-after) (r .steps-are)
-      ∙ ap (λ l. run-kind ∷ ending-number (the-run es k subject .ending) ∷ length steps ∷ l) last-bytes) in
+      ∙ (ap (λ n. run-kind ∷ ending-number (the-run arities es k subject .ending) ∷ n ∷ take (course .size) term-after) (r .steps-are)
+      ∙ ap (λ l. run-kind ∷ ending-number (the-run arities es k subject .ending) ∷ length steps ∷ l) last-bytes) in
       let all : printed (map step-frame steps) ++ printed (told ∷ []) ≡ printed (map step-frame steps ++ last ∷ []) =
       ap (λ f. printed (map step-frame steps) ++ printed (f ∷ [])) same ∙ sym (printed-append (map step-frame steps) (last ∷ [])) in
       let appended = appended-text all (appended-join (printed (map step-frame steps)) (printed (told ∷ [])) (x steps (r .steps-are) logged) y) in

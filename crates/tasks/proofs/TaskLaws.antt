@@ -39,17 +39,17 @@ use Rattle.tasks.specs.Contracts.Task.{TaskGiven, HasTask, JudgementAt, 
 pub appended-within : {before text after : List ℕ} {end : ℕ} → Appended before 0 text after end → end ≤ length after
 appended-within {after = after} {end = end} a = omega (arith, a .ends, ap length (a .there), length-take end after)
 
-module _ {es : List Equation} {before after : List ℕ} {end : ℕ} where
+module _ {arities : List ℕ} {es : List Equation} {before after : List ℕ} {end : ℕ} where
   -- One frame.
   pub judgement-given : {k : ℕ} {o : Direction} {ts : Terms} {e : Equation} → entry es k ≡ some e → Appended before 0 (printed (judgement-frame (holding-line e o (given-values ts)) ∷ [])) after end
-      → TaskGiven es (judgement k o ts) before after (record { bytes = end; steps = 0 })
+      → TaskGiven arities es (judgement k o ts) before after (record { bytes = end; steps = 0 })
   unfolding task-frames task-steps holding
   judgement-given {o = o} {ts = ts} x a =
       let b = appended-text (ap (λ q. printed (judgement-frame (holding q o (given-values ts)) ∷ [])) (sym x)) a in
       record { appended = b; steps-are = refl; few-steps = omega arith; within = appended-within b }
 
   pub comparison-given : {u v : Term} {w : Decision} → w ≡ decision u v → Appended before 0 (printed (comparison-frame w ∷ [])) after end
-      → TaskGiven es (comparison u v) before after (record { bytes = end; steps = 0 })
+      → TaskGiven arities es (comparison u v) before after (record { bytes = end; steps = 0 })
   unfolding task-frames task-steps
   comparison-given x a =
       let b = appended-text (ap (λ w. printed (comparison-frame w ∷ [])) x) a in
@@ -147,25 +147,25 @@ module _ {sheet : List ℕ} {known : Known} {equations lengths bounds : List ℕ
       module _ {before after : List ℕ} where
         pub run-printed : {k : ℕ} {r : TaskListed} → place .head ≡ Run k
             → ((es : List Equation) (subject : Term) → RunTermIs sheet known (place .from) (place .end) equations lengths bounds es subject → LinesReady fits bounds table es
-            → TaskGiven es (run k subject) before after r)
-            → TaskGiven (s .equations) t before after r
-        run-printed {r = r} h given =
+            → TaskGiven (known-arities known) es (run k subject) before after r)
+            → TaskGiven (s .arities) (s .equations) t before after r
+        run-printed {k} {r} h given =
             let (u, e, is, low) = found-run h in
-            subst (λ t. TaskGiven (s .equations) t before after r) (sym e) (given (s .equations) u is (ready .lines))
+            subst (λ t. TaskGiven (s .arities) (s .equations) t before after r) (sym e) (subst (λ a. TaskGiven a (s .equations) (run k u) before after r) its-arities (given (s .equations) u is (ready .lines)))
 
         pub judgement-printed : {k d end : ℕ} → place .head ≡ Judgement k d
             → ((i : ℕ) (e : Equation) (o : Direction) (ts : Terms) → JudgementAt sheet known (place .from) (place .end) equations lengths (k + k + d) i e o ts
             → Appended before 0 (printed (judgement-frame (holding-line e o (given-values ts)) ∷ [])) after end)
-            → TaskGiven (s .equations) t before after (record { bytes = end; steps = 0 })
+            → TaskGiven (s .arities) (s .equations) t before after (record { bytes = end; steps = 0 })
         judgement-printed {k} {end = end} h given =
             let (o, ts, y, e, is, at) = found-judgement h in
-            subst (λ t. TaskGiven (s .equations) t before after (record { bytes = end; steps = 0 })) (sym y) (judgement-given is (given k e o ts at))
+            subst (λ t. TaskGiven (s .arities) (s .equations) t before after (record { bytes = end; steps = 0 })) (sym y) (judgement-given is (given k e o ts at))
 
         pub comparison-printed : {w : Decision} {end : ℕ} → place .head ≡ Comparison → ((u v : Term) → PairIn sheet (known-arities known) (place .from) (place .end) u v → w ≡ decision u v)
-            → Appended before 0 (printed (comparison-frame w ∷ [])) after end → TaskGiven (s .equations) t before after (record { bytes = end; steps = 0 })
+            → Appended before 0 (printed (comparison-frame w ∷ [])) after end → TaskGiven (s .arities) (s .equations) t before after (record { bytes = end; steps = 0 })
         comparison-printed {end = end} h told a =
             let (u, v, e, is) = found-comparison h in
-            subst (λ t. TaskGiven (s .equations) t before after (record { bytes = end; steps = 0 })) (sym e) (comparison-given (told u v is) a)
+            subst (λ t. TaskGiven (s .arities) (s .equations) t before after (record { bytes = end; steps = 0 })) (sym e) (comparison-given (told u v is) a)
 
     -- What its code is called with.
     module _ (h : HasTask sheet known task equations lengths bounds fits table) where

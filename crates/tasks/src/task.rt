@@ -23,6 +23,7 @@ ghost use Rattle.format.specs.Lists.{entry};
 ghost use Rattle.terms.specs.Term.{Term, Terms};
 ghost use Rattle.terms.specs.Equation.{Equation, Direction};
 ghost use Rattle.sheet.specs.Sheet.{Task, Sheet, run};
+ghost use Rattle.scanning.specs.Contracts.Scan.{known-arities};
 ghost use Rattle.reducing.specs.Test.{EverySolves, holding-line, given-values};
 ghost use Rattle.listing.specs.Listing.{printed, judgement-frame};
 ghost use Rattle.printing.specs.Contracts.Appended.{Appended};
@@ -99,7 +100,7 @@ fn list_run(
 ) -> TaskListed
     requires { ⌜ HasRunTerm (now sheet) known from end (now equations) (now lengths) (now bounds) fits (now table) × (limit ≤ max-steps) ⌝ }
     requires { ⌜ (table-bytes ≤ length (now table)) × (scratch-bytes ≤ length (now scratch)) × (term-bytes ≤ length (now term)) × (log-bytes ≤ length (now log)) × (task-room ≤ length (now out)) ⌝ }
-    ensures { λ r. ⌜ ((es : List Equation) (subject : Term) → RunTermIs (now (sheet .entry)) known from end (now (equations .entry)) (now (lengths .entry)) (now (bounds .entry)) es subject → LinesReady fits (now (bounds .entry)) (now (table .entry)) es → TaskGiven es (run limit subject) (now (out .entry)) (now (out .exit)) r) ⌝ }
+    ensures { λ r. ⌜ ((es : List Equation) (subject : Term) → RunTermIs (now (sheet .entry)) known from end (now (equations .entry)) (now (lengths .entry)) (now (bounds .entry)) es subject → LinesReady fits (now (bounds .entry)) (now (table .entry)) es → TaskGiven (known-arities known) es (run limit subject) (now (out .entry)) (now (out .exit)) r) ⌝ }
     ensures { λ _. ⌜ ((es : List Equation) → EverySolves es → LinesReady fits (now (bounds .entry)) (now (table .entry)) es → LinesReady fits (now (bounds .entry)) (now (table .exit)) es) ⌝ }
 {
     let course = run_course(
@@ -145,7 +146,7 @@ pub fn list_task(
 ) -> TaskListed
     requires { ⌜ HasTask (now sheet) known task (now equations) (now lengths) (now bounds) fits (now table) ⌝ }
     requires { ⌜ (table-bytes ≤ length (now table)) × (table-bytes ≤ length (now lines)) × (scratch-bytes ≤ length (now scratch)) × (term-bytes ≤ length (now term)) × (log-bytes ≤ length (now log)) × (task-room ≤ length (now out)) ⌝ }
-    ensures { λ r. ⌜ ((s : Sheet) (t : Task) → Ready (now (sheet .entry)) known fits (now (equations .entry)) (now (lengths .entry)) (now (bounds .entry)) (now (table .entry)) s → entry (s .tasks) task ≡ some t → TaskGiven (s .equations) t (now (out .entry)) (now (out .exit)) r) ⌝ }
+    ensures { λ r. ⌜ ((s : Sheet) (t : Task) → Ready (now (sheet .entry)) known fits (now (equations .entry)) (now (lengths .entry)) (now (bounds .entry)) (now (table .entry)) s → entry (s .tasks) task ≡ some t → TaskGiven (s .arities) (s .equations) t (now (out .entry)) (now (out .exit)) r) ⌝ }
     ensures { λ _. ⌜ ((es : List Equation) → EverySolves es → LinesReady fits (now (bounds .entry)) (now (table .entry)) es → LinesReady fits (now (bounds .entry)) (now (table .exit)) es) ⌝ }
 {
     let found = find_task(sheet, known, task);

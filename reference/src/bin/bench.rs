@@ -124,7 +124,14 @@ fn comparisons() {
 /// Runs alone, without reading and walks.
 fn runs() {
     println!("run                                               steps       ns   ns a step");
-    let names = ["P1", "sorting of 40 factors", "256 exchanges of two unary symbols", "doubling at the limit of nodes"];
+    let names = [
+        "P1",
+        "sorting of 40 factors",
+        "256 exchanges of two unary symbols",
+        "doubling at the limit of nodes",
+        "160 nodes throughout, an extra variable in each step",
+        "256 exchanges with two extra variables each",
+    ];
     let mut scratch = vec![0; SCRATCH_BYTES];
     for name in names {
         let sheet = sheet::read(&named(name)).unwrap();

@@ -544,6 +544,12 @@ pub fn holds(order: &mut Order, walk: &Walk, line: &Line, values: &[Vec<u8>]) ->
         })
 }
 
+/// Whether the target of a direction has a variable that its source lacks.
+pub fn has_extra_variables((left, right, _): &(Vec<u8>, Vec<u8>, usize), direction: usize) -> bool {
+    let (source, target) = if direction == 0 { (left, right) } else { (right, left) };
+    target.iter().any(|byte| is_variable(*byte) && !source.contains(byte))
+}
+
 /// The reference run: steps, ending and last term.
 pub fn reference_run(sheet: &Sheet, limit: u8, subject: &[u8]) -> (Vec<[u8; 3]>, u64, Vec<u8>) {
     let mut order = Order::default();
@@ -564,17 +570,23 @@ pub fn reference_run(sheet: &Sheet, limit: u8, subject: &[u8]) -> (Vec<[u8; 3]>,
     }
 }
 
+fn lowest_constant(arities: &[u8]) -> u8 {
+    arities.iter().position(|&arity| arity == 0).unwrap() as u8
+}
+
+/// The first step and its result. The variables that the source lacks take the lowest constant before the instances are
+/// compared.
 fn find_step(sheet: &Sheet, order: &mut Order, subject: &[u8]) -> Option<([u8; 3], Vec<u8>)> {
     for position in 0..subject.len() {
         let end = term_end(&sheet.arities, subject, position);
         for (number, (left, right, _)) in sheet.equations.iter().enumerate() {
             for (direction, (source, target)) in [(left, right), (right, left)].into_iter().enumerate() {
-                if target.iter().any(|byte| is_variable(*byte) && !source.contains(byte)) {
-                    continue;
-                }
                 let mut values = vec![vec![]; VARIABLES];
                 if !matches(&sheet.arities, source, &subject[position..end], &mut values) {
                     continue;
+                }
+                for value in values.iter_mut().filter(|value| value.is_empty()) {
+                    value.push(lowest_constant(&sheet.arities));
                 }
                 let replacement = instance(target, &values);
                 if order.exceeds(&sheet.arities, &subject[position..end], &replacement) {

@@ -11,7 +11,7 @@ use Rattle.terms.specs.Position.{subterms}
 use Rattle.terms.specs.Equation.{Equation, Direction, source}
 use Rattle.terms.specs.Contracts.Stored.{SubjectIs}
 use Rattle.solving.specs.Line.{Line}
-use Rattle.reducing.specs.Match.{Match, no-match, match, values-of, usable}
+use Rattle.reducing.specs.Match.{Match, no-match, match, values-of}
 use Rattle.reducing.specs.Run.{Step, try}
 use Rattle.reducing.specs.Test.{line-test}
 use Rattle.comparing.specs.Contracts.Cells.{SettledCells}
@@ -30,9 +30,9 @@ abbrev pub part-at : Term → ℕ → Term
 part-at subject p = getD (subterms subject) p (var 0)
 
 -- The rule can step at position `p`, or cannot.
-pub record Applies (subject : Term) (p i : ℕ) (e : Equation) (d : Direction) (r : Bool) : Type 0 where
-  pub can : r ≡ true → (s : Step) × (try line-test subject p (part-at subject p) i e d ≡ some s)
-  pub cannot : r ≡ false → try line-test subject p (part-at subject p) i e d ≡ none
+pub record Applies (filling subject : Term) (p i : ℕ) (e : Equation) (d : Direction) (r : Bool) : Type 0 where
+  pub can : r ≡ true → (s : Step) × (try filling line-test subject p (part-at subject p) i e d ≡ some s)
+  pub cannot : r ≡ false → try filling line-test subject p (part-at subject p) i e d ≡ none
 
 -- A rule with its kept lines, and a node of the subject.
 module _ (equations lengths : List ℕ) (rule : ℕ) (table : List ℕ) (lines : KeptLines) (nodes sizes : List ℕ) where
@@ -54,7 +54,7 @@ module _ (equations lengths : List ℕ) (rule : ℕ) (table : List ℕ) (lines :
     pub position : ℕ
     pub is : TryIs node arities number equation direction subject position
 
-  -- The rule's source matches some part of the subject, and `values` has what the variables met.
+  -- The rule's source matches some part of the subject, and `values` has what the variables met, and the filling for those that met nothing.
   pub record MatchedTry (values arities : List ℕ) (i : ℕ) (e : Equation) (d : Direction) (subject : Term) (m : Match) : Type 0 where
     pub rule-is : RuleIs equations lengths arities rule i e d
     pub kept : List Line
@@ -74,7 +74,6 @@ module _ (equations lengths : List ℕ) (rule : ℕ) (table : List ℕ) (lines :
     pub found : Match
     pub is : MatchedTry values arities number equation direction subject found
 
--- Whether the rule is usable and one of its lines holds at the match.
-pub record LinesTell (e : Equation) (d : Direction) (m : Match) (r : Bool) : Type 0 where
-  pub hold : r ≡ true → (usable e d ≡ true) × (line-test e d (values-of m) ≡ true)
-  pub fail : r ≡ false → usable e d ≡ true → line-test e d (values-of m) ≡ false
+-- Whether one of the rule's lines holds at the match, with the filling for variables that met nothing.
+abbrev pub LinesTell : (filling : Term) → Equation → Direction → Match → Bool → Type 0
+LinesTell filling e d m r = line-test e d (values-of filling m) ≡ r

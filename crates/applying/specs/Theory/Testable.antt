@@ -53,7 +53,7 @@ pub record AtFront (nodes lengths values arities : List ℕ) (e : Equation) (ρ 
   pub given : (v : ℕ) → P v → GroundStored nodes lengths arities (getD values v 0) (ρ v)
   pub left-variables : VariablesIn P (e .left)
   pub right-variables : VariablesIn P (e .right)
-  -- A variable that has no value stands for itself.
+  -- A variable that has no value (in a judgement, one above the highest of its equation) stands for itself.
   pub slot : (v : ℕ) → v < variable-count → P v ⊎ ((getD values v 0 ≡ 0) × (ρ v ≡ var v))
 
 module _ {nodes lengths values arities : List ℕ} {e : Equation} {ρ : Values} {P : ℕ → Type 0} (front : AtFront nodes lengths values arities e ρ P) where

@@ -10,6 +10,7 @@ use Rattle.format.specs.declared.refusal.Refusal.the-variants.{ShortBuffer as s
 use Rattle.format.specs.Lists.{entry}
 use Rattle.format.specs.Theory.Lists.{every-entry}
 use Rattle.terms.specs.Term.{Term, Ground}
+use Rattle.terms.specs.Filling.{filling}
 use Rattle.sheet.specs.Sheet.{Task, run as run-task, judgement, comparison, Sheet}
 use Rattle.sheet.specs.Reading.{Reading, refused-at, accepted, read}
 use Rattle.sheet.specs.Contracts.Valid.{ValidTask}
@@ -25,7 +26,7 @@ use Rattle.calls.specs.Theory.Walks.{accepted-limits}
 use Rattle.outcomes.specs.Theory.Walks.{none-refused, every-solves}
 
 abbrev pub the-reduction : {sheet : List ℕ} {task : ℕ} → RunNamed sheet task → Reduction
-the-reduction n = record { equations = n .content .equations; limit = n .limit; subject = n .subject }
+the-reduction n = record { filling = filling (n .content .arities); equations = n .content .equations; limit = n .limit; subject = n .subject }
 
 named-asked : (sheet : List ℕ) (task : ℕ) (n : RunNamed sheet task) → asked true sheet (reduction-task task) ≡ accepted (the-reduction n)
 unfolding asked find found reduction-task reduction-in
@@ -38,7 +39,7 @@ asked-run : (sheet : List ℕ) (task : ℕ) (t : Reduction) → asked true sheet
 unfolding asked find found reduction-task reduction-in
 asked-run sheet task t h = from (read sheet) refl h
   where
-    in-task : (s : Sheet) → read sheet ≡ accepted s → (o : Option Task) → entry (s .tasks) task ≡ o → found (reduction-in (s .equations) o) ≡ accepted t → (n : RunNamed sheet task) × (the-reduction n ≡ t)
+    in-task : (s : Sheet) → read sheet ≡ accepted s → (o : Option Task) → entry (s .tasks) task ≡ o → found (reduction-in (filling (s .arities)) (s .equations) o) ≡ accepted t → (n : RunNamed sheet task) × (the-reduction n ≡ t)
     in-task s r none x h = let z : _≡_ {A = ℕ} 0 1 = cc in absurd (omega arith)
     in-task s r (some (run-task k u)) x h = (record { content = s; reads = r; limit = k; subject = u; task-there = x; subject-ground = run-ground sheet task s r x }, cc)
     in-task s r (some (judgement e d ts)) x h = let z : _≡_ {A = ℕ} 0 1 = cc in absurd (omega arith)
@@ -51,11 +52,11 @@ asked-run sheet task t h = from (read sheet) refl h
 module _ (sheet : List ℕ) (task : ℕ) (table scratch term log : List ℕ) where
   -- 1. Where every direction solves, run gives the steps, the count, the ending and the last term of the reference run.
   pub run-gives : (n : RunNamed sheet task) → run-fits table scratch term log ≡ true → EverySolves (n .content .equations)
-      → run-call sheet task table scratch term log ≡ run-done table scratch term log (n .subject) (reference-run (n .content .equations) (n .limit) (n .subject))
+      → run-call sheet task table scratch term log ≡ run-done table scratch term log (n .subject) (reference-run (filling (n .content .arities)) (n .content .equations) (n .limit) (n .subject))
   unfolding run-call run-answer run-walked
   run-gives n f s =
       rw (f, named-asked sheet task n, none-refused 0 (n .content .equations) s)
-      (ap (run-done table scratch term log (n .subject)) (run-is-reference-run (n .content .equations) (accepted-limits sheet (n .content) (n .reads)) s (n .limit) (n .subject)))
+      (ap (run-done table scratch term log (n .subject)) (run-is-reference-run (filling (n .content .arities)) (n .content .equations) (accepted-limits sheet (n .content) (n .reads)) s (n .limit) (n .subject)))
 
   -- 2. Demand 3 for runs.
   run-demand-of : (n : RunNamed sheet task) → run-fits table scratch term log ≡ true → EverySolves (n .content .equations) → RunDemand sheet task table scratch term log
@@ -65,8 +66,8 @@ module _ (sheet : List ℕ) (task : ℕ) (table scratch term log : List ℕ) whe
         named = n;
         solves = s;
         given = run-gives n f s;
-        same-run = run-is-reference-run (n .content .equations) w s;
-        descending = run-descending (n .content .equations) w s;
+        same-run = run-is-reference-run (filling (n .content .arities)) (n .content .equations) w s;
+        descending = run-descending (filling (n .content .arities)) (n .content .equations) w s;
       }
 
   pub run-demand : refusal-byte (run-call sheet task table scratch term log .returned) ≡ 0 → RunDemand sheet task table scratch term log
@@ -91,7 +92,7 @@ module _ (sheet : List ℕ) (task : ℕ) (table scratch term log : List ℕ) whe
   unfolding run-call run-answer run-walked run-done asked find found reduction-task reduction-in
   run-served-or-host s r every = fits (run-fits table scratch term log)
     where
-      in-task : (o : Option Task) → ServedOrHost (run-answer table scratch term log (found (reduction-in (s .equations) o)) .returned)
+      in-task : (o : Option Task) → ServedOrHost (run-answer table scratch term log (found (reduction-in (filling (s .arities)) (s .equations) o)) .returned)
       in-task none = inr (inr (refused-byte absent-argument 0))
       in-task (some (run-task k u)) = rw (none-refused 0 (s .equations) every) (inl (fields-byte _ _ _))
       in-task (some (judgement e d ts)) = inr (inr (refused-byte absent-argument 0))
@@ -110,7 +111,7 @@ run-refused-by-host sheet s task table scratch term log r every = run-served-or-
 pub runs-are-reference-runs : RunsAreReferenceRuns
 runs-are-reference-runs sheet s r every k subject =
     let within = accepted-limits sheet s r in
-    (run-is-reference-run (s .equations) within every k subject, run-descending (s .equations) within every k subject)
+    (run-is-reference-run (filling (s .arities)) (s .equations) within every k subject, run-descending (filling (s .arities)) (s .equations) within every k subject)
 
 pub run-serves : RunServes
 unfolding run-done

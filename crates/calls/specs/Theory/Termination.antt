@@ -3,6 +3,7 @@ use mathlib.Core.Path.{sym, ap, ap₂, _∙_}
 use lib.ListN.{length}
 use Rattle.format.specs.Buffer.{written}
 use Rattle.format.specs.Theory.Lists.{every-entry}
+use Rattle.terms.specs.Filling.{filling}
 use Rattle.terms.specs.Contracts.Limits.{WithinLimits}
 use Rattle.ordering.specs.Theory.Accessible.{ground-accessible}
 use Rattle.ordering.specs.Theory.Descent.{no-endless-descent}
@@ -15,6 +16,7 @@ use Rattle.outcomes.specs.Buffer.{fields}
 use Rattle.calls.specs.Demands.{GroundTermsAccessible, NoEndlessDescent, NoEndlessReduction, RunsEnd, RunsEndOnce, RunsEndAlike, WalksEnd, WalksEndOnce, DepthIsNoLimit, WalksEndAsSolved, WalksEndAsGiven}
 use Rattle.calls.specs.Theory.Walks.{accepted-limits}
 use Rattle.calls.specs.Theory.Tables.{table-demand}
+use Rattle.calls.specs.Theory.Filling.{filling-demanded}
 
 -- 1. Descents and reductions.
 pub ground-terms-accessible : GroundTermsAccessible
@@ -24,11 +26,13 @@ pub descents-end : NoEndlessDescent
 descents-end = no-endless-descent
 
 pub reductions-end : NoEndlessReduction
-reductions-end sheet s r = no-endless-reduction (s .arities) (s .equations) (accepted-valid sheet s r .0 .equations)
+reductions-end sheet s r =
+    no-endless-reduction (s .arities) (filling (s .arities)) (filling-demanded sheet s r .ground) (s .equations) (accepted-valid sheet s r .0 .equations)
 
 -- 2. Runs.
 pub runs-end : RunsEnd
-runs-end sheet s r solves = run-ends (s .arities) (s .equations) (accepted-valid sheet s r .0 .equations) solves
+runs-end sheet s r solves =
+    run-ends (s .arities) (filling (s .arities)) (filling-demanded sheet s r .ground) (s .equations) (accepted-valid sheet s r .0 .equations) solves
 
 pub runs-end-once : RunsEndOnce
 runs-end-once = run-ends-once

@@ -1,11 +1,11 @@
 -- The cells of a comparison, with the verdicts that are settled. A row has the cells of the pairs with one first node.
--- Document 01, 'Ground comparison': "verdicts for all pairs among 224 nodes (64 and 160) are 50,176 cells".
+-- Document 01, 'Ground comparison': "verdicts for all pairs among 224 nodes (64 and 160) are 50,176 cells". With the filling's node (document 02, W5) they are 225.
 use Prim.Native.Nat.{ℕ, _+_, _*_, _/_, _%_, _≤_, _<_}
 use mathlib.Core.Path.{_≡_}
 use mathlib.Core.Logic.{_⊎_}
 use mathlib.Core.List.{List}
 use lib.ListN.{length, getD}
-use Rattle.format.specs.Limits.{position-count, node-count, cell-count, first-variable, variable-count}
+use Rattle.format.specs.Limits.{position-count, node-count, row-cells, cell-count, first-variable, variable-count}
 use Rattle.terms.specs.Term.{Term, Ground}
 use Rattle.ordering.specs.declared.verdict.Verdict.{Verdict}
 use Rattle.ordering.specs.Verdict.{verdict, verdict-number}
@@ -40,7 +40,7 @@ pub record SettledCells (nodes sizes values ready cells : List ℕ) : Type 0 whe
   pub cells-length : length cells ≡ cell-count
   pub symbols : (i : ℕ) → position-count ≤ i → getD nodes i 0 < first-variable
   pub settled : (i j : ℕ) (s t : Term) → 0 < getD ready i 0 → position-count ≤ j → TermAt nodes sizes values i s → TermAt nodes sizes values j t
-      → (getD cells (i * node-count + j) 0 ≡ 0) ⊎ Settles (getD cells (i * node-count + j) 0) s t
+      → (getD cells (i * row-cells + j) 0 ≡ 0) ⊎ Settles (getD cells (i * row-cells + j) 0) s t
 
 -- The elements from `from` to `end` are 0, the others as before.
 pub record Cleared (before : List ℕ) (from end : ℕ) (after : List ℕ) : Type 0 where
@@ -49,10 +49,10 @@ pub record Cleared (before : List ℕ) (from end : ℕ) (after : List ℕ) : Typ
   pub below : (k : ℕ) → k < from → getD after k 0 ≡ getD before k 0
   pub above : (k : ℕ) → end ≤ k → getD after k 0 ≡ getD before k 0
 
--- The row of `s` is ready; each cell of a row that is ready is 0, or is as before in a row that was ready before.
+-- The row of `s` is ready; each cell of a row that is ready, with a second node of the subject's, is 0, or is as before in a row that was ready before.
 pub record MadeReady (ready cells : List ℕ) (s : ℕ) (ready-after cells-after : List ℕ) : Type 0 where
   pub ready-length : length ready-after ≡ length ready
   pub cells-length : length cells-after ≡ length cells
   pub is-ready : 0 < getD ready-after s 0
-  pub kept : (i j : ℕ) → j < node-count → 0 < getD ready-after i 0
-      → (getD cells-after (i * node-count + j) 0 ≡ 0) ⊎ ((0 < getD ready i 0) × (getD cells-after (i * node-count + j) 0 ≡ getD cells (i * node-count + j) 0))
+  pub kept : (i j : ℕ) → position-count ≤ j → j < node-count → 0 < getD ready-after i 0
+      → (getD cells-after (i * row-cells + j) 0 ≡ 0) ⊎ ((0 < getD ready i 0) × (getD cells-after (i * row-cells + j) 0 ≡ getD cells (i * row-cells + j) 0))

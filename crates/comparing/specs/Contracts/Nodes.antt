@@ -1,4 +1,5 @@
--- The nodes of a comparison, and the terms that they stand for: the positions of an equation, then those of the subject.
+-- The nodes of a comparison, and the terms that they stand for: the positions of an equation, then those of the subject, and behind them one for
+-- the filling (document 02, W5), which counts as one of the subject's.
 use Prim.Native.Nat.{ℕ, _+_, _-_, _<_}
 use mathlib.Core.Path.{_≡_}
 use mathlib.Core.Bool.{true, false}

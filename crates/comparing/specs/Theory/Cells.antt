@@ -6,7 +6,7 @@ use mathlib.Core.List.{List, [], _∷_}
 use native.Mathlib.Omega.{arith}
 use native.Mathlib.Decide.{decLt}
 use lib.ListN.{length, getD, replicate}
-use Rattle.format.specs.Limits.{position-count, first-variable, variable-count, node-count, cell-count}
+use Rattle.format.specs.Limits.{position-count, first-variable, variable-count, node-count, row-cells, cell-count}
 use Rattle.format.specs.Byte.{class-of}
 use Rattle.format.specs.Theory.Byte.{class-variable}
 use Rattle.terms.specs.Term.{Term, Terms}
@@ -39,7 +39,7 @@ made-ready-settled {nodes} {lengths} {values} {ready} {cells} {after} {cleared} 
   ready-length = o .ready-length ∙ m .ready-length;
   cells-length = o .cells-length ∙ m .cells-length;
   symbols = m .symbols;
-  settled = λ i j s t h l a b. elim (o .kept i j (within b) h) [ inl e ↦ inl e | inr e ↦ rw (e .1) (m .settled i j s t (e .0) l a b) ];
+  settled = λ i j s t h l a b. elim (o .kept i j l (within b) h) [ inl e ↦ inl e | inr e ↦ rw (e .1) (m .settled i j s t (e .0) l a b) ];
 }
 
 -- From `n` on the two lists are the same.
@@ -80,7 +80,7 @@ next-match {nodes} {lengths} {values} {ready} {cells} {nodes-after} {lengths-aft
 }
   where
     settled : (i j : ℕ) (s t : Term) → 0 < getD ready-after i 0 → position-count ≤ j → TermAt nodes-after lengths-after values-after i s → TermAt nodes-after lengths-after values-after j t
-        → (getD cells (i * node-count + j) 0 ≡ 0) ⊎ Settles (getD cells (i * node-count + j) 0) s t
+        → (getD cells (i * row-cells + j) 0 ≡ 0) ⊎ Settles (getD cells (i * row-cells + j) 0) s t
     settled i j s t h k a b = elim (decLt i position-count) [
       | yes lt ↦ absurd (omega (arith, r .inside i (omega arith) lt))
       | no ge ↦

@@ -3,6 +3,7 @@ use Prim.Native.Nat.{ℕ, zero, suc, _+_, _-_, _*_, _≤_, _<_}
 use mathlib.Core.Path.{_≡_}
 use mathlib.Core.List.{List, [], _∷_, _++_, flatMap}
 use lib.ListN.{length, take, drop}
+use Rattle.terms.specs.Filling.{filling}
 use Rattle.terms.specs.Equation.{Equation, left-right, right-left}
 use Rattle.sheet.specs.Sheet.{Sheet}
 use Rattle.sheet.specs.Reading.{Reading, refused-at, accepted, read}
@@ -28,7 +29,9 @@ frames-from n (e ∷ es) (suc (suc rule)) = frames-from (suc n) es rule
 
 -- The frames of this task and all behind it, where the runs before it have taken `steps` steps; then the last frame.
 unfoldable pub tasks-from : Sheet → (task steps : ℕ) → List (List ℕ)
-tasks-from s task steps = flatMap (task-frames (s .equations)) (drop task (s .tasks)) ++ (total-kind ∷ two-bytes (steps + steps-taken (s .equations) (drop task (s .tasks)))) ∷ []
+tasks-from s task steps =
+    let constant = filling (s .arities) in
+    flatMap (task-frames constant (s .equations)) (drop task (s .tasks)) ++ (total-kind ∷ two-bytes (steps + steps-taken constant (s .equations) (drop task (s .tasks)))) ∷ []
 
 unfoldable pub left-frames : Sheet → Place → List (List ℕ)
 unfolding rule-frames frames-from tasks-from

@@ -8,6 +8,8 @@ use lib.ListN.{length, take, drop, take-append-drop, drop-of-length-le}
 use lib.Seq.{drop-drop}
 use Rattle.format.specs.declared.refusal.Refusal.{Refusal}
 use Rattle.format.specs.Lists.{entry}
+use Rattle.terms.specs.Term.{Term}
+use Rattle.terms.specs.Filling.{filling}
 use Rattle.terms.specs.Equation.{Equation, Direction, left-right, right-left, direction-number}
 use Rattle.sheet.specs.Sheet.{Task, run, judgement, comparison, Sheet}
 use Rattle.sheet.specs.Reading.{refused-at, accepted, read}
@@ -55,17 +57,17 @@ no-more-frames n (e ∷ es) (suc zero) h = absurd (omega arith)
 no-more-frames n (e ∷ es) (suc (suc rule)) h = no-more-frames (suc n) es rule (omega arith)
 
 -- The steps of a task.
-unfoldable pub task-steps : List Equation → Task → ℕ
+unfoldable pub task-steps : (filling : Term) → List Equation → Task → ℕ
 unfolding line-run
-task-steps es (run k s) = length (line-run es k s .steps)
-task-steps es (judgement n d vs) = 0
-task-steps es (comparison s t) = 0
+task-steps constant es (run k s) = length (line-run constant es k s .steps)
+task-steps constant es (judgement n d vs) = 0
+task-steps constant es (comparison s t) = 0
 
-steps-more : (es : List Equation) (t : Task) (ts : List Task) → steps-taken es (t ∷ ts) ≡ task-steps es t + steps-taken es ts
+steps-more : (constant : Term) (es : List Equation) (t : Task) (ts : List Task) → steps-taken constant es (t ∷ ts) ≡ task-steps constant es t + steps-taken constant es ts
 unfolding steps-taken task-steps
-steps-more es (run k s) ts = refl
-steps-more es (judgement n d vs) ts = omega arith
-steps-more es (comparison s t) ts = omega arith
+steps-more constant es (run k s) ts = refl
+steps-more constant es (judgement n d vs) ts = omega arith
+steps-more constant es (comparison s t) ts = omega arith
 
 entry-drop : {A : Type 0} (xs : List A) (i : ℕ) {x : A} → entry xs i ≡ some x → drop i xs ≡ x ∷ drop (suc i) xs
 unfolding entry
@@ -106,23 +108,24 @@ module _ (s : Sheet) where
 
   -- From task to task, and the last frame.
   pub task-left : (task steps : ℕ) (t : Task) → entry (s .tasks) task ≡ some t
-      → left-frames s (TaskPlace task steps) ≡ task-frames (s .equations) t ++ left-frames s (TaskPlace (suc task) (steps + task-steps (s .equations) t))
+      → left-frames s (TaskPlace task steps) ≡ task-frames (filling (s .arities)) (s .equations) t ++ left-frames s (TaskPlace (suc task) (steps + task-steps (filling (s .arities)) (s .equations) t))
   unfolding left-frames tasks-from flatMap
   task-left task steps t x =
+      let constant = filling (s .arities) in
       let es = s .equations in
       let behind = drop (suc task) (s .tasks) in
       let e = entry-drop (s .tasks) task x in
-      let n : steps + steps-taken es (t ∷ behind) ≡ (steps + task-steps es t) + steps-taken es behind = omega (arith, steps-more es t behind) in
-      ap (λ ts. flatMap (task-frames es) ts ++ (total-kind ∷ two-bytes (steps + steps-taken es ts)) ∷ []) e
-      ∙ (append-assoc (task-frames es t) (flatMap (task-frames es) behind) ((total-kind ∷ two-bytes (steps + steps-taken es (t ∷ behind))) ∷ [])
-      ∙ ap (λ n. task-frames es t ++ (flatMap (task-frames es) behind ++ (total-kind ∷ two-bytes n) ∷ [])) n)
+      let n : steps + steps-taken constant es (t ∷ behind) ≡ (steps + task-steps constant es t) + steps-taken constant es behind = omega (arith, steps-more constant es t behind) in
+      ap (λ ts. flatMap (task-frames constant es) ts ++ (total-kind ∷ two-bytes (steps + steps-taken constant es ts)) ∷ []) e
+      ∙ (append-assoc (task-frames constant es t) (flatMap (task-frames constant es) behind) ((total-kind ∷ two-bytes (steps + steps-taken constant es (t ∷ behind))) ∷ [])
+      ∙ ap (λ n. task-frames constant es t ++ (flatMap (task-frames constant es) behind ++ (total-kind ∷ two-bytes n) ∷ [])) n)
 
   pub total-left : (task steps : ℕ) → length (s .tasks) ≤ task → left-frames s (TaskPlace task steps) ≡ (total-kind ∷ two-bytes steps) ∷ left-frames s End
   unfolding left-frames tasks-from flatMap steps-taken
   total-left task steps h =
       let e : drop task (s .tasks) ≡ [] = drop-of-length-le (s .tasks) h in
       let n : steps + 0 ≡ steps = omega arith in
-      ap (λ ts. flatMap (task-frames (s .equations)) ts ++ (total-kind ∷ two-bytes (steps + steps-taken (s .equations) ts)) ∷ []) e ∙ ap (λ n. (total-kind ∷ two-bytes n) ∷ []) n
+      ap (λ ts. flatMap (task-frames (filling (s .arities)) (s .equations)) ts ++ (total-kind ∷ two-bytes (steps + steps-taken (filling (s .arities)) (s .equations) ts)) ∷ []) e ∙ ap (λ n. (total-kind ∷ two-bytes n) ∷ []) n
 
 -- A place behind the start.
 abbrev pub Begun : Place → Type 0
@@ -154,10 +157,11 @@ module _ (input : List ℕ) where
     pub start-left : first-refusal 0 (s .equations) ≡ none → rest input Start ≡ rest input (Table 0)
     unfolding rest listing frames walked-frames sheet-frames left-frames tasks-from
     start-left x =
+        let constant = filling (s .arities) in
         let es = s .equations in
-        let tasks = flatMap (task-frames es) (s .tasks) in
-        let total = (total-kind ∷ two-bytes (steps-taken es (s .tasks))) ∷ [] in
-        let n : steps-taken es (s .tasks) ≡ 0 + steps-taken es (s .tasks) = omega arith in
+        let tasks = flatMap (task-frames constant es) (s .tasks) in
+        let total = (total-kind ∷ two-bytes (steps-taken constant es (s .tasks))) ∷ [] in
+        let n : steps-taken constant es (s .tasks) ≡ 0 + steps-taken constant es (s .tasks) = omega arith in
         ap (λ y. printed (frames y)) r
         ∙ (ap (λ y. printed (walked-frames s y)) x
         ∙ (ap printed (append-assoc (equation-frames 0 es) tasks total ∙ ap₂ (λ f n. f ++ (tasks ++ (total-kind ∷ two-bytes n) ∷ [])) (from-first 0 es) n)

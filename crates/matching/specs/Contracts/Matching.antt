@@ -5,7 +5,7 @@ use mathlib.Core.Bool.{Bool, true, false}
 use mathlib.Core.Option.{Option, none, some}
 use mathlib.Core.List.{List}
 use lib.ListN.{length, getD}
-use Rattle.format.specs.Limits.{max-symbols, variable-count}
+use Rattle.format.specs.Limits.{variable-count, filling-node}
 use Rattle.terms.specs.Term.{Term, size}
 use Rattle.terms.specs.Prefix.{prefix}
 use Rattle.terms.specs.Contracts.Fits.{Fits}
@@ -13,35 +13,18 @@ use Rattle.terms.specs.Contracts.Stored.{PartAt, GroundStored}
 use Rattle.terms.specs.declared.arguments.Arguments.{Arguments}
 use Rattle.reducing.specs.Match.{Match}
 
--- The side is this term, over symbols with these arities.
-pub record Spells (bytes : List ℕ) (side : Arguments) (t : Term) : Type 0 where
-  pub arities : List ℕ
-  pub few-symbols : length arities ≤ max-symbols
-  pub fits : Fits arities t
-  pub spelled : PartAt bytes (side .from) (prefix t)
-  pub ends : side .end ≡ side .from + size t
-
-pub record HasSide (bytes : List ℕ) (side : Arguments) : Type 0 where
-  pub term : Term
-  pub spells : Spells bytes side term
-
-pub record StandsBetween (bytes : List ℕ) (side : Arguments) (byte : ℕ) : Type 0 where
-  pub place : ℕ
-  pub from-there : side .from ≤ place
-  pub before-end : place < side .end
-  pub stands : getD bytes place 0 ≡ byte
-
 module _ (nodes lengths : List ℕ) where
   -- Some ground term starts at node `i` of the subject.
   pub record HasGround (i : ℕ) : Type 0 where
     pub arities : List ℕ
     pub term : Term
     pub stored : GroundStored nodes lengths arities i term
+    pub before-filling : i < filling-node
 
-  -- What a variable met: the term that starts at node `i`; 0 where it met none.
+  -- What a variable met: the term that starts at node `i`; the filling's node where it met none.
   abbrev pub SlotIs : (arities : List ℕ) → Option Term → (i : ℕ) → Type 0
-  SlotIs arities none i = i ≡ 0
-  SlotIs arities (some t) i = GroundStored nodes lengths arities i t
+  SlotIs arities none i = i ≡ filling-node
+  SlotIs arities (some t) i = GroundStored nodes lengths arities i t × (i < filling-node)
 
   pub record MatchIs (arities : List ℕ) (m : Match) (values : List ℕ) : Type 0 where
     pub slots : length m ≡ variable-count
@@ -64,6 +47,7 @@ pub record SidePart (bytes : List ℕ) (side : Arguments) (nodes lengths : List 
   pub spelled : PartAt bytes (side .from) (prefix s)
   pub ends : side .end ≡ side .from + size s
   pub part : GroundStored nodes lengths arities node t
+  pub inside : node + size t ≤ filling-node
 
 pub record HasSidePart (bytes : List ℕ) (side : Arguments) (nodes lengths : List ℕ) (node : ℕ) : Type 0 where
   pub arities : List ℕ

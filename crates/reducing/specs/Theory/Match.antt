@@ -19,11 +19,11 @@ abbrev pub Agrees : Values → Match → Type 0
 Agrees ρ m = (v : ℕ) (u : Term) → getD m v none ≡ some u → ρ v ≡ u
 
 -- The values of a match fit it, and all values fit the match in which no variable met a term.
-pub values-fit : (m : Match) → Agrees (values-of m) m
+pub values-fit : (filling : Term) (m : Match) → Agrees (values-of filling m) m
 unfolding values-of
-values-fit m v u e = rw e
+values-fit filling m v u e = rw e
 
-nothing-met : (n v : ℕ) → getD (replicate {A = Option Term} n none) v none ≡ none
+pub nothing-met : (n v : ℕ) → getD (replicate {A = Option Term} n none) v none ≡ none
 nothing-met zero v = refl
 nothing-met (suc n) zero = refl
 nothing-met (suc n) (suc v) = nothing-met n v
@@ -111,9 +111,9 @@ mutual
       first-then-others s t ss ts (λ m n b h. match-extends s t m n b h) (λ m n b h. match-each-extends ss ts m n b h) m n (b .0) (b .1) (match s t m) refl h
 
 -- The instance of the pattern by the values of its match is the term: so "a repeated variable meets identical terms".
-pub match-sound : (s t : Term) (m : Match) → VariablesBelow variable-count s → match s t no-match ≡ some m → inst (values-of m) s ≡ t
+pub match-sound : (filling : Term) (s t : Term) (m : Match) → VariablesBelow variable-count s → match s t no-match ≡ some m → inst (values-of filling m) s ≡ t
 unfolding no-match
-match-sound s t m b h = match-extends s t no-match m (rw length-replicate b) h .narrowed (values-of m) (values-fit m) .1
+match-sound filling s t m b h = match-extends s t no-match m (rw length-replicate b) h .narrowed (values-of filling m) (values-fit filling m) .1
 
 -- f(x, x) does not match f(a, b).
 pub repeated-differs : match (app 2 (cons (var 0) (cons (var 0) nil))) (app 2 (cons (app 0 nil) (cons (app 1 nil) nil))) no-match ≡ none
@@ -177,8 +177,8 @@ module _ (ρ τ : Values) (v : ℕ) where
         elim (either (has-variable v s) (have-variable v ss) h) [ inl x ↦ same-instance-agrees s (cc) x | inr x ↦ same-instances-agree ss (cc) x ]
 
 -- An instance of a pattern is matched, by its values.
-pub match-complete : (s t : Term) (ρ : Values) → VariablesBelow variable-count s → inst ρ s ≡ t
-    → (m : Match) × (match s t no-match ≡ some m) × ((v : ℕ) → has-variable v s ≡ true → values-of m v ≡ ρ v)
-match-complete s t ρ b h =
+pub match-complete : (filling : Term) (s t : Term) (ρ : Values) → VariablesBelow variable-count s → inst ρ s ≡ t
+    → (m : Match) × (match s t no-match ≡ some m) × ((v : ℕ) → has-variable v s ≡ true → values-of filling m v ≡ ρ v)
+match-complete filling s t ρ b h =
     let (m, x, k) = match-found ρ s t no-match (no-match-fits ρ) h in
-    (m, x, λ v o. same-instance-agrees (values-of m) ρ v s (match-sound s t m b x ∙ sym h) o)
+    (m, x, λ v o. same-instance-agrees (values-of filling m) ρ v s (match-sound filling s t m b x ∙ sym h) o)

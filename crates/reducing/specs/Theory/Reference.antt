@@ -23,9 +23,10 @@ use Rattle.solving.specs.Theory.Judge.{first-holding-pos}
 use Rattle.solving.specs.Theory.Solve.{solve-exact}
 use Rattle.reducing.specs.Match.{values-of}
 use Rattle.reducing.specs.Run.{Step, Descending}
-use Rattle.reducing.specs.Reduction.{Reduces}
+use Rattle.reducing.specs.Reduction.{Reduces, StepReduces, StepsReduce}
 use Rattle.reducing.specs.Test.{holding-in, line-test, reference-test, line-run, reference-run, EverySolves}
 use Rattle.reducing.specs.Theory.Match.{match-sound}
+use Rattle.reducing.specs.Theory.Variables.{unmet-filled}
 use Rattle.reducing.specs.Theory.Step.{Taken}
 use Rattle.reducing.specs.Theory.Runs.{AllTaken, run-taken, Agree, run-same}
 
@@ -80,9 +81,9 @@ all-agree [] x s = tt
 all-agree (e ∷ es) x s = (tests-agree e (x .0) (s .0), all-agree es (x .1) (s .1))
 
 -- Where every direction solves, and the tables are exact, the run is the reference run: the same steps, ending and last term.
-pub exact-run-is-reference-run : (es : List Equation) → Every Exact es → EverySolves es → (k : ℕ) (subject : Term) → line-run es k subject ≡ reference-run es k subject
+pub exact-run-is-reference-run : (filling : Term) (es : List Equation) → Every Exact es → EverySolves es → (k : ℕ) (subject : Term) → line-run filling es k subject ≡ reference-run filling es k subject
 unfolding line-run reference-run
-exact-run-is-reference-run es x s k subject = run-same line-test reference-test es (all-agree es x s) k subject
+exact-run-is-reference-run filling es x s k subject = run-same filling line-test reference-test es (all-agree es x s) k subject
 
 pub source-variables : {e : Equation} → WithinLimits e → (d : Direction) → VariablesBelow variable-count (source e d)
 unfolding source
@@ -90,48 +91,63 @@ source-variables w left-right = w .left-variables
 source-variables w right-left = w .right-variables
 
 -- A term that reduces to another exceeds it.
-pub reduces-exceeds : {es : List Equation} {s t : Term} → Reduces es s t → s ≻ t
+pub reduces-exceeds : {filling : Term} {es : List Equation} {s t : Term} → Reduces filling es s t → s ≻ t
 reduces-exceeds {s = s} r = rw (r .gives) (replace-exceeds s (r .position) (var 0) _ (r .inside) (rw (r .matches) (r .exceeds)))
 
-module _ (es : List Equation) (within : Every WithinLimits es) where
+reducing-descends : (filling : Term) (es : List Equation) (subject : Term) (steps : List Step) → StepsReduce filling es subject steps → Descending subject steps
+reducing-descends filling es subject [] h = tt
+reducing-descends filling es subject (s ∷ steps) h = (reduces-exceeds (h .0 .reduces), reducing-descends filling es (s .result) steps (h .1))
+
+module _ (filling : Term) (es : List Equation) (within : Every WithinLimits es) where
   -- A step of the reference run is a reduction.
-  pub taken-reduces : (subject : Term) (s : Step) → Taken reference-test es subject s → Reduces es subject (s .result)
-  taken-reduces subject s t =
+  pub taken-step : (subject : Term) (s : Step) → Taken filling reference-test es subject s → StepReduces filling es subject s
+  taken-step subject s t =
       let r = t .rewrites in
       let e = t .chosen in
       let d = s .direction in
       let w : WithinLimits e = every-entry WithinLimits es (s .equation) within (t .numbered) in
       record {
-        number = s .equation;
-        equation = e;
-        equation-there = t .numbered;
-        direction = d;
-        direction-usable = r .direction-usable;
-        position = s .position;
-        inside = t .inside;
-        values = values-of (r .found);
-        matches = sym (match-sound _ _ (r .found) (source-variables w d) (r .matches));
-        exceeds = reference-test-is e d (values-of (r .found)) .0 (r .passes);
-        gives = r .gives;
+        reduces = record {
+          number = s .equation;
+          equation = e;
+          equation-there = t .numbered;
+          direction = d;
+          position = s .position;
+          inside = t .inside;
+          values = values-of filling (r .found);
+          matches = sym (match-sound filling _ _ (r .found) (source-variables w d) (r .matches));
+          fills = λ v h. unmet-filled filling _ _ (r .found) v (r .matches) h;
+          exceeds = reference-test-is e d (values-of filling (r .found)) .0 (r .passes);
+          gives = r .gives;
+        };
+        same-equation = refl;
+        same-direction = refl;
+        same-position = refl;
       }
 
-  all-taken-descending : (subject : Term) (steps : List Step) → AllTaken reference-test es subject steps → Descending subject steps
-  all-taken-descending subject [] a = tt
-  all-taken-descending subject (s ∷ steps) a = (reduces-exceeds (taken-reduces subject s (a .0)), all-taken-descending (s .result) steps (a .1))
+  all-taken-reduce : (subject : Term) (steps : List Step) → AllTaken filling reference-test es subject steps → StepsReduce filling es subject steps
+  all-taken-reduce subject [] a = tt
+  all-taken-reduce subject (s ∷ steps) a = (taken-step subject s (a .0), all-taken-reduce (s .result) steps (a .1))
 
-  pub reference-run-descending : (k : ℕ) (subject : Term) → Descending subject (reference-run es k subject .steps)
+  pub reference-run-reduces : (k : ℕ) (subject : Term) → StepsReduce filling es subject (reference-run filling es k subject .steps)
   unfolding reference-run
-  reference-run-descending k subject = all-taken-descending subject (reference-run es k subject .steps) (run-taken reference-test es k subject)
+  reference-run-reduces k subject = all-taken-reduce subject (reference-run filling es k subject .steps) (run-taken filling reference-test es k subject)
+
+  pub reference-run-descending : (k : ℕ) (subject : Term) → Descending subject (reference-run filling es k subject .steps)
+  reference-run-descending k subject = reducing-descends filling es subject (reference-run filling es k subject .steps) (reference-run-reduces k subject)
 
 -- On equations within the limits the tables are exact.
 pub all-exact : (es : List Equation) → Every WithinLimits es → Every Exact es
 all-exact [] w = tt
 all-exact (e ∷ es) w = (solve-exact e (w .0), all-exact es (w .1))
 
-module _ (es : List Equation) (within : Every WithinLimits es) (solves : EverySolves es) (k : ℕ) (subject : Term) where
-  -- So there the run is the reference run wherever every direction solves, and each of its terms exceeds the next.
-  pub run-is-reference-run : line-run es k subject ≡ reference-run es k subject
-  run-is-reference-run = exact-run-is-reference-run es (all-exact es within) solves k subject
+module _ (filling : Term) (es : List Equation) (within : Every WithinLimits es) (solves : EverySolves es) (k : ℕ) (subject : Term) where
+  -- So there the run is the reference run wherever every direction solves, each of its steps is a reduction, and each of its terms exceeds the next.
+  pub run-is-reference-run : line-run filling es k subject ≡ reference-run filling es k subject
+  run-is-reference-run = exact-run-is-reference-run filling es (all-exact es within) solves k subject
 
-  pub run-descending : Descending subject (line-run es k subject .steps)
-  run-descending = rw run-is-reference-run (reference-run-descending es within k subject)
+  pub run-descending : Descending subject (line-run filling es k subject .steps)
+  run-descending = rw run-is-reference-run (reference-run-descending filling es within k subject)
+
+  pub run-reduces : StepsReduce filling es subject (line-run filling es k subject .steps)
+  run-reduces = rw run-is-reference-run (reference-run-reduces filling es within k subject)

@@ -13,7 +13,7 @@ use Rattle.format.specs.Theory.Lists.{every-map, entry-length}
 use Rattle.terms.specs.Term.{Term, size, Values, inst}
 use Rattle.terms.specs.Position.{subterms, replace}
 use Rattle.terms.specs.Equation.{Equation, Direction, left-right, right-left, source, target}
-use Rattle.reducing.specs.Match.{unmet, match, values-of, usable}
+use Rattle.reducing.specs.Match.{unmet, match, values-of}
 use Rattle.reducing.specs.Run.{Step, Ending, none-found, limit-reached, result-too-large, ending-number, Run, after-step, try-with, try-equations-with, try-positions-with, step-with, step, run-with, run, last-term}
 use Rattle.reducing.specs.Theory.Step.{or-else, Taken, step-taken}
 
@@ -36,46 +36,46 @@ unless-large s r b = elim b [ true ↦ stopped result-too-large | false ↦ afte
 abbrev pub below-limit : (Step → Run) → Option Step → Run
 below-limit after o = elim o [ none ↦ stopped none-found | some s ↦ unless-large s (after s) (ltb max-task-nodes (size (s .result))) ]
 
-module _ (test : Equation → Direction → Values → Bool) (es : List Equation) where
+module _ (filling : Term) (test : Equation → Direction → Values → Bool) (es : List Equation) where
   -- "Before each step: none found, ending 00; k steps done, ending 01; result above 160 nodes, ending 02; else the step."
   pub data Runs : ℕ → Term → Run → Type 0 where
-    no-step : {k : ℕ} {subject : Term} → step test es subject ≡ none → Runs k subject (stopped none-found)
-    all-done : {subject : Term} {s : Step} → step test es subject ≡ some s → Runs 0 subject (stopped limit-reached)
-    too-large : {k : ℕ} {subject : Term} {s : Step} → step test es subject ≡ some s → max-task-nodes < size (s .result)
+    no-step : {k : ℕ} {subject : Term} → step filling test es subject ≡ none → Runs k subject (stopped none-found)
+    all-done : {subject : Term} {s : Step} → step filling test es subject ≡ some s → Runs 0 subject (stopped limit-reached)
+    too-large : {k : ℕ} {subject : Term} {s : Step} → step filling test es subject ≡ some s → max-task-nodes < size (s .result)
         → Runs (suc k) subject (stopped result-too-large)
-    one-step : {k : ℕ} {subject : Term} {s : Step} {steps : List Step} {ending : Ending} → step test es subject ≡ some s → size (s .result) ≤ max-task-nodes
+    one-step : {k : ℕ} {subject : Term} {s : Step} {steps : List Step} {ending : Ending} → step filling test es subject ≡ some s → size (s .result) ≤ max-task-nodes
         → Runs k (s .result) (record { steps = steps; ending = ending }) → Runs (suc k) subject (record { steps = s ∷ steps; ending = ending })
 
-  last-stage : (subject : Term) (o : Option Step) → step test es subject ≡ o → Runs 0 subject (at-limit o)
+  last-stage : (subject : Term) (o : Option Step) → step filling test es subject ≡ o → Runs 0 subject (at-limit o)
   last-stage subject none e = no-step e
   last-stage subject (some s) e = all-done e
 
-  by-size : (k : ℕ) (subject : Term) (s : Step) → step test es subject ≡ some s → Runs k (s .result) (run test es k (s .result))
-      → (b : Bool) → ltb max-task-nodes (size (s .result)) ≡ b → Runs (suc k) subject (unless-large s (run test es k (s .result)) b)
+  by-size : (k : ℕ) (subject : Term) (s : Step) → step filling test es subject ≡ some s → Runs k (s .result) (run filling test es k (s .result))
+      → (b : Bool) → ltb max-task-nodes (size (s .result)) ≡ b → Runs (suc k) subject (unless-large s (run filling test es k (s .result)) b)
   unfolding after-step
   by-size k subject s e r true l = too-large e (ltb→lt _ _ (rw l tt))
   by-size k subject s e r false l = one-step e (nltb→le _ _ (rw l tt)) r
 
-  stage : (k : ℕ) (subject : Term) → ((t : Term) → Runs k t (run test es k t)) → (o : Option Step) → step test es subject ≡ o
-      → Runs (suc k) subject (below-limit (λ s. run test es k (s .result)) o)
+  stage : (k : ℕ) (subject : Term) → ((t : Term) → Runs k t (run filling test es k t)) → (o : Option Step) → step filling test es subject ≡ o
+      → Runs (suc k) subject (below-limit (λ s. run filling test es k (s .result)) o)
   stage k subject r none e = no-step e
   stage k subject r (some s) e = by-size k subject s e (r (s .result)) (ltb max-task-nodes (size (s .result))) refl
 
-  pub run-runs : (k : ℕ) (subject : Term) → Runs k subject (run test es k subject)
+  pub run-runs : (k : ℕ) (subject : Term) → Runs k subject (run filling test es k subject)
   unfolding run
-  run-runs zero subject = last-stage subject (step test es subject) refl
-  run-runs (suc k) subject = stage k subject (run-runs k) (step test es subject) refl
+  run-runs zero subject = last-stage subject (step filling test es subject) refl
+  run-runs (suc k) subject = stage k subject (run-runs k) (step filling test es subject) refl
 
   -- Each step is one of the term before it.
   abbrev pub AllTaken : Term → List Step → Type 0
   AllTaken subject [] = Unit {0}
-  AllTaken subject (s ∷ steps) = Taken test es subject s × AllTaken (s .result) steps
+  AllTaken subject (s ∷ steps) = Taken filling test es subject s × AllTaken (s .result) steps
 
   runs-taken : {k : ℕ} {subject : Term} {r : Run} → Runs k subject r → AllTaken subject (r .steps)
   runs-taken (no-step e) = tt
   runs-taken (all-done e) = tt
   runs-taken (too-large e l) = tt
-  runs-taken (one-step e l r) = (step-taken test es _ _ e, runs-taken r)
+  runs-taken (one-step e l r) = (step-taken filling test es _ _ e, runs-taken r)
 
   -- There are at most `k` steps.
   runs-few : {k : ℕ} {subject : Term} {r : Run} → Runs k subject r → length (r .steps) ≤ k
@@ -105,14 +105,14 @@ module _ (test : Equation → Direction → Values → Bool) (es : List Equation
   runs-bounded (all-done e) h = tt
   runs-bounded (too-large e l) h = tt
   runs-bounded (one-step e l r) h =
-      let t = step-taken test es _ _ e in
+      let t = step-taken filling test es _ _ e in
       ((entry-length es _ (t .numbered), omega (arith, t .inside)), runs-bounded r l)
 
   -- What each ending says of the last term and of the number of steps, `n`.
   abbrev pub RunEnded : Ending → (k n : ℕ) → (last : Term) → Type 0
-  RunEnded none-found k n last = step test es last ≡ none
-  RunEnded limit-reached k n last = (n ≡ k) × (s : Step) × (step test es last ≡ some s)
-  RunEnded result-too-large k n last = (n < k) × (s : Step) × (step test es last ≡ some s) × (max-task-nodes < size (s .result))
+  RunEnded none-found k n last = step filling test es last ≡ none
+  RunEnded limit-reached k n last = (n ≡ k) × (s : Step) × (step filling test es last ≡ some s)
+  RunEnded result-too-large k n last = (n < k) × (s : Step) × (step filling test es last ≡ some s) × (max-task-nodes < size (s .result))
 
   one-more : (x : Ending) (k n : ℕ) (last : Term) → RunEnded x k n last → RunEnded x (suc k) (suc n) last
   one-more none-found k n last h = h
@@ -127,31 +127,31 @@ module _ (test : Equation → Direction → Values → Bool) (es : List Equation
   runs-ended (one-step {ending = x} e l r) = one-more x _ _ _ (runs-ended r)
 
   module _ (k : ℕ) (subject : Term) where
-    pub run-taken : AllTaken subject (run test es k subject .steps)
+    pub run-taken : AllTaken subject (run filling test es k subject .steps)
     run-taken = runs-taken (run-runs k subject)
 
-    pub run-few : length (run test es k subject .steps) ≤ k
+    pub run-few : length (run filling test es k subject .steps) ≤ k
     run-few = runs-few (run-runs k subject)
 
-    pub run-small : Every (λ s. size (s .result) ≤ max-task-nodes) (run test es k subject .steps)
+    pub run-small : Every (λ s. size (s .result) ≤ max-task-nodes) (run filling test es k subject .steps)
     run-small = runs-small (run-runs k subject)
 
-    pub run-last-small : size subject ≤ max-task-nodes → size (last-term subject (run test es k subject .steps)) ≤ max-task-nodes
+    pub run-last-small : size subject ≤ max-task-nodes → size (last-term subject (run filling test es k subject .steps)) ≤ max-task-nodes
     run-last-small = runs-last (run-runs k subject)
 
-    pub run-bounded : size subject ≤ max-task-nodes → Every (λ s. (s .equation < length es) × (s .position < max-task-nodes)) (run test es k subject .steps)
+    pub run-bounded : size subject ≤ max-task-nodes → Every (λ s. (s .equation < length es) × (s .position < max-task-nodes)) (run filling test es k subject .steps)
     run-bounded = runs-bounded (run-runs k subject)
 
-    pub run-ended : RunEnded (run test es k subject .ending) k (length (run test es k subject .steps)) (last-term subject (run test es k subject .steps))
+    pub run-ended : RunEnded (run filling test es k subject .ending) k (length (run filling test es k subject .steps)) (last-term subject (run filling test es k subject .steps))
     run-ended = runs-ended (run-runs k subject)
 
 -- A run depends on its test and on the number of variables only by what is tried of the equations of the list.
-module _ (variables₁ variables₂ : ℕ) (test₁ test₂ : Equation → Direction → Values → Bool) where
+module _ (variables₁ variables₂ : ℕ) (filling : Term) (test₁ test₂ : Equation → Direction → Values → Bool) where
   abbrev pub SameTries : Equation → Type 0
-  SameTries e = (subject : Term) (p : ℕ) (part : Term) (n : ℕ) (d : Direction) → try-with variables₁ test₁ subject p part n e d ≡ try-with variables₂ test₂ subject p part n e d
+  SameTries e = (subject : Term) (p : ℕ) (part : Term) (n : ℕ) (d : Direction) → try-with variables₁ filling test₁ subject p part n e d ≡ try-with variables₂ filling test₂ subject p part n e d
 
   try-equations-same : (subject : Term) (p : ℕ) (part : Term) (n : ℕ) (es : List Equation) → Every SameTries es
-      → try-equations-with variables₁ test₁ subject p part n es ≡ try-equations-with variables₂ test₂ subject p part n es
+      → try-equations-with variables₁ filling test₁ subject p part n es ≡ try-equations-with variables₂ filling test₂ subject p part n es
   unfolding try-equations-with
   try-equations-same subject p part n [] a = refl
   try-equations-same subject p part n (e ∷ es) a =
@@ -161,7 +161,7 @@ module _ (variables₁ variables₂ : ℕ) (test₁ test₂ : Equation → Direc
       λ i. or-else (left i) (or-else (right i) (others i))
 
   module _ (es : List Equation) (a : Every SameTries es) where
-    try-positions-same : (subject : Term) (p : ℕ) (parts : List Term) → try-positions-with variables₁ test₁ es subject p parts ≡ try-positions-with variables₂ test₂ es subject p parts
+    try-positions-same : (subject : Term) (p : ℕ) (parts : List Term) → try-positions-with variables₁ filling test₁ es subject p parts ≡ try-positions-with variables₂ filling test₂ es subject p parts
     unfolding try-positions-with
     try-positions-same subject p [] = refl
     try-positions-same subject p (part ∷ parts) =
@@ -169,11 +169,11 @@ module _ (variables₁ variables₂ : ℕ) (test₁ test₂ : Equation → Direc
         let others = try-positions-same subject (suc p) parts in
         λ i. or-else (here i) (others i)
 
-    pub step-same-with : (subject : Term) → step-with variables₁ test₁ es subject ≡ step-with variables₂ test₂ es subject
+    pub step-same-with : (subject : Term) → step-with variables₁ filling test₁ es subject ≡ step-with variables₂ filling test₂ es subject
     unfolding step-with
     step-same-with subject = try-positions-same subject 0 (subterms subject)
 
-    pub run-same-with : (k : ℕ) (subject : Term) → run-with variables₁ test₁ es k subject ≡ run-with variables₂ test₂ es k subject
+    pub run-same-with : (k : ℕ) (subject : Term) → run-with variables₁ filling test₁ es k subject ≡ run-with variables₂ filling test₂ es k subject
     unfolding run-with
     run-same-with zero subject = ap at-limit (step-same-with subject)
     run-same-with (suc k) subject = λ i. below-limit (λ s. run-same-with k (s .result) i) (step-same-with subject i)
@@ -183,25 +183,23 @@ module _ (test₁ test₂ : Equation → Direction → Values → Bool) where
   abbrev pub Agree : Equation → Type 0
   Agree e = (d : Direction) (ρ : Values) → test₁ e d ρ ≡ test₂ e d ρ
 
-  agree-tries : (e : Equation) → Agree e → SameTries variable-count variable-count test₁ test₂ e
+module _ (filling : Term) (test₁ test₂ : Equation → Direction → Values → Bool) where
+  agree-tries : (e : Equation) → Agree test₁ test₂ e → SameTries variable-count variable-count filling test₁ test₂ e
   unfolding try-with
   agree-tries e a subject p part n d i =
-      elim (usable e d) as (λ x. Option Step) [
-        | false ↦ none
-        | true ↦ elim (match (source e d) part (unmet variable-count)) as (λ x. Option Step) [
-          | none ↦ none
-          | some m ↦ elim (a d (values-of m) i) as (λ x. Option Step) [
-            | false ↦ none
-            | true ↦ some (record { equation = n; direction = d; position = p; result = replace subject p (inst (values-of m) (target e d)) })
-          ]
+      elim (match (source e d) part (unmet variable-count)) as (λ x. Option Step) [
+        | none ↦ none
+        | some m ↦ elim (a d (values-of filling m) i) as (λ x. Option Step) [
+          | false ↦ none
+          | true ↦ some (record { equation = n; direction = d; position = p; result = replace subject p (inst (values-of filling m) (target e d)) })
         ]
       ]
 
-  module _ (es : List Equation) (a : Every Agree es) where
-    pub step-same : (subject : Term) → step test₁ es subject ≡ step test₂ es subject
+  module _ (es : List Equation) (a : Every (Agree test₁ test₂) es) where
+    pub step-same : (subject : Term) → step filling test₁ es subject ≡ step filling test₂ es subject
     unfolding step
-    step-same = step-same-with variable-count variable-count test₁ test₂ es (every-map agree-tries es a)
+    step-same = step-same-with variable-count variable-count filling test₁ test₂ es (every-map agree-tries es a)
 
-    pub run-same : (k : ℕ) (subject : Term) → run test₁ es k subject ≡ run test₂ es k subject
+    pub run-same : (k : ℕ) (subject : Term) → run filling test₁ es k subject ≡ run filling test₂ es k subject
     unfolding run
-    run-same = run-same-with variable-count variable-count test₁ test₂ es (every-map agree-tries es a)
+    run-same = run-same-with variable-count variable-count filling test₁ test₂ es (every-map agree-tries es a)

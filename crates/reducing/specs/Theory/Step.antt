@@ -1,4 +1,4 @@
--- What a step is: an equation of the list, usable, matches a part of the subject by values that pass the test, and the part is replaced.
+-- What a step is: an equation of the list matches a part of the subject by values that pass the test, and the part is replaced.
 use Prim.Native.Nat.{ℕ, suc, _+_, _<_}
 use mathlib.Core.Path.{_≡_, refl, subst}
 use mathlib.Core.Bool.{Bool, true, false}
@@ -12,7 +12,7 @@ use Rattle.terms.specs.Term.{Term, var, size, Values, inst}
 use Rattle.terms.specs.Position.{subterms, replace}
 use Rattle.terms.specs.Equation.{Equation, Direction, left-right, right-left, source, target}
 use Rattle.terms.specs.Theory.Position.{length-subterms}
-use Rattle.reducing.specs.Match.{Match, no-match, match, values-of, usable}
+use Rattle.reducing.specs.Match.{Match, no-match, match, values-of}
 use Rattle.reducing.specs.Run.{Step, try, try-equations, try-positions, step}
 
 -- The first answer of two.
@@ -24,20 +24,19 @@ first-some none rest h = inr h
 first-some (some t) rest h = inl h
 
 -- The step of equation `n` at position `p` that a match gives, and whether it passes the test.
-abbrev pub stepped : (subject : Term) (p n : ℕ) → Equation → Direction → Match → Step
-stepped subject p n e d m = record { equation = n; direction = d; position = p; result = replace subject p (inst (values-of m) (target e d)) }
+abbrev pub stepped : (filling subject : Term) (p n : ℕ) → Equation → Direction → Match → Step
+stepped filling subject p n e d m = record { equation = n; direction = d; position = p; result = replace subject p (inst (values-of filling m) (target e d)) }
 
-abbrev pub tested : (subject : Term) (p n : ℕ) → Equation → Direction → Match → Bool → Option Step
-tested subject p n e d m b = elim b [ false ↦ none | true ↦ some (stepped subject p n e d m) ]
+abbrev pub tested : (filling subject : Term) (p n : ℕ) → Equation → Direction → Match → Bool → Option Step
+tested filling subject p n e d m b = elim b [ false ↦ none | true ↦ some (stepped filling subject p n e d m) ]
 
-module _ (test : Equation → Direction → Values → Bool) where
+module _ (filling : Term) (test : Equation → Direction → Values → Bool) where
   -- The step rewrites the subject by the equation, at this part of it.
   pub record Rewrites (e : Equation) (subject part : Term) (s : Step) : Type 0 where
-    pub direction-usable : usable e (s .direction) ≡ true
     pub found : Match
     pub matches : match (source e (s .direction)) part no-match ≡ some found
-    pub passes : test e (s .direction) (values-of found) ≡ true
-    pub gives : s .result ≡ replace subject (s .position) (inst (values-of found) (target e (s .direction)))
+    pub passes : test e (s .direction) (values-of filling found) ≡ true
+    pub gives : s .result ≡ replace subject (s .position) (inst (values-of filling found) (target e (s .direction)))
 
   -- The step is one of the subject, by an equation of the list.
   pub record Taken (es : List Equation) (subject : Term) (s : Step) : Type 0 where
@@ -53,26 +52,22 @@ module _ (test : Equation → Direction → Values → Bool) where
       Tried = (s .equation ≡ n) × (s .position ≡ p) × Rewrites e subject part s
 
       abbrev matched : Option Match → Option Step
-      matched o = elim o [ none ↦ none | some m ↦ tested subject p n e d m (test e d (values-of m)) ]
+      matched o = elim o [ none ↦ none | some m ↦ tested filling subject p n e d m (test e d (values-of filling m)) ]
 
-      tested-some : usable e d ≡ true → (m : Match) → match (source e d) part no-match ≡ some m → (b : Bool) → test e d (values-of m) ≡ b → tested subject p n e d m b ≡ some s
+      tested-some : (m : Match) → match (source e d) part no-match ≡ some m → (b : Bool) → test e d (values-of filling m) ≡ b → tested filling subject p n e d m b ≡ some s
           → Tried
-      tested-some u m x false y h = let z : _≡_ {A = ℕ} 0 1 = cc in absurd (omega arith)
-      tested-some u m x true y h =
-          let z : s ≡ stepped subject p n e d m = cc in
-          rw z (refl, refl, record { direction-usable = u; found = m; matches = x; passes = y; gives = refl })
+      tested-some m x false y h = let z : _≡_ {A = ℕ} 0 1 = cc in absurd (omega arith)
+      tested-some m x true y h =
+          let z : s ≡ stepped filling subject p n e d m = cc in
+          rw z (refl, refl, record { found = m; matches = x; passes = y; gives = refl })
 
-      matched-some : usable e d ≡ true → (o : Option Match) → match (source e d) part no-match ≡ o → matched o ≡ some s → Tried
-      matched-some u none x h = let z : _≡_ {A = ℕ} 0 1 = cc in absurd (omega arith)
-      matched-some u (some m) x h = tested-some u m x (test e d (values-of m)) refl h
+      matched-some : (o : Option Match) → match (source e d) part no-match ≡ o → matched o ≡ some s → Tried
+      matched-some none x h = let z : _≡_ {A = ℕ} 0 1 = cc in absurd (omega arith)
+      matched-some (some m) x h = tested-some m x (test e d (values-of filling m)) refl h
 
-      pub try-some : try test subject p part n e d ≡ some s → Tried
+      pub try-some : try filling test subject p part n e d ≡ some s → Tried
       unfolding try
-      try-some h = go (usable e d) refl h
-        where
-          go : (b : Bool) → usable e d ≡ b → elim b as (λ x. Option Step) [ false ↦ none | true ↦ matched (match (source e d) part no-match) ] ≡ some s → Tried
-          go false u h = let z : _≡_ {A = ℕ} 0 1 = cc in absurd (omega arith)
-          go true u h = matched-some u (match (source e d) part no-match) refl h
+      try-some h = matched-some (match (source e d) part no-match) refl h
 
     -- The equations at one position, the first of them number `n`.
     abbrev TriedFrom : ℕ → List Equation → Step → Type 0
@@ -86,13 +81,13 @@ module _ (test : Equation → Direction → Values → Bool) where
     unfolding entry
     tried-later n e es s x = let (i, f, a, b, c, r) = x in (suc i, f, a, omega arith, c, r)
 
-    try-equations-some : (n : ℕ) (es : List Equation) (s : Step) → try-equations test subject p part n es ≡ some s → TriedFrom n es s
+    try-equations-some : (n : ℕ) (es : List Equation) (s : Step) → try-equations filling test subject p part n es ≡ some s → TriedFrom n es s
     unfolding try-equations
     try-equations-some n [] s h = let z : _≡_ {A = ℕ} 0 1 = cc in absurd (omega arith)
     try-equations-some n (e ∷ es) s h =
-        elim (first-some (try test subject p part n e left-right) _ h) [
+        elim (first-some (try filling test subject p part n e left-right) _ h) [
           | inl x ↦ tried-first n e es left-right s (try-some n e left-right s x)
-          | inr y ↦ elim (first-some (try test subject p part n e right-left) _ y) [
+          | inr y ↦ elim (first-some (try filling test subject p part n e right-left) _ y) [
             | inl x ↦ tried-first n e es right-left s (try-some n e right-left s x)
             | inr z ↦ tried-later n e es s (try-equations-some (suc n) es s z)
           ]
@@ -112,16 +107,16 @@ module _ (test : Equation → Direction → Values → Bool) where
     tried-there : (p : ℕ) (part : Term) (parts : List Term) → TriedAt (suc p) parts → TriedAt p (part ∷ parts)
     tried-there p part parts x = let (i, l, a, e, b, r) = x in (suc i, omega arith, omega arith, e, b, r)
 
-    try-positions-some : (p : ℕ) (parts : List Term) → try-positions test es subject p parts ≡ some s → TriedAt p parts
+    try-positions-some : (p : ℕ) (parts : List Term) → try-positions filling test es subject p parts ≡ some s → TriedAt p parts
     unfolding try-positions
     try-positions-some p [] h = let z : _≡_ {A = ℕ} 0 1 = cc in absurd (omega arith)
     try-positions-some p (part ∷ parts) h =
-        elim (first-some (try-equations test subject p part 0 es) _ h) [
+        elim (first-some (try-equations filling test subject p part 0 es) _ h) [
           | inl x ↦ tried-here p part parts (try-equations-some subject p part 0 es s x)
           | inr y ↦ tried-there p part parts (try-positions-some (suc p) parts y)
         ]
 
-    pub step-taken : step test es subject ≡ some s → Taken es subject s
+    pub step-taken : step filling test es subject ≡ some s → Taken es subject s
     unfolding step
     step-taken h =
         let (i, l, a, e, b, r) = try-positions-some 0 (subterms subject) h in

@@ -43,17 +43,17 @@ module _ (sheet : List ℕ) (known : Known) (from end : ℕ) (equations lengths 
     pub ready : LinesReady fits bounds table those
 
 -- The steps, the ending and the last term are those of the definition; "term and log hold the result first, the rest unchanged".
-pub record RunCourse (es : List Equation) (k : ℕ) (subject : Term) (term term-after log log-after : List ℕ) (c : Course) : Type 0 where
-  pub steps-are : c .steps ≡ length (the-run es k subject .steps)
+pub record RunCourse (arities : List ℕ) (es : List Equation) (k : ℕ) (subject : Term) (term term-after log log-after : List ℕ) (c : Course) : Type 0 where
+  pub steps-are : c .steps ≡ length (the-run arities es k subject .steps)
   pub few-steps : k ≤ max-steps → c .steps ≤ max-steps
-  pub ending-is : c .ending ≡ the-run es k subject .ending
-  pub size-is : c .size ≡ size (last-of es k subject)
+  pub ending-is : c .ending ≡ the-run arities es k subject .ending
+  pub size-is : c .size ≡ size (last-of arities es k subject)
   pub small : c .size ≤ max-task-nodes
-  pub term-is : term-after ≡ written (prefix (last-of es k subject)) term
-  pub log-is : log-after ≡ written (log-of (the-run es k subject .steps)) log
+  pub term-is : term-after ≡ written (prefix (last-of arities es k subject)) term
+  pub log-is : log-after ≡ written (log-of (the-run arities es k subject .steps)) log
 
 -- "steps, ending, bytes of the term"; "term and log hold the result first, the rest unchanged".
-pub record Ran (es : List Equation) (k : ℕ) (subject : Term) (term term-after log log-after : List ℕ) (r : ℕ) : Type 0 where
-  pub returned : r ≡ fields (length (the-run es k subject .steps)) (ending-number (the-run es k subject .ending)) (size (last-of es k subject))
-  pub term-is : term-after ≡ written (prefix (last-of es k subject)) term
-  pub log-is : log-after ≡ written (log-of (the-run es k subject .steps)) log
+pub record Ran (arities : List ℕ) (es : List Equation) (k : ℕ) (subject : Term) (term term-after log log-after : List ℕ) (r : ℕ) : Type 0 where
+  pub returned : r ≡ fields (length (the-run arities es k subject .steps)) (ending-number (the-run arities es k subject .ending)) (size (last-of arities es k subject))
+  pub term-is : term-after ≡ written (prefix (last-of arities es k subject)) term
+  pub log-is : log-after ≡ written (log-of (the-run arities es k subject .steps)) log

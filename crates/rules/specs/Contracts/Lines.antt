@@ -2,7 +2,6 @@
 use Prim.Native.Nat.{ℕ, _+_, _≤_}
 use mathlib.Core.Path.{_≡_}
 use mathlib.Core.Logic.{_⊎_}
-use mathlib.Core.Bool.{true, false}
 use mathlib.Core.List.{List, [], _∷_}
 use lib.ListN.{length}
 use lib.Seq.{slice}
@@ -15,7 +14,6 @@ use Rattle.terms.specs.Contracts.Limits.{positions}
 use Rattle.solving.specs.Line.{Element, equal, greater, Line, line}
 use Rattle.solving.specs.Judge.{first-holding}
 use Rattle.solving.specs.Contracts.Written.{WrittenLines}
-use Rattle.reducing.specs.Match.{usable}
 use Rattle.reducing.specs.Test.{line-test}
 use Rattle.judging.specs.declared.trimmed.KeptLines.{KeptLines}
 use Rattle.judging.specs.Contracts.Trimmed.{trimmed-lines}
@@ -38,11 +36,10 @@ pub record ProperLines (e : Equation) (ls : List Line) : Type 0 where
   pub written : WrittenLines (positions e) ls
   pub irreducible : AllHaveVariable (view e) ls
 
--- The lines of a rule that is usable; a rule that is not has none.
+-- The lines of a rule.
 pub record RuleLines (e : Equation) (d : Direction) (ls : List Line) : Type 0 where
   pub proper : ProperLines e ls
-  pub unusable : usable e d ≡ false → ls ≡ []
-  pub tests : usable e d ≡ true → (ρ : Values) → line-test e d ρ ≡ ltb 0 (first-holding ρ (value e ρ) ls)
+  pub tests : (ρ : Values) → line-test e d ρ ≡ ltb 0 (first-holding ρ (value e ρ) ls)
 
 -- These lines are kept here.
 pub record LinesAt (table : List ℕ) (kept : KeptLines) (ls : List Line) : Type 0 where

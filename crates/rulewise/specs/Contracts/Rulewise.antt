@@ -6,6 +6,7 @@ use mathlib.Core.List.{List}
 use lib.ListN.{length}
 use Rattle.format.specs.Limits.{position-count}
 use Rattle.terms.specs.Term.{Term, size}
+use Rattle.terms.specs.Filling.{filling}
 use Rattle.terms.specs.Equation.{Equation, Direction}
 use Rattle.terms.specs.Contracts.Stored.{SubjectIs}
 use Rattle.terms.specs.declared.arguments.Arguments.{Arguments}
@@ -41,10 +42,10 @@ module _ (equations : List ℕ) (side : Arguments) (nodes sizes : List ℕ) (end
     pub is : SourceIs arities pattern subject
 
 -- The first node before `end` at which a rule can step; `end` if there is none.
-pub record FirstFor (subject : Term) (i : ℕ) (e : Equation) (d : Direction) (end r : ℕ) : Type 0 where
+pub record FirstFor (arities : List ℕ) (subject : Term) (i : ℕ) (e : Equation) (d : Direction) (end r : ℕ) : Type 0 where
   pub within : r ≤ end
-  pub none-before : (p : ℕ) → position-count + p < r → try line-test subject p (part-at subject p) i e d ≡ none
-  pub can : r < end → (p : ℕ) × (s : Step) × (r ≡ position-count + p) × (try line-test subject p (part-at subject p) i e d ≡ some s)
+  pub none-before : (p : ℕ) → position-count + p < r → try (filling arities) line-test subject p (part-at subject p) i e d ≡ none
+  pub can : r < end → (p : ℕ) × (s : Step) × (r ≡ position-count + p) × (try (filling arities) line-test subject p (part-at subject p) i e d ≡ some s)
 
 -- A rule with its kept lines, which cannot step before `from`.
 module _ (equations lengths : List ℕ) (rule : ℕ) (table : List ℕ) (lines : KeptLines) (nodes sizes : List ℕ) (from end : ℕ) where
@@ -57,7 +58,7 @@ module _ (equations lengths : List ℕ) (rule : ℕ) (table : List ℕ) (lines :
     pub low : position-count ≤ from
     pub ordered : from ≤ end
     pub inside : end ≤ position-count + size subject
-    pub none-before : (p : ℕ) → position-count + p < from → try line-test subject p (part-at subject p) i e d ≡ none
+    pub none-before : (p : ℕ) → position-count + p < from → try (filling arities) line-test subject p (part-at subject p) i e d ≡ none
 
   pub record HasKeptTry : Type 0 where
     pub arities : List ℕ

@@ -5,6 +5,7 @@ use mathlib.Core.List.{List}
 use lib.ListN.{length}
 use Rattle.format.specs.Buffer.{written}
 use Rattle.terms.specs.Term.{Term, size}
+use Rattle.terms.specs.Filling.{filling}
 use Rattle.terms.specs.Equation.{Equation}
 use Rattle.terms.specs.Contracts.Stored.{SubjectIs}
 use Rattle.reducing.specs.Run.{Run, last-term}
@@ -13,14 +14,14 @@ use Rattle.outcomes.specs.Outcome.{log-of}
 use Rattle.running.specs.declared.course.Course.{Course}
 
 -- The steps, the ending and the last term are those of the definition, and the steps are logged.
-module _ (es : List Equation) (k : ℕ) (subject : Term) where
+module _ (arities : List ℕ) (es : List Equation) (k : ℕ) (subject : Term) where
   abbrev pub the-run : Run
-  the-run = line-run es k subject
+  the-run = line-run (filling arities) es k subject
 
   abbrev pub last-of : Term
   last-of = last-term subject (the-run .steps)
 
-  pub record CourseIs (arities nodes sizes log log-after : List ℕ) (c : Course) : Type 0 where
+  pub record CourseIs (nodes sizes log log-after : List ℕ) (c : Course) : Type 0 where
     pub steps-are : c .steps ≡ length (the-run .steps)
     pub ending-is : c .ending ≡ the-run .ending
     pub size-is : c .size ≡ size last-of

@@ -29,10 +29,10 @@ pub record HasWalked (sheet : List ℕ) (known : Known) (from end : ℕ) (equati
   pub walked : WalksAs those bounds table walks
 
 -- The run, or the refusal of a walk, which leaves term and log as they are.
-abbrev pub RanAs : Walks → (es : List Equation) (k : ℕ) (subject : Term) (term term-after log log-after : List ℕ) (r : ℕ) → Type 0
-RanAs (Refused why number) es k subject term term-after log log-after r = (r ≡ refusal-number why (equation-line number)) × (term-after ≡ term) × (log-after ≡ log)
-RanAs Full es k subject term term-after log log-after r = Ran es k subject term term-after log log-after r
-RanAs Kept es k subject term term-after log log-after r = Ran es k subject term term-after log log-after r
+abbrev pub RanAs : Walks → (arities : List ℕ) (es : List Equation) (k : ℕ) (subject : Term) (term term-after log log-after : List ℕ) (r : ℕ) → Type 0
+RanAs (Refused why number) arities es k subject term term-after log log-after r = (r ≡ refusal-number why (equation-line number)) × (term-after ≡ term) × (log-after ≡ log)
+RanAs Full arities es k subject term term-after log log-after r = Ran arities es k subject term term-after log log-after r
+RanAs Kept arities es k subject term term-after log log-after r = Ran arities es k subject term term-after log log-after r
 
 -- Task `task` is a run with this step limit, and the digits from `from` to `end` write its term.
 module _ (sheet : List ℕ) (known : Known) (limit from end : ℕ) where

@@ -26,7 +26,7 @@ next-at next f k = getD next (f * bound-count + k) 0
 
 -- The rule steps at no term whose symbol is `f`.
 abbrev pub Idle : (f i : ℕ) → Equation → Direction → Type 0
-Idle f i e d = (subject : Term) (p : ℕ) (ts : Terms) → try line-test subject p (app f ts) i e d ≡ none
+Idle f i e d = (filling subject : Term) (p : ℕ) (ts : Terms) → try filling line-test subject p (app f ts) i e d ≡ none
 
 -- From each entry the next is not before it, and the rules between them step at no term with that symbol.
 pub record NextIs (next : List ℕ) (rules : ℕ) (es : List Equation) : Type 0 where

@@ -6,6 +6,7 @@ use mathlib.Core.List.{List}
 use Rattle.format.specs.Limits.{position-count}
 use Rattle.format.specs.Lists.{entry}
 use Rattle.terms.specs.Term.{Term, size}
+use Rattle.terms.specs.Filling.{filling}
 use Rattle.terms.specs.Equation.{Equation, Direction}
 use Rattle.reducing.specs.Run.{Step, try, step}
 use Rattle.reducing.specs.Test.{line-test}
@@ -15,14 +16,14 @@ use Rattle.searching.specs.declared.positions.Found.the-variants.{Nothin
 use Rattle.applying.specs.Contracts.Trying.{part-at}
 
 -- The first rule that can step at a node; `rules` if there is none.
-pub record FirstRule (es : List Equation) (subject : Term) (rules node r : ℕ) : Type 0 where
+pub record FirstRule (arities : List ℕ) (es : List Equation) (subject : Term) (rules node r : ℕ) : Type 0 where
   pub within : r ≤ rules
-  pub none-earlier : (p j : ℕ) (e : Equation) (c : Direction) → node ≡ position-count + p → entry es j ≡ some e → rule-number j c < r → try line-test subject p (part-at subject p) j e c ≡ none
+  pub none-earlier : (p j : ℕ) (e : Equation) (c : Direction) → node ≡ position-count + p → entry es j ≡ some e → rule-number j c < r → try (filling arities) line-test subject p (part-at subject p) j e c ≡ none
   pub can : (p : ℕ) → node ≡ position-count + p → r < rules
-      → (i : ℕ) × (e : Equation) × (d : Direction) × (s : Step) × (r ≡ rule-number i d) × (entry es i ≡ some e) × (try line-test subject p (part-at subject p) i e d ≡ some s)
+      → (i : ℕ) × (e : Equation) × (d : Direction) × (s : Step) × (r ≡ rule-number i d) × (entry es i ≡ some e) × (try (filling arities) line-test subject p (part-at subject p) i e d ≡ some s)
 
 -- The step that a search finds is that of the definition.
-pub record StepAt (es : List Equation) (subject : Term) (rule node : ℕ) : Type 0 where
+pub record StepAt (arities : List ℕ) (es : List Equation) (subject : Term) (rule node : ℕ) : Type 0 where
   pub number : ℕ
   pub equation : Equation
   pub direction : Direction
@@ -32,9 +33,9 @@ pub record StepAt (es : List Equation) (subject : Term) (rule node : ℕ) : Type
   pub node-is : node ≡ position-count + position
   pub inside : position < size subject
   pub numbered : entry es number ≡ some equation
-  pub possible : try line-test subject position (part-at subject position) number equation direction ≡ some this
-  pub first : step line-test es subject ≡ some this
+  pub possible : try (filling arities) line-test subject position (part-at subject position) number equation direction ≡ some this
+  pub first : step (filling arities) line-test es subject ≡ some this
 
-abbrev pub FoundIs : List Equation → Term → Found → Type 0
-FoundIs es subject Nothing = step line-test es subject ≡ none
-FoundIs es subject (StepFound rule node) = StepAt es subject rule node
+abbrev pub FoundIs : (arities : List ℕ) → List Equation → Term → Found → Type 0
+FoundIs arities es subject Nothing = step (filling arities) line-test es subject ≡ none
+FoundIs arities es subject (StepFound rule node) = StepAt arities es subject rule node

@@ -5,6 +5,7 @@ use mathlib.Core.Option.{some}
 use mathlib.Core.List.{List}
 use Rattle.format.specs.Limits.{position-count}
 use Rattle.terms.specs.Term.{Term, size}
+use Rattle.terms.specs.Filling.{filling}
 use Rattle.terms.specs.Equation.{Equation, Direction}
 use Rattle.terms.specs.Contracts.Stored.{SubjectIs}
 use Rattle.reducing.specs.Run.{Step, try}
@@ -20,7 +21,7 @@ module _ (equations lengths : List ℕ) (rule : ℕ) (arities nodes sizes : List
     pub counted : n ≡ size subject
     pub inside : p < size subject
     pub there : node ≡ position-count + p
-    pub possible : try line-test subject p (part-at subject p) i e d ≡ some s
+    pub possible : try (filling arities) line-test subject p (part-at subject p) i e d ≡ some s
 
   pub record HasStep : Type 0 where
     pub number : ℕ

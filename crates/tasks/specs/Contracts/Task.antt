@@ -6,6 +6,7 @@ use mathlib.Core.List.{List}
 use lib.ListN.{length}
 use Rattle.format.specs.Limits.{max-steps}
 use Rattle.terms.specs.Term.{Terms, count}
+use Rattle.terms.specs.Filling.{filling}
 use Rattle.terms.specs.Equation.{Equation, Direction}
 use Rattle.sheet.specs.Sheet.{Task, Sheet, equation-width}
 use Rattle.scanning.specs.declared.known.Known.{Known}
@@ -21,9 +22,9 @@ use Rattle.cursor.specs.Theory.Rest.{task-steps}
 use Rattle.tasks.specs.declared.task.TaskListed.{TaskListed}
 
 -- The frames of a task are printed, and the steps of a run are counted.
-pub record TaskGiven (es : List Equation) (t : Task) (before after : List ℕ) (r : TaskListed) : Type 0 where
-  pub appended : Appended before 0 (printed (task-frames es t)) after (r .bytes)
-  pub steps-are : r .steps ≡ task-steps es t
+pub record TaskGiven (arities : List ℕ) (es : List Equation) (t : Task) (before after : List ℕ) (r : TaskListed) : Type 0 where
+  pub appended : Appended before 0 (printed (task-frames (filling arities) es t)) after (r .bytes)
+  pub steps-are : r .steps ≡ task-steps (filling arities) es t
   pub few-steps : r .steps ≤ max-steps
   pub within : r .bytes ≤ length after
 

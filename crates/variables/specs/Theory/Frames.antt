@@ -7,9 +7,10 @@ use lib.ListN.{length, length-map}
 use Rattle.format.specs.Limits.{first-variable}
 use Rattle.format.specs.Lists.{entry, Every}
 use Rattle.format.specs.Theory.Lists.{every-entry}
-use Rattle.terms.specs.Term.{Values}
+use Rattle.terms.specs.Term.{Term, Values}
 use Rattle.terms.specs.Equation.{Equation, Direction, left-right, right-left, direction-number, term-at}
 use Rattle.terms.specs.Prefix.{prefix}
+use Rattle.terms.specs.Filling.{filling}
 use Rattle.sheet.specs.Sheet.{Task, run, judgement, comparison, Sheet}
 use Rattle.sheet.specs.Reading.{Reading, refused-at, accepted}
 use Rattle.solving.specs.Line.{Bindings, Line, line}
@@ -91,7 +92,7 @@ module _ (few extra : ℕ) (positive : 0 < few) where
       (λ i. outcome n (solve-padded few extra positive e (w .0) left-right i) (solve-padded few extra positive e (w .0) right-left i) (refusal-same (suc n) es (w .1) i))
       ∙ outcome-same n (solve-with few e left-right) (solve-with few e right-left) (first-refusal-with few (suc n) es)
 
-  module _ (es : List Equation) (w : Every (Few few) es) where
+  module _ (filling : Term) (es : List Equation) (w : Every (Few few) es) where
     judged-same : (n : ℕ) (d : Direction) (ρ : Values) → holding-with (few + extra) (entry es n) d ρ ≡ holding-with few (entry es n) d ρ
     unfolding holding-with
     judged-same n d ρ = go (entry es n) refl
@@ -100,22 +101,22 @@ module _ (few extra : ℕ) (positive : 0 < few) where
         go none x = refl
         go (some e) x = holding-same few extra positive e (every-entry (Few few) es n w x) d ρ
 
-    task-same : (t : Task) → task-frames-with (few + extra) es t ≡ task-frames-with few es t
+    task-same : (t : Task) → task-frames-with (few + extra) filling es t ≡ task-frames-with few filling es t
     unfolding task-frames-with
-    task-same (run k s) = ap (run-frames s) (line-run-same few extra positive es w k s)
+    task-same (run k s) = ap (run-frames s) (line-run-same few extra positive filling es w k s)
     task-same (judgement n d ts) = ap (λ h. judgement-frame h ∷ []) (judged-same n d (given-values ts))
     task-same (comparison s t) = refl
 
-    steps-same : (ts : List Task) → steps-taken-with (few + extra) es ts ≡ steps-taken-with few es ts
+    steps-same : (ts : List Task) → steps-taken-with (few + extra) filling es ts ≡ steps-taken-with few filling es ts
     unfolding steps-taken-with
     steps-same [] = refl
-    steps-same (run k s ∷ ts) = λ i. length (line-run-same few extra positive es w k s i .steps) + steps-same ts i
+    steps-same (run k s ∷ ts) = λ i. length (line-run-same few extra positive filling es w k s i .steps) + steps-same ts i
     steps-same (judgement n d vs ∷ ts) = steps-same ts
     steps-same (comparison s t ∷ ts) = steps-same ts
 
   sheet-same : (s : Sheet) → Every (Few few) (s .equations) → sheet-frames-with (few + extra) s ≡ sheet-frames-with few s
   unfolding sheet-frames-with
-  sheet-same s w = λ i. equations-same 0 (s .equations) w i ++ flatMap (λ t. task-same (s .equations) w t i) (s .tasks) ++ (total-kind ∷ two-bytes (steps-same (s .equations) w (s .tasks) i)) ∷ []
+  sheet-same s w = λ i. equations-same 0 (s .equations) w i ++ flatMap (λ t. task-same (filling (s .arities)) (s .equations) w t i) (s .tasks) ++ (total-kind ∷ two-bytes (steps-same (filling (s .arities)) (s .equations) w (s .tasks) i)) ∷ []
 
   pub frames-same : (r : Reading Sheet) → FewSheet few positive r → frames-with (few + extra) r ≡ frames-with few r
   unfolding frames-with walked-frames-with

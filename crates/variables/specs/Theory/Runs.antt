@@ -13,7 +13,7 @@ use Rattle.terms.specs.Term.{Term, Terms, var, app, nil, cons, identical?, Valu
 use Rattle.terms.specs.Position.{replace}
 use Rattle.terms.specs.Equation.{Equation, Direction, left-right, right-left, source, target}
 use Rattle.terms.specs.Contracts.Limits.{VariablesBelow, AllVariablesBelow}
-use Rattle.reducing.specs.Match.{Match, unmet, meet, match, match-each, values-of, usable}
+use Rattle.reducing.specs.Match.{Match, unmet, meet, match, match-each, values-of}
 use Rattle.reducing.specs.Run.{Step, try-with}
 use Rattle.reducing.specs.Test.{line-test-with, line-run-with}
 use Rattle.reducing.specs.Theory.Step.{tested}
@@ -43,25 +43,25 @@ module _ (few extra : ℕ) where
     each-alike (cons s ss) nil m b h = tt
     each-alike (cons s ss) (cons t ts) m b h = alike-then few extra (match-each ss ts) (λ n. each-alike ss ts n (b .1)) (match s t m) (match s t (padded extra m)) (match-alike s t m (b .0) h)
 
-  padded-values : (m : Match) → values-of (padded extra m) ≡ values-of m
+  padded-values : (filling : Term) (m : Match) → values-of filling (padded extra m) ≡ values-of filling m
   unfolding values-of
-  padded-values m = λ i v. Option·getD (padded-getD extra m v i) (var v)
+  padded-values filling m = λ i v. Option·getD (padded-getD extra m v i) filling
 
   -- A direction whose source has no other variables is tried alike, if the two tests agree.
-  module _ (test₁ test₂ : Equation → Direction → Values → Bool) (e : Equation) (same-test : (d : Direction) (ρ : Values) → test₁ e d ρ ≡ test₂ e d ρ) (low : (d : Direction) → VariablesBelow few (source e d)) where
-    try-same : SameTries (few + extra) few test₁ test₂ e
+  module _ (filling : Term) (test₁ test₂ : Equation → Direction → Values → Bool) (e : Equation) (same-test : (d : Direction) (ρ : Values) → test₁ e d ρ ≡ test₂ e d ρ) (low : (d : Direction) → VariablesBelow few (source e d)) where
+    try-same : SameTries (few + extra) few filling test₁ test₂ e
     unfolding try-with
-    try-same subject p part n d = go (usable e d)
+    try-same subject p part n d = ap (tried test₁) matched ∙ same (match (source e d) part (unmet few))
       where
         tried : (Equation → Direction → Values → Bool) → Option Match → Option Step
-        tried test o = elim o [ none ↦ none | some m ↦ tested subject p n e d m (test e d (values-of m)) ]
+        tried test o = elim o [ none ↦ none | some m ↦ tested filling subject p n e d m (test e d (values-of filling m)) ]
 
         same : (o : Option Match) → tried test₁ (Option·map (padded extra) o) ≡ tried test₂ o
         same none = refl
         same (some m) = λ i.
-            elim ((ap (test₁ e d) (padded-values m) ∙ same-test d (values-of m)) i) as (λ x. Option Step) [
+            elim ((ap (test₁ e d) (padded-values filling m) ∙ same-test d (values-of filling m)) i) as (λ x. Option Step) [
               | false ↦ none
-              | true ↦ some (record { equation = n; direction = d; position = p; result = replace subject p (inst (padded-values m i) (target e d)) })
+              | true ↦ some (record { equation = n; direction = d; position = p; result = replace subject p (inst (padded-values filling m i) (target e d)) })
             ]
 
         matched : match (source e d) part (unmet (few + extra)) ≡ Option·map (padded extra) (match (source e d) part (unmet few))
@@ -69,20 +69,16 @@ module _ (few extra : ℕ) where
             ap (match (source e d) part) (padded-free few extra)
             ∙ alike-padded few extra (match (source e d) part (unmet few)) (match (source e d) part (padded extra (unmet few))) (match-alike (source e d) part (unmet few) (low d) (length-replicate few none))
 
-        go : (b : Bool) → _≡_ {A = Option Step} (elim b [ false ↦ none | true ↦ tried test₁ (match (source e d) part (unmet (few + extra))) ]) (elim b [ false ↦ none | true ↦ tried test₂ (match (source e d) part (unmet few)) ])
-        go false = refl
-        go true = ap (tried test₁) matched ∙ same (match (source e d) part (unmet few))
-
-  module _ (positive : 0 < few) where
+  module _ (positive : 0 < few) (filling : Term) where
     source-low : {e : Equation} → Few few e → (d : Direction) → VariablesBelow few (source e d)
     unfolding source
     source-low w left-right = w .left-variables
     source-low w right-left = w .right-variables
 
-    line-tries : (e : Equation) → Few few e → SameTries (few + extra) few (line-test-with (few + extra)) (line-test-with few) e
+    line-tries : (e : Equation) → Few few e → SameTries (few + extra) few filling (line-test-with (few + extra)) (line-test-with few) e
     unfolding line-test-with
-    line-tries e w = try-same (line-test-with (few + extra)) (line-test-with few) e (λ d ρ. ap (ltb 0) (holding-same few extra positive e w d ρ)) (source-low w)
+    line-tries e w = try-same filling (line-test-with (few + extra)) (line-test-with few) e (λ d ρ. ap (ltb 0) (holding-same few extra positive e w d ρ)) (source-low w)
 
-    pub line-run-same : (es : List Equation) → Every (Few few) es → (k : ℕ) (subject : Term) → line-run-with (few + extra) es k subject ≡ line-run-with few es k subject
+    pub line-run-same : (es : List Equation) → Every (Few few) es → (k : ℕ) (subject : Term) → line-run-with (few + extra) filling es k subject ≡ line-run-with few filling es k subject
     unfolding line-run-with
-    line-run-same es w = run-same-with (few + extra) few (line-test-with (few + extra)) (line-test-with few) es (every-map line-tries es w)
+    line-run-same es w = run-same-with (few + extra) few filling (line-test-with (few + extra)) (line-test-with few) es (every-map line-tries es w)

@@ -2,6 +2,7 @@
 use mathlib.Core.Path.{refl}
 use borrow.Author.Needs.{needs}
 use Rattle.terms.specs.Equation.{source}
+use Rattle.terms.specs.Filling.{filling}
 use Rattle.reducing.specs.Match.{no-match, match}
 use Rattle.applying.specs.Contracts.Trying.{part-at}
 use Rattle.applying.proofs.MatchLaws.{side-part, matched-none, matched-some}
@@ -24,7 +25,7 @@ returns c =
       λ arities i e d subject p is.
           let side = c .before .before .before .before .before .before .sides-of .ensures _ _ _ _ _ (is .rule-is) .0 in
           let answer = matched .ensures _ _ _ (side-part side (is .subject-is) (is .inside) (is .there)) in
-          applies-not subject p i e d (matched-none (c .before .before .before .before .before .before .before .before .before .before .before .before .before .before .args .nodes .now) (c .before .before .before .before .before .before .before .before .before .before .before .before .before .before .args .sizes .now) arities (matched .last .1 .1 .1 .1 .1 .0) (match (source e d) (part-at subject p) no-match) (matched .result) answer (c .if1 .taken)),
+          applies-not (filling arities) subject p i e d (matched-none (c .before .before .before .before .before .before .before .before .before .before .before .before .before .before .args .nodes .now) (c .before .before .before .before .before .before .before .before .before .before .before .before .before .before .args .sizes .now) arities (matched .last .1 .1 .1 .1 .1 .0) (match (source e d) (part-at subject p) no-match) (matched .result) answer (c .if1 .taken)),
       (λ arities subject s. s, c .before .before .before .before .before .before .before .before .before .before .before .before .before .before .pre .1),
     )
 
@@ -54,7 +55,7 @@ returns-2 c =
           let side = c .before .before .before .before .before .before .before .before .before .before .before .before .before .before .before .before .before .before .before .before .sides-of .ensures _ _ _ _ _ (is .rule-is) .0 in
           let answer = c .before .before .before .before .before .before .before .before .before .before .before .before .before .before .before .before .match-side .ensures _ _ _ (side-part side (is .subject-is) (is .inside) (is .there)) in
           let (m, x, met) = matched-some (c .before .before .before .before .before .before .before .before .before .before .before .before .before .before .before .before .before .before .before .before .before .before .before .before .before .before .before .before .args .nodes .now) (c .before .before .before .before .before .before .before .before .before .before .before .before .before .before .before .before .before .before .before .before .before .before .before .before .before .before .before .before .args .sizes .now) arities (c .before .before .before .before .before .before .before .before .before .before .before .before .before .before .before .before .match-side .last .1 .1 .1 .1 .1 .0) (match (source e d) (part-at subject p) no-match) (c .before .before .before .before .before .before .before .before .before .before .before .before .before .before .before .before .match-side .result) answer (c .before .before .before .before .before .before .before .before .before .before .before .before .before .before .if1 .left) in
-          applies-told subject p i e d x (held .ensures .0 arities i e d subject m (record {
+          applies-told (filling arities) subject p i e d x (held .ensures .0 arities i e d subject m (record {
             rule-is = is .rule-is;
             kept = is .kept;
             kept-are = is .kept-are;

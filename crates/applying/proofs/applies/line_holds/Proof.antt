@@ -2,6 +2,7 @@
 use native.Mathlib.Omega.{arith}
 use borrow.Author.Needs.{needs}
 use Rattle.terms.specs.Equation.{value}
+use Rattle.terms.specs.Filling.{filling}
 use Rattle.reducing.specs.Match.{values-of}
 use Rattle.rules.proofs.RowLaws.{rule-row}
 use Rattle.applying.proofs.FrontLaws.{subject-kept, settled-next, lines-are, lines-tell, equations-room, lengths-room, nodes-fronted, sizes-fronted}
@@ -46,7 +47,7 @@ first-holding-requires c κs =
     let (n, bytes) = nodes-fronted (is .rule-is) (start .args .nodes .now) (c .before .before .before .before .before .before .before .before .before .before .before .before .before .before .before .load-row .last .1 .0) (is .subject-is .nodes-length) (c .before .before .before .before .before .before .before .before .before .before .before .before .before .before .before .load-row .ensures) in
     let (l, measured) = sizes-fronted (is .rule-is) (start .args .sizes .now) (c .before .before .before .before .before .before .before .before .before .before .load-row2 .last .1 .0) (is .subject-is .lengths-length) (c .before .before .before .before .before .before .before .before .before .before .load-row2 .ensures) in (
       settled-next n l (start .args .values .now) (start .pre .1) (is .met .values-length) (c .before .before .before .before .before .before .forget-rows .ensures),
-      record { assigned = values-of (has .found); value = value (has .equation) (values-of (has .found)); these = is .kept; are = lines-are is n l bytes measured },
+      record { assigned = values-of (filling (has .arities)) (has .found); value = value (has .equation) (values-of (filling (has .arities)) (has .found)); these = is .kept; are = lines-are is n l bytes measured },
     )
 
 returns : tie.Need-returns
@@ -62,7 +63,7 @@ returns c =
       λ arities i e d subject m is.
           let (n, x) = nodes-fronted (is .rule-is) nodes (copied .last .1 .0) (is .subject-is .nodes-length) (copied .ensures) in
           let (l, y) = sizes-fronted (is .rule-is) sizes (measured .last .1 .0) (is .subject-is .lengths-length) (measured .ensures) in
-          lines-tell is (held .result) (held .ensures .0 (values-of m) (value e (values-of m)) (is .kept) (lines-are is n l x y)),
+          lines-tell is (held .result) (held .ensures .0 (values-of (filling arities) m) (value e (values-of (filling arities) m)) (is .kept) (lines-are is n l x y)),
       (λ arities subject s. subject-kept (fronts .0) (sized .0) s, record { values = start .args .values .now; are = held .ensures .1 }),
     )
 

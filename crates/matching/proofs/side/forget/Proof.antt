@@ -4,19 +4,19 @@ use mathlib.Core.Path.{_≡_, _∙_}
 use native.Mathlib.Omega.{arith}
 use lib.ListN.{length, getD, length-set}
 use borrow.Author.Needs.{needs}
-use Rattle.format.specs.Limits.{variable-count}
+use Rattle.format.specs.Limits.{variable-count, filling-node}
 use Rattle.matching.proofs.Meeting.{forgets, forgotten}
 use Rattle.matching.proofs.side.forget.Statement.{statement}
 use Rattle.matching.proofs.side.forget.Tie as tie
 
 abbrev Inv-loop : tie.InvT-loop
-Inv-loop values₀ v₀ values v = (v ≤ variable-count) × (length values ≡ variable-count) × ((k : ℕ) → k < v → getD values k 0 ≡ 0)
+Inv-loop values₀ v₀ values v = (v ≤ variable-count) × (length values ≡ variable-count) × ((k : ℕ) → k < v → getD values k 0 ≡ filling-node)
 
 abbrev μ-loop : tie.MeasureT-loop
 μ-loop values₀ v₀ values v = variable-count - v
 
 loop-again : tie.Need-loop-again Inv-loop μ-loop
-loop-again c = let loop = c .before .loop in (omega arith, length-set (loop .values) (loop .v) 0 ∙ loop .inv .1, forgets (loop .values) (loop .v) (omega (arith, loop .inv .1)) (loop .inv .2))
+loop-again c = let loop = c .before .loop in (omega arith, length-set (loop .values) (loop .v) filling-node ∙ loop .inv .1, forgets (loop .values) (loop .v) (omega (arith, loop .inv .1)) (loop .inv .2))
 
 returns : tie.Need-returns Inv-loop μ-loop
 returns c = let loop = c .before .loop in forgotten (loop .values) (loop .inv .1) (λ k l. loop .inv .2 k (omega arith))
@@ -27,6 +27,7 @@ forget-spec =
     (tie.spec
     Inv-loop
     μ-loop
+    (λ c. search needs)
     (λ c. search needs)
     (λ c. search needs)
     (λ c. search needs)

@@ -47,7 +47,8 @@ part-copy-front-start-2 c = sub-copy-front-2 c
 add-copy-front-2 : tie.Need-add-copy-front-2
 add-copy-front-2 c =
     let pre = c .before .before .before .before .before .before .before .before .before .before .before .before .before .before .before .before .before .pre in
-    omega (arith, instance-room (pre .5), pre .6, c .before .before .before .before .before .put-instance .ensures _ _ _ (pre .5 .instance-is) .0)
+    let room = c .before .before .before .before .before .before .before .before .before .before .before .before .before .before .before .before .before .good .1 .1 .1 .1 .1 .1 .1 .0 .0 in
+    omega (arith, instance-room (pre .5), pre .6, room, c .before .before .before .before .before .put-instance .ensures _ _ _ (pre .5 .instance-is) .0)
 
 sub-copy-front-3 : tie.Need-sub-copy-front-3
 sub-copy-front-3 c =

@@ -70,7 +70,7 @@ returns-2 c =
       n,
       result-subject (r .stands) (replace subject p (inst ρ t)) (ground-result r) _ (put .last .1 .1 .1 .1 .1 .1 .1 .0) (c .before .before .before .before .before .before .before .copy-front .last .1 .0) (start .args .n - old .result + size .result)
           n (c .before .before .before .before .before .before .before .before .before .before .before .before .before .before .before .if1 .left) (put .ensures (start .args .arities .now) subject t ρ p r) (c .before .before .before .before .before .before .before .copy-front .ensures)
-          (c .before .before .before .before .before .before .nodes .given .1) (c .before .before .measure .last .1 .1 .0) _ (c .before .before .measure .kept .1 .1 .0) (c .before .before .measure .ensures),
+          (c .before .before .before .before .before .before .nodes .given .1) (c .before .before .measure .last .1 .1 .0) (c .before .before .measure .kept .1 .1 .0) (c .before .before .measure .ensures),
     )
 
 pub replace-part-spec : {M : Type 1} → statement M

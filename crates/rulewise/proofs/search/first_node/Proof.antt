@@ -1,4 +1,4 @@
--- `first_node` walks a rule only if it is usable and its source matches; else it can step nowhere. The lines are kept at the front of the table.
+-- `first_node` walks a rule only if its source matches; else it can step nowhere. The lines are kept at the front of the table.
 use mathlib.Core.Path.{refl, sym, ap, _∙_}
 use mathlib.Core.Logic.{inl, inr}
 use native.Mathlib.Omega.{arith}
@@ -6,8 +6,8 @@ use lib.Seq.{length-take-le}
 use denote.Enum.Declared.{tagOf}
 use Rattle.format.specs.Limits.{cell-count}
 use Rattle.rules.proofs.keep.RuleKept.{the-type}
-use Rattle.rules.proofs.KeepLaws.{side-spells, rule-unusable}
-use Rattle.applying.proofs.TryLaws.{none-matches, not-usable}
+use Rattle.terms.specs.Filling.{filling}
+use Rattle.applying.proofs.TryLaws.{none-matches}
 use Rattle.rulewise.proofs.RulewiseLaws.{none-for, source-there, kept-ends, kept-at-front, front-behind, scratch-after-walk, scratch-after-cells}
 use Rattle.rulewise.proofs.search.first_node.Statement.{statement}
 use Rattle.rulewise.proofs.search.first_node.Tie as tie
@@ -18,28 +18,11 @@ sides-of-requires c κs =
     let has = entry .pre .0 in
     record { equations = entry .args .equations .now; arities = has .arities; number = has .number; equation = has .equation; direction = has .direction; is = has .is .rule-is }
 
-is-usable-requires : tie.Need-is-usable-requires
-is-usable-requires c κs =
-    let entry = c .before .before .before .before .before .before .before in
-    let has = entry .pre .0 in
-    let (s, t) = c .sides-of .ensures (entry .args .equations .now) (has .arities) (has .number) (has .equation) (has .direction) (has .is .rule-is) in
-    (record { term = _; spells = side-spells s }, record { term = _; spells = side-spells t })
-
-returns : tie.Need-returns
-returns c =
-    let entry = c .before .before .before .before .before .before .before .before .before in (
-      λ arities i e d subject u.
-          let (s, t) = c .before .before .sides-of .ensures (entry .args .equations .now) arities i e d (u .rule-is) in
-          let unusable = rule-unusable e d (c .before .is-usable .ensures _ _ (side-spells s) (side-spells t)) (c .if1 .taken) in
-          none-for u (λ p l. not-usable subject p i e d unusable),
-      ((λ arities subject s. s), (refl, refl)),
-    )
-
 first-match-requires : tie.Need-first-match-requires
 first-match-requires c κs =
-    let entry = c .before .before .before .before .before .before .before .before .before .before .before in
+    let entry = c .before .before .before .before .before .before .before .before .before in
     let has = entry .pre .0 in
-    let (s, t) = c .before .before .before .before .sides-of .ensures (entry .args .equations .now) (has .arities) (has .number) (has .equation) (has .direction) (has .is .rule-is) in
+    let (s, t) = c .before .before .sides-of .ensures (entry .args .equations .now) (has .arities) (has .number) (has .equation) (has .direction) (has .is .rule-is) in
     record { arities = has .arities; pattern = _; subject = has .subject; is = source-there (has .is) s }
 
 same-length : tie.Need-same-length
@@ -48,19 +31,19 @@ same-length c = refl
 same-length-2 : tie.Need-same-length-2
 same-length-2 c = refl
 
-returns-2 : tie.Need-returns-2
-returns-2 c =
-    let entry = c .before .before .before .before .before .before .before .before .before .before .before .before .before in (
+returns : tie.Need-returns
+returns c =
+    let entry = c .before .before .before .before .before .before .before .before .before .before .before in (
       λ arities i e d subject u.
-          let (s, t) = c .before .before .before .before .before .before .sides-of .ensures (entry .args .equations .now) arities i e d (u .rule-is) in
+          let (s, t) = c .before .before .before .before .sides-of .ensures (entry .args .equations .now) arities i e d (u .rule-is) in
           let m = c .before .first-match .ensures arities _ subject (source-there u s) in
-          none-for u (λ p l. none-matches subject p i e d (m .none-before p (omega (arith, c .if2 .taken)))),
+          none-for u (λ p l. none-matches (filling arities) subject p i e d (m .none-before p (omega (arith, c .if1 .taken)))),
       ((λ arities subject s. s), (refl, refl)),
     )
 
 keep-rule-requires : tie.Need-keep-rule-requires
 keep-rule-requires c κs =
-    let entry = c .before .before .before .before .before .before .before .before .before .before .before .before .before .before .before in
+    let entry = c .before .before .before .before .before .before .before .before .before .before .before .before .before in
     let has = entry .pre .0 in (
       (record { arities = has .arities; number = has .number; equation = has .equation; direction = has .direction; is = has .is .rule-is }, omega (arith, entry .pre .1 .1)),
       (omega arith, entry .pre .1 .0),
@@ -81,25 +64,25 @@ same-length-5 c = refl
 same-length-6 : tie.Need-same-length-6
 same-length-6 c = c .before .before .before .before .before .keep-rule .kept .1 .1 .1 .1 .1 .0
 
-returns-3 : tie.Need-returns-3
-returns-3 c =
-    let has = c .before .before .before .before .before .before .before .before .before .before .before .before .before .before .before .before .before .before .before .before .before .pre .0 in
+returns-2 : tie.Need-returns-2
+returns-2 c =
+    let has = c .before .before .before .before .before .before .before .before .before .before .before .before .before .before .before .before .before .before .before .pre .0 in
     let kept = c .before .before .before .before .before .keep-rule in
     let (last, y) = kept-ends (has .is) _ _ (kept .result) (kept .ensures .0 (has .arities) (has .number) (has .equation) (has .direction) (has .is .rule-is)) in
     let tag = ap (tagOf the-type) y in
     absurd (elim (c .match .keys2) [ inl k ↦ omega (arith, tag) | inr k ↦ omega (arith, tag) ])
 
 slice-relend-prefix-first-applying : tie.Need-slice-relend-prefix-first-applying
-slice-relend-prefix-first-applying c = omega (arith, c .before .before .before .before .before .before .before .before .before .before .keep-rule .kept .1 .1 .1 .1 .1 .0, c .before .before .before .before .before .before .before .before .before .before .before .before .before .before .before .before .before .before .before .before .before .before .before .before .before .before .pre .1 .1)
+slice-relend-prefix-first-applying c = omega (arith, c .before .before .before .before .before .before .before .before .before .before .keep-rule .kept .1 .1 .1 .1 .1 .0, c .before .before .before .before .before .before .before .before .before .before .before .before .before .before .before .before .before .before .before .before .before .before .before .before .pre .1 .1)
 
 slice-aggregate-first-applying : tie.Need-slice-aggregate-first-applying
-slice-aggregate-first-applying c = sym (length-take-le cell-count (c .before .before .before .before .before .before .before .before .before .before .before .keep-rule .last .1 .1 .1 .1 .1 .0) (omega (arith, c .before .before .before .before .before .before .before .before .before .before .before .keep-rule .kept .1 .1 .1 .1 .1 .0, c .before .before .before .before .before .before .before .before .before .before .before .before .before .before .before .before .before .before .before .before .before .before .before .before .before .before .before .pre .1 .1)))
+slice-aggregate-first-applying c = sym (length-take-le cell-count (c .before .before .before .before .before .before .before .before .before .before .before .keep-rule .last .1 .1 .1 .1 .1 .0) (omega (arith, c .before .before .before .before .before .before .before .before .before .before .before .keep-rule .kept .1 .1 .1 .1 .1 .0, c .before .before .before .before .before .before .before .before .before .before .before .before .before .before .before .before .before .before .before .before .before .before .before .before .before .pre .1 .1)))
 
 first-applying-requires : tie.Need-first-applying-requires
 first-applying-requires c κs =
-    let entry = c .before .before .before .before .before .before .before .before .before .before .before .before .before .before .before .before .before .before .before .before .before .before .before .before .before .before .before in
+    let entry = c .before .before .before .before .before .before .before .before .before .before .before .before .before .before .before .before .before .before .before .before .before .before .before .before .before in
     let has = entry .pre .0 in
-    let (s, t) = c .before .before .before .before .before .before .before .before .before .before .before .before .before .before .before .before .before .before .before .before .sides-of .ensures (entry .args .equations .now) (has .arities) (has .number) (has .equation) (has .direction) (has .is .rule-is) in
+    let (s, t) = c .before .before .before .before .before .before .before .before .before .before .before .before .before .before .before .before .before .before .sides-of .ensures (entry .args .equations .now) (has .arities) (has .number) (has .equation) (has .direction) (has .is .rule-is) in
     let matches = c .before .before .before .before .before .before .before .before .before .before .before .before .before .before .before .first-match .ensures (has .arities) _ (has .subject) (source-there (has .is) s) in
     let kept = c .before .before .before .before .before .before .before .before .before .before .before .keep-rule in (
       record {
@@ -126,15 +109,15 @@ same-length-9 c = c .before .before .before .before .before .before .first-apply
 same-length-10 : tie.Need-same-length-10
 same-length-10 c = c .before .scratch2 .given .1 ∙ c .before .before .before .before .before .before .before .before .before .before .before .before .before .before .before .before .before .before .keep-rule .kept .1 .1 .1 .1 .1 .0
 
-returns-4 : tie.Need-returns-4
-returns-4 c =
-    let entry = c .before .before .before .before .before .before .before .before .before .before .before .before .before .before .before .before .before .before .before .before .before .before .before .before .before .before .before .before .before .before .before .before .before .before in
+returns-3 : tie.Need-returns-3
+returns-3 c =
+    let entry = c .before .before .before .before .before .before .before .before .before .before .before .before .before .before .before .before .before .before .before .before .before .before .before .before .before .before .before .before .before .before .before .before in
     let has = entry .pre .0 in
     let kept = c .before .before .before .before .before .before .before .before .before .before .before .before .before .before .before .before .before .before .keep-rule in
     let tried = c .before .before .before .before .before .before .first-applying in
     let cells = tried .kept .1 .1 .1 .1 .1 .1 .1 .0 ∙ length-take-le cell-count (kept .last .1 .1 .1 .1 .1 .0) (omega (arith, kept .kept .1 .1 .1 .1 .1 .0, entry .pre .1 .1)) in (
       λ arities i e d subject u.
-          let (s, t) = c .before .before .before .before .before .before .before .before .before .before .before .before .before .before .before .before .before .before .before .before .before .before .before .before .before .before .before .sides-of .ensures (entry .args .equations .now) arities i e d (u .rule-is) in
+          let (s, t) = c .before .before .before .before .before .before .before .before .before .before .before .before .before .before .before .before .before .before .before .before .before .before .before .before .before .sides-of .ensures (entry .args .equations .now) arities i e d (u .rule-is) in
           let matches = c .before .before .before .before .before .before .before .before .before .before .before .before .before .before .before .before .before .before .before .before .before .before .first-match .ensures arities _ subject (source-there u s) in
           tried .ensures .0 arities i e d subject (kept-at-front u (entry .args .table .now) (kept .last .1 .1 .1 .0) (entry .pre .1 .0) (kept .ensures .0 arities i e d (u .rule-is)) (c .before .before .before .before .before .before .before .before .before .before .before .before .kept .given .1) matches),
       (
@@ -151,19 +134,17 @@ first-node-spec =
     tie.close
     (tie.spec
     sides-of-requires
-    is-usable-requires
-    returns
     first-match-requires
     same-length
     same-length-2
-    returns-2
+    returns
     keep-rule-requires
     enum-known-kept
     same-length-3
     same-length-4
     same-length-5
     same-length-6
-    returns-3
+    returns-2
     slice-relend-prefix-first-applying
     slice-aggregate-first-applying
     first-applying-requires
@@ -171,4 +152,4 @@ first-node-spec =
     same-length-8
     same-length-9
     same-length-10
-    returns-4)
+    returns-3)

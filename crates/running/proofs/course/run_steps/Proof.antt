@@ -39,7 +39,7 @@ returns c =
       λ es subject is.
           let h = inv .so-far es subject is in
           let s = found .ensures .1 .0 arities (h .current) (h .is .subject-is) in
-          none-ends h s (subst (FoundIs es (h .current)) (c .enum-told .given .1) (found .ensures .0 arities es (h .current) (h .is))),
+          none-ends h s (subst (FoundIs arities es (h .current)) (c .enum-told .given .1) (found .ensures .0 arities es (h .current) (h .is))),
       kept-again (start .args .table .now) (start .args .scratch .now) (loop .table) (loop .scratch) (found .last .1 .1 .1 .1 .1 .1 .0) (found .last .1 .1 .1 .1 .1 .1 .1 .1 .1 .0) (inv .kept) (found .ensures .1 .1),
     )
 
@@ -53,7 +53,7 @@ returns-2 c =
       λ es subject is.
           let h = inv .so-far es subject is in
           let s = found .ensures .1 .0 arities (h .current) (h .is .subject-is) in
-          limit-ends h s (subst (FoundIs es (h .current)) (c .before .before .found .given .1) (found .ensures .0 arities es (h .current) (h .is))) (c .if1 .taken),
+          limit-ends h s (subst (FoundIs arities es (h .current)) (c .before .before .found .given .1) (found .ensures .0 arities es (h .current) (h .is))) (c .if1 .taken),
       kept-again (start .args .table .now) (start .args .scratch .now) (loop .table) (loop .scratch) (found .last .1 .1 .1 .1 .1 .1 .0) (found .last .1 .1 .1 .1 .1 .1 .1 .1 .1 .0) (inv .kept) (found .ensures .1 .1),
     )
 
@@ -66,7 +66,7 @@ take-step-requires c κs =
     let arities = start .args .arities .now in
     let (es, subject, is) = start .pre .0 in
     let h = inv .so-far es subject is in
-    let next = subst (FoundIs es (h .current)) (c .before .before .before .before .found .given .1) (found .ensures .0 arities es (h .current) (h .is)) in
+    let next = subst (FoundIs arities es (h .current)) (c .before .before .before .before .found .given .1) (found .ensures .0 arities es (h .current) (h .is)) in
     record {
       number = next .number;
       equation = next .equation;
@@ -89,7 +89,7 @@ returns-3 c =
       λ es subject is.
           let h = inv .so-far es subject is in
           let s = found .ensures .1 .0 arities (h .current) (h .is .subject-is) in
-          let next = subst (FoundIs es (h .current)) (c .before .before .before .before .before .before .before .before .before .before .before .found .given .1) (found .ensures .0 arities es (h .current) (h .is)) in
+          let next = subst (FoundIs arities es (h .current)) (c .before .before .before .before .before .before .before .before .before .before .before .found .given .1) (found .ensures .0 arities es (h .current) (h .is)) in
           let result = taken .ensures (next .number) (next .equation) (next .direction) (h .current) (next .position) (next .this) (step-is h next s) in
           let nodes = taken .last .1 .1 .1 .1 .0 in
           let sizes = taken .last .1 .1 .1 .1 .1 .0 in
@@ -106,7 +106,7 @@ sub-put-step c =
     let arities = start .args .arities .now in
     let (es, subject, is) = start .pre .0 in
     let h = inv .so-far es subject is in
-    position-byte h (subst (FoundIs es (h .current)) (c .before .before .before .before .before .before .before .before .before .before .before .before .before .found .given .1) (found .ensures .0 arities es (h .current) (h .is))) .0
+    position-byte h (subst (FoundIs arities es (h .current)) (c .before .before .before .before .before .before .before .before .before .before .before .before .before .found .given .1) (found .ensures .0 arities es (h .current) (h .is))) .0
 
 put-step-requires : tie.Need-put-step-requires Inv-loop μ-loop
 put-step-requires c κs =
@@ -117,7 +117,7 @@ put-step-requires c κs =
     let arities = start .args .arities .now in
     let (es, subject, is) = start .pre .0 in
     let h = inv .so-far es subject is in
-    let next = subst (FoundIs es (h .current)) (c .before .before .before .before .before .before .before .before .before .before .before .before .before .found .given .1) (found .ensures .0 arities es (h .current) (h .is)) in
+    let next = subst (FoundIs arities es (h .current)) (c .before .before .before .before .before .before .before .before .before .before .before .before .before .found .given .1) (found .ensures .0 arities es (h .current) (h .is)) in
     let room : 3 * loop .steps + 3 ≤ length (loop .log) = omega (arith, inv .within, inv .log-length, start .pre .1 .2, start .pre .1 .3, c .before .before .before .before .before .before .before .before .before .before .before .if1 .left) in
     (omega (arith, room), omega (arith, rule-byte h next), omega (arith, position-byte h next .1))
 
@@ -153,7 +153,7 @@ loop-again c =
       so-far = λ es subject is.
           let h = inv .so-far es subject is in
           let s = found .ensures .1 .0 arities (h .current) (h .is .subject-is) in
-          let next = subst (FoundIs es (h .current)) (c .before .before .before .before .before .before .before .before .before .before .before .before .before .before .before .before .found .given .1) (found .ensures .0 arities es (h .current) (h .is)) in
+          let next = subst (FoundIs arities es (h .current)) (c .before .before .before .before .before .before .before .before .before .before .before .before .before .before .before .before .found .given .1) (found .ensures .0 arities es (h .current) (h .is)) in
           let result = taken .ensures (next .number) (next .equation) (next .direction) (h .current) (next .position) (next .this) (step-is h next s) in
           let nodes = taken .last .1 .1 .1 .1 .0 in
           let sizes = taken .last .1 .1 .1 .1 .1 .0 in

@@ -5,6 +5,7 @@ use mathlib.Core.Logic.{inl, inr}
 use native.Mathlib.Omega.{arith}
 use borrow.Author.Needs.{needs}
 use Rattle.format.specs.declared.refusal.Refusal.{Refusal}
+use Rattle.scanning.specs.Contracts.Scan.{known-arities}
 use Rattle.rules.specs.declared.walks.Walks.the-variants.{Refused}
 use Rattle.reductions.specs.Contracts.RunTerm.{LinesReady}
 use Rattle.runs.proofs.RunTaskLaws.{number-low, walks-ready, refused-as, ran-as}
@@ -28,7 +29,7 @@ refusal-number-requires c κs =
 returns : tie.Need-returns
 returns c =
     let start = c .before .before .before .before .before .before .before .before .before .before .before .before in
-    (λ es subject is walked. refused-as es (start .args .limit) subject (start .args .term .now) (start .args .log .now) (c .before .before .walks .given .1) (c .refusal-number .ensures), (refl, refl))
+    (λ es subject is walked. refused-as (known-arities (start .args .known)) es (start .args .limit) subject (start .args .term .now) (start .args .log .now) (c .before .before .walks .given .1) (c .refusal-number .ensures), (refl, refl))
 
 run-term-requires : tie.Need-run-term-requires
 run-term-requires c κs =
