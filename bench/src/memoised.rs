@@ -1,6 +1,7 @@
 //! The same memoised comparison in plain Rust: the symbols, then the one question that decides the pair, with one cell for each ordered
-//! pair of nodes but those that a constant's symbol decides; and the clause that decided, of the two whole terms alone: where their symbols differ L1 is asked first,
-//! from the term with the greater symbol. Equal symbols have equally many arguments here, so that both lists end together.
+//! pair of nodes but those that a constant's symbol decides and those with a smaller symbol, which give way to their arguments; and the clause that decided, of the
+//! two whole terms alone: where their symbols differ L1 is asked first, from the term with the greater symbol, and an argument that is the other term is found by
+//! its nodes. Equal symbols have equally many arguments here, so that both lists end together.
 
 const NODES: usize = 224;
 const CELLS: usize = NODES * NODES;
@@ -69,30 +70,56 @@ impl Terms<'_> {
     fn decide(&mut self, s: usize, t: usize) -> (u8, u8) {
         let (f, g) = (self.nodes[s], self.nodes[t]);
         if g < f {
-            return match self.reaches_from(s + 1, self.end(s), t) {
+            return match self.reached(s, t) {
                 true => (2, 1),
-                false if self.exceeds_from(s, t + 1, self.end(t)) => (2, 2),
+                false if self.exceeds_arguments(s, t) => (2, 2),
                 false => (0, 1),
             };
         }
         if f < g {
-            return match self.exceeds_from(s, t + 1, self.end(t)) {
+            return match self.exceeds_arguments(s, t) {
                 false => (0, 1),
-                true if self.reaches_from(s + 1, self.end(s), t) => (2, 1),
+                true if self.reached(s, t) => (2, 1),
                 true => (0, 2),
             };
         }
         let verdict = self.exceeds(s, t);
         let by_argument = match verdict {
-            0 => !self.exceeds_from(s, t + 1, self.end(t)),
+            0 => !self.exceeds_arguments(s, t),
             1 => return (1, 0),
-            _ => self.reaches_from(s + 1, self.end(s), t),
+            _ => self.reached(s, t),
         };
         (verdict, if by_argument { 1 } else { 3 })
     }
 
+    fn reached(&mut self, s: usize, t: usize) -> bool {
+        self.among(s, t) || self.reaches_from(s + 1, self.end(s), t)
+    }
+
+    fn exceeds_arguments(&mut self, s: usize, t: usize) -> bool {
+        !self.among(t, s) && self.exceeds_from(s, t + 1, self.end(t))
+    }
+
+    /// Whether an argument of the term at `s` is the term at `t`.
+    fn among(&self, s: usize, t: usize) -> bool {
+        let term = &self.nodes[t..self.end(t)];
+        let mut k = s + 1;
+        while k < self.end(s) {
+            if &self.nodes[k..self.end(k)] == term {
+                return true;
+            }
+            k = self.end(k);
+        }
+        false
+    }
+
     fn reaches_from(&mut self, mut k: usize, end: usize, t: usize) -> bool {
+        let g = self.nodes[t];
         while k < end {
+            if self.nodes[k] < g {
+                k += 1;
+                continue;
+            }
             if self.exceeds(k, t) > 0 {
                 return true;
             }
@@ -102,7 +129,12 @@ impl Terms<'_> {
     }
 
     fn exceeds_from(&mut self, s: usize, mut k: usize, end: usize) -> bool {
+        let f = self.nodes[s];
         while k < end {
+            if self.nodes[k] < f {
+                k += 1;
+                continue;
+            }
             if self.exceeds(s, k) < 2 {
                 return false;
             }

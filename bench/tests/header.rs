@@ -77,13 +77,44 @@ fn printed(name: &str, expressions: &[String]) -> Vec<u64> {
     text.lines().map(|line| line.parse().expect("a number")).collect()
 }
 
-/// A sum of products of numbers and of the constants that are known.
+/// A sum of products and quotients of numbers, of the constants that are known, and of such sums in brackets.
 fn value(expression: &str, known: &BTreeMap<String, u64>) -> u64 {
-    let factor = |word: &str| {
-        let word = word.trim();
-        word.parse().unwrap_or_else(|_| known[word.trim_start_matches("Limits::")])
-    };
-    expression.split('+').map(|product| product.split('*').map(factor).product::<u64>()).sum()
+    let spaced = ["(", ")", "+", "*", "/"]
+        .iter()
+        .fold(expression.to_string(), |text, sign| text.replace(sign, &format!(" {sign} ")));
+    let mut words = spaced.split_whitespace().peekable();
+    let sum = sum(&mut words, known);
+    assert_eq!(words.next(), None, "{expression}");
+    sum
+}
+
+type Words<'a> = std::iter::Peekable<std::str::SplitWhitespace<'a>>;
+
+fn sum(words: &mut Words, known: &BTreeMap<String, u64>) -> u64 {
+    let mut sum = product(words, known);
+    while words.next_if_eq(&"+").is_some() {
+        sum += product(words, known);
+    }
+    sum
+}
+
+fn product(words: &mut Words, known: &BTreeMap<String, u64>) -> u64 {
+    let mut product = factor(words, known);
+    while let Some(sign) = words.next_if(|word| ["*", "/"].contains(word)) {
+        let next = factor(words, known);
+        product = if sign == "*" { product * next } else { product / next };
+    }
+    product
+}
+
+fn factor(words: &mut Words, known: &BTreeMap<String, u64>) -> u64 {
+    let word = words.next().expect("a number");
+    if word != "(" {
+        return word.parse().unwrap_or_else(|_| known[word.trim_start_matches("Limits::")]);
+    }
+    let sum = sum(words, known);
+    assert_eq!(words.next(), Some(")"));
+    sum
 }
 
 /// The library's constants.

@@ -1,31 +1,24 @@
 -- Whether a rule can step, by its match and its lines.
 use Prim.Native.Nat.{ℕ}
-use mathlib.Core.Path.{_≡_, refl, ap, _∙_}
+use mathlib.Core.Path.{_≡_, ap, _∙_}
 use mathlib.Core.Bool.{Bool, false}
-use mathlib.Core.Option.{Option, none, some}
+use mathlib.Core.Option.{none, some}
 use native.Mathlib.Omega.{arith}
 use Rattle.terms.specs.Term.{Term}
 use Rattle.terms.specs.Equation.{Equation, Direction, source}
-use Rattle.reducing.specs.Match.{Match, no-match, match, values-of}
-use Rattle.reducing.specs.Run.{Step, try}
+use Rattle.reducing.specs.Match.{Match, no-match, match}
+use Rattle.reducing.specs.Run.{try}
 use Rattle.reducing.specs.Test.{line-test}
-use Rattle.reducing.specs.Theory.Step.{stepped, tested}
+use Rattle.reducing.specs.Theory.Step.{stepped, tested, outcome, try-is}
 use Rattle.applying.specs.Contracts.Trying.{part-at, Applies, LinesTell}
 
 module _ (filling subject : Term) (p i : ℕ) (e : Equation) (d : Direction) where
-  abbrev pub outcome : Option Match → Option Step
-  outcome o = elim o [ none ↦ none | some m ↦ tested filling subject p i e d m (line-test e d (values-of filling m)) ]
-
-  pub try-is : try filling line-test subject p (part-at subject p) i e d ≡ outcome (match (source e d) (part-at subject p) no-match)
-  unfolding try
-  try-is = refl
-
   pub none-matches : match (source e d) (part-at subject p) no-match ≡ none → try filling line-test subject p (part-at subject p) i e d ≡ none
-  none-matches x = try-is ∙ ap outcome x
+  none-matches x = try-is filling line-test subject p (part-at subject p) i e d ∙ ap (outcome filling line-test subject p i e d) x
 
   pub applies-told : {m : Match} {r : Bool} → match (source e d) (part-at subject p) no-match ≡ some m → LinesTell filling e d m r → Applies filling subject p i e d r
   applies-told {m} {r} x t =
-      let told : try filling line-test subject p (part-at subject p) i e d ≡ tested filling subject p i e d m r = try-is ∙ (ap outcome x ∙ ap (tested filling subject p i e d m) t) in
+      let told : try filling line-test subject p (part-at subject p) i e d ≡ tested filling subject p i e d m r = try-is filling line-test subject p (part-at subject p) i e d ∙ (ap (outcome filling line-test subject p i e d) x ∙ ap (tested filling subject p i e d m) t) in
       record {
         can = λ h. (stepped filling subject p i e d m, told ∙ ap (tested filling subject p i e d m) h);
         cannot = λ h. told ∙ ap (tested filling subject p i e d m) h;

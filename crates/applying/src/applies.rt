@@ -21,7 +21,7 @@ ghost use Rattle.comparing.specs.Contracts.Cells.{Cleared};
 ghost use Rattle.applying.specs.Contracts.Trying.{Settled, TryIs, HasTry, Applies, MatchedTry, HasMatchedTry, LinesTell};
 
 // No row of cells of the equation's nodes is ready.
-fn forget_rows(ready: &mut [u8])
+fn forget_rows(ready: &mut [u8; Limits::NODES])
     requires { ⌜ position-count ≤ length (now ready) ⌝ }
     ensures { λ _. ⌜ Cleared (now (ready .entry)) 0 position-count (now (ready .exit)) ⌝ }
 {
@@ -51,8 +51,8 @@ fn line_holds(
     lines: KeptLines,
     nodes: &mut [u8],
     sizes: &mut [u8],
-    values: &[u8],
-    ready: &mut [u8],
+    values: &[u8; Limits::VARIABLES],
+    ready: &mut [u8; Limits::NODES],
     cells: &mut [u8],
 ) -> bool
     requires { ⌜ HasMatchedTry (now equations) (now lengths) rule (now table) lines (now nodes) (now sizes) (now values) ⌝ }
@@ -77,7 +77,7 @@ pub fn applies(
     lines: KeptLines,
     nodes: &mut [u8],
     sizes: &mut [u8],
-    ready: &mut [u8],
+    ready: &mut [u8; Limits::NODES],
     cells: &mut [u8],
     node: usize,
 ) -> bool

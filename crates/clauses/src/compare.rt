@@ -7,12 +7,12 @@
 use crate::greater::decide_greater_symbol;
 use crate::kept::held_decision;
 use crate::kept::keep;
+use crate::questions::exceeds_all;
+use crate::questions::some_reaches;
 use crate::smaller::decide_smaller_symbol;
 use comparing::cells::CLAUSE_UNIT;
 use comparing::cells::make_ready;
-use comparing::comparison::argument_reaches;
 use comparing::comparison::exceeds;
-use comparing::comparison::exceeds_arguments;
 use format::limits::Limits;
 use ordering::decision::Clause;
 use ordering::decision::Decision;
@@ -40,8 +40,8 @@ fn first_of(reached: bool, other: Clause) -> Clause
 fn decide_same_symbol(
     nodes: &[u8],
     sizes: &[u8],
-    values: &[u8],
-    ready: &mut [u8],
+    values: &[u8; Limits::VARIABLES],
+    ready: &mut [u8; Limits::NODES],
     cells: &mut [u8],
     i: usize,
     j: usize,
@@ -57,13 +57,13 @@ fn decide_same_symbol(
     match verdict {
         Verdict::Smaller => {
             let row = arguments_of(sizes, j);
-            let exceeded = exceeds_arguments(nodes, sizes, values, ready, cells, i, row);
+            let exceeded = exceeds_all(nodes, sizes, values, ready, cells, i, row);
             Decision::Smaller(first_of(!exceeded, Clause::L3))
         }
         Verdict::Equal => Decision::Equal,
         Verdict::Greater => {
             let row = arguments_of(sizes, i);
-            let reached = argument_reaches(nodes, sizes, values, ready, cells, row, j);
+            let reached = some_reaches(nodes, sizes, values, ready, cells, row, j);
             Decision::Greater(first_of(reached, Clause::L3))
         }
     }
@@ -73,8 +73,8 @@ fn decide_same_symbol(
 fn decide(
     nodes: &[u8],
     sizes: &[u8],
-    values: &[u8],
-    ready: &mut [u8],
+    values: &[u8; Limits::VARIABLES],
+    ready: &mut [u8; Limits::NODES],
     cells: &mut [u8],
     i: usize,
     j: usize,
@@ -100,8 +100,8 @@ fn decide(
 pub fn compare(
     nodes: &[u8],
     sizes: &[u8],
-    values: &[u8],
-    ready: &mut [u8],
+    values: &[u8; Limits::VARIABLES],
+    ready: &mut [u8; Limits::NODES],
     cells: &mut [u8],
     i: usize,
     j: usize,

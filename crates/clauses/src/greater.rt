@@ -1,6 +1,7 @@
 // Two whole terms, of which the first has the greater symbol.
-use comparing::comparison::argument_reaches;
-use comparing::comparison::exceeds_arguments;
+use crate::questions::exceeds_all;
+use crate::questions::some_reaches;
+use format::limits::Limits;
 use ordering::decision::Clause;
 use ordering::decision::Decision;
 use terms::arguments::arguments_of;
@@ -15,8 +16,8 @@ ghost use Rattle.clauses.specs.Contracts.Clauses.{DecisionOf};
 pub fn decide_greater_symbol(
     nodes: &[u8],
     sizes: &[u8],
-    values: &[u8],
-    ready: &mut [u8],
+    values: &[u8; Limits::VARIABLES],
+    ready: &mut [u8; Limits::NODES],
     cells: &mut [u8],
     i: usize,
     j: usize,
@@ -29,11 +30,11 @@ pub fn decide_greater_symbol(
     ensures { λ _. ⌜ SettledCells (now (nodes .entry)) (now (sizes .entry)) (now (values .entry)) (now (ready .exit)) (now (cells .exit)) ⌝ }
 {
     let row = arguments_of(sizes, i);
-    if argument_reaches(nodes, sizes, values, ready, cells, row, j) {
+    if some_reaches(nodes, sizes, values, ready, cells, row, j) {
         return Decision::Greater(Clause::L1);
     }
     let others = arguments_of(sizes, j);
-    if exceeds_arguments(nodes, sizes, values, ready, cells, i, others) {
+    if exceeds_all(nodes, sizes, values, ready, cells, i, others) {
         return Decision::Greater(Clause::L2);
     }
     Decision::Smaller(Clause::L1)

@@ -6,6 +6,7 @@ pub mod Loops
 pub mod Rules
 pub mod ConstantTerms
 pub mod Pair
+pub mod Passed
 pub mod Ready
 pub mod Settled
 pub mod Arguments

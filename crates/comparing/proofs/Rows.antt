@@ -7,6 +7,7 @@ use mathlib.Core.List.{List}
 use native.Mathlib.Omega.{arith}
 use lib.ListN.{getD}
 use Rattle.format.specs.Limits.{node-count}
+use Rattle.format.specs.Theory.Lists.{false-true}
 use Rattle.terms.specs.Term.{Term, Terms, cons, size, sizes}
 use Rattle.terms.specs.declared.arguments.Arguments.{Arguments}
 use Rattle.terms.specs.Contracts.Arguments.{behind-first}
@@ -23,10 +24,7 @@ use Rattle.comparing.specs.Theory.Nodes.{row-first, row-empty, some-node
 use Rattle.comparing.proofs.Weight.{term-weight, row-weight, term-weighs, row-weighs}
 
 pub false-not : {P : Type 0} → (P → false ≡ true) → ¬ P
-false-not k p = let e = k p in let z : _≡_ {A = ℕ} 0 1 = cc in omega arith
-
-not-false : {P : Type 0} → ¬ P → false ≡ true → P
-not-false n e = let z : _≡_ {A = ℕ} 0 1 = cc in absurd (omega arith)
+false-not k p = false-true (k p)
 
 -- The answer to the question that decides s > t gives the verdict of two terms that are not equal.
 pub decides : {P : Type 0} {s t : Term} (q : Bool) → ¬ (s ≡ t) → (s ≻ t) ↔ P → (q ≡ true) ↔ P → verdict s t ≡ greater-if q
@@ -63,7 +61,7 @@ module _ {nodes lengths values : List ℕ} where
   -- L1.
   module _ {row : Arguments} {j : ℕ} where
     pub reaching-none : row .end ≤ row .from → FindsReaching nodes lengths values row j false
-    reaching-none le = record { tells = λ ss t a b. rw (row-empty a le) (not-false some-nil, λ p. absurd (some-nil p)) }
+    reaching-none le = record { tells = λ ss t a b. rw (row-empty a le) (λ e. false-true e, λ p. absurd (some-nil p)) }
 
     module _ {r : Verdict} (lt : row .from < row .end) (c : Compares nodes lengths values (row .from) j r) where
       pub reaching-first : ¬ (r ≡ smaller) → FindsReaching nodes lengths values row j true
@@ -96,7 +94,7 @@ module _ {nodes lengths values : List ℕ} where
           tells s ts a b =
               let f = row-first b lt in
               let n : ¬ ExceedsAll s (cons (f .first) (f .others)) = λ p. told-not-greater s (f .first) (c .is s (f .first) a (f .denotes)) h (all-head p) in
-              rw (f .are) (not-false n, λ p. absurd (n p))
+              rw (f .are) (λ e. false-true e, λ p. absurd (n p))
 
       pub all-others : {b : Bool} → r ≡ greater → ComparesWithAll nodes lengths values i (behind-first lengths row) b → ComparesWithAll nodes lengths values i row b
       all-others {b} h o = record { tells = tells }

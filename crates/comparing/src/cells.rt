@@ -24,7 +24,7 @@ pub fn clear(bytes: &mut [u8], from: usize, end: usize)
 }
 
 // Makes the row of `s` ready: its cells are cleared at the first use, those with a second node of the subject's.
-pub fn make_ready(ready: &mut [u8], cells: &mut [u8], s: usize)
+pub fn make_ready(ready: &mut [u8; Limits::NODES], cells: &mut [u8], s: usize)
     requires { ⌜ (s < node-count) × (length (now ready) ≡ node-count) × (length (now cells) ≡ cell-count) ⌝ }
     ensures { λ _. ⌜ MadeReady (now (ready .entry)) (now (cells .entry)) s (now (ready .exit)) (now (cells .exit)) ⌝ }
 {

@@ -5,6 +5,8 @@ use crate::cells::settle;
 use crate::constants::Told;
 use crate::constants::tell_constants;
 use crate::nodes::resolve;
+use crate::passing::behind_smaller;
+use format::byte::wide;
 use format::limits::Limits;
 use ordering::verdict::Verdict;
 use terms::arguments::Arguments;
@@ -12,10 +14,10 @@ use terms::arguments::arguments_of;
 use terms::arguments::other_arguments;
 ghost use mathlib.Core.Path.{_≡_};
 ghost use Prim.Native.Nat.{_≤_, _<_};
-ghost use lib.ListN.{length, getD};
+ghost use lib.ListN.{getD};
 ghost use Rattle.format.specs.Limits.{first-variable, position-count};
 ghost use Rattle.comparing.specs.Contracts.Cells.{SettledCells};
-ghost use Rattle.comparing.specs.Contracts.Comparing.{greater-if, BehindSmaller, HasTerm, HasTerms, Compares, FindsReaching, ComparesWithAll, FindsDifference};
+ghost use Rattle.comparing.specs.Contracts.Comparing.{greater-if, HasTerm, HasTerms, Compares, FindsReaching, ComparesWithAll, FindsDifference};
 
 // The verdict of two terms that are not equal.
 fn greater_if(greater: bool) -> Verdict
@@ -32,8 +34,8 @@ fn greater_if(greater: bool) -> Verdict
 pub fn exceeds(
     nodes: &[u8],
     sizes: &[u8],
-    values: &[u8],
-    ready: &mut [u8],
+    values: &[u8; Limits::VARIABLES],
+    ready: &mut [u8; Limits::NODES],
     cells: &mut [u8],
     i: usize,
     j: usize,
@@ -64,8 +66,8 @@ pub fn exceeds(
 fn compare_symbols(
     nodes: &[u8],
     sizes: &[u8],
-    values: &[u8],
-    ready: &mut [u8],
+    values: &[u8; Limits::VARIABLES],
+    ready: &mut [u8; Limits::NODES],
     cells: &mut [u8],
     i: usize,
     j: usize,
@@ -89,28 +91,12 @@ fn compare_symbols(
     compare_arguments(nodes, sizes, values, ready, cells, i, j)
 }
 
-// The row from its first node on whose symbol is not smaller than `symbol`. A node that is passed over gives way to its arguments, which stand right behind it.
-fn behind_smaller(nodes: &[u8], row: Arguments, symbol: u8) -> Arguments
-    requires { ⌜ (row .from ≤ row .end) × (row .from < row .end → row .end ≤ length (now nodes)) ⌝ }
-    ensures { λ r. ⌜ BehindSmaller (now (nodes .entry)) symbol row r ⌝ }
-{
-    let end = row.end;
-    let mut at = row.from;
-    while at < end {
-        if symbol <= nodes[at] {
-            return Arguments { from: at, end: end };
-        }
-        at = at + 1;
-    }
-    Arguments { from: at, end: end }
-}
-
-// L1: whether one of the terms in the row equals or exceeds the term at j. A term whose symbol is smaller than that at j does so if one of its arguments does.
+// L1: whether one of the terms in the row equals or exceeds the term at j. A term whose symbol is smaller than that at j does so exactly if one of its arguments does, which stand right behind its symbol.
 pub fn argument_reaches(
     nodes: &[u8],
     sizes: &[u8],
-    values: &[u8],
-    ready: &mut [u8],
+    values: &[u8; Limits::VARIABLES],
+    ready: &mut [u8; Limits::NODES],
     cells: &mut [u8],
     row: Arguments,
     j: usize,
@@ -122,24 +108,28 @@ pub fn argument_reaches(
     ensures { λ _. ⌜ SettledCells (now (nodes .entry)) (now (sizes .entry)) (now (values .entry)) (now (ready .exit)) (now (cells .exit)) ⌝ }
 {
     let g = nodes[j];
-    let mut rest = behind_smaller(nodes, row, g);
-    while rest.from < rest.end {
-        let verdict = exceeds(nodes, sizes, values, ready, cells, rest.from, j);
+    let end = row.end;
+    let mut at = row.from;
+    while at < end {
+        if nodes[at] < g {
+            at = behind_smaller(nodes, at + 1, end, g);
+            continue;
+        }
+        let verdict = exceeds(nodes, sizes, values, ready, cells, at, j);
         let Verdict::Smaller = verdict else {
             return true;
         };
-        let others = other_arguments(sizes, rest);
-        rest = behind_smaller(nodes, others, g);
+        at = at + wide(sizes[at]);
     }
     false
 }
 
-// Whether the term at i exceeds every term in the row. It exceeds a term whose symbol is smaller than its own if it exceeds every argument of that one.
+// Whether the term at i exceeds every term in the row. It exceeds a term whose symbol is smaller than its own exactly if it exceeds every argument of that one, which stand right behind its symbol.
 pub fn exceeds_arguments(
     nodes: &[u8],
     sizes: &[u8],
-    values: &[u8],
-    ready: &mut [u8],
+    values: &[u8; Limits::VARIABLES],
+    ready: &mut [u8; Limits::NODES],
     cells: &mut [u8],
     i: usize,
     row: Arguments,
@@ -151,14 +141,18 @@ pub fn exceeds_arguments(
     ensures { λ _. ⌜ SettledCells (now (nodes .entry)) (now (sizes .entry)) (now (values .entry)) (now (ready .exit)) (now (cells .exit)) ⌝ }
 {
     let f = nodes[i];
-    let mut rest = behind_smaller(nodes, row, f);
-    while rest.from < rest.end {
-        let verdict = exceeds(nodes, sizes, values, ready, cells, i, rest.from);
+    let end = row.end;
+    let mut at = row.from;
+    while at < end {
+        if nodes[at] < f {
+            at = behind_smaller(nodes, at + 1, end, f);
+            continue;
+        }
+        let verdict = exceeds(nodes, sizes, values, ready, cells, i, at);
         let Verdict::Greater = verdict else {
             return false;
         };
-        let others = other_arguments(sizes, rest);
-        rest = behind_smaller(nodes, others, f);
+        at = at + wide(sizes[at]);
     }
     true
 }
@@ -175,8 +169,8 @@ pub struct Difference {
 fn first_difference(
     nodes: &[u8],
     sizes: &[u8],
-    values: &[u8],
-    ready: &mut [u8],
+    values: &[u8; Limits::VARIABLES],
+    ready: &mut [u8; Limits::NODES],
     cells: &mut [u8],
     i: usize,
     j: usize,
@@ -226,8 +220,8 @@ fn first_difference(
 fn compare_arguments(
     nodes: &[u8],
     sizes: &[u8],
-    values: &[u8],
-    ready: &mut [u8],
+    values: &[u8; Limits::VARIABLES],
+    ready: &mut [u8; Limits::NODES],
     cells: &mut [u8],
     i: usize,
     j: usize,

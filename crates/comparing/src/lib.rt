@@ -3,3 +3,4 @@ pub mod cells;
 pub mod comparison;
 pub mod constants;
 pub mod nodes;
+pub mod passing;

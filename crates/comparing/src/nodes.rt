@@ -5,15 +5,15 @@ use format::limits::Limits;
 ghost use mathlib.Core.Path.{_≡_};
 ghost use Prim.Native.Nat.{_+_, _<_};
 ghost use lib.ListN.{length, getD};
-ghost use Rattle.format.specs.Limits.{first-variable};
+ghost use Rattle.format.specs.Limits.{first-variable, variable-count};
 ghost use Rattle.comparing.specs.Contracts.Nodes.{resolved};
 
 // The subject's first node.
 pub const SUBJECT: usize = Limits::POSITIONS;
 
 // The node that stands for the same term and is no variable: a variable gives way to its value.
-pub fn resolve(nodes: &[u8], values: &[u8], i: usize) -> usize
-    requires { ⌜ (i < length (now nodes)) × (getD (now nodes) i 0 < first-variable + length (now values)) ⌝ }
+pub fn resolve(nodes: &[u8], values: &[u8; Limits::VARIABLES], i: usize) -> usize
+    requires { ⌜ (i < length (now nodes)) × (getD (now nodes) i 0 < first-variable + variable-count) ⌝ }
     ensures { λ r. ⌜ r ≡ resolved (now (nodes .entry)) (now (values .entry)) i ⌝ }
 {
     let byte = nodes[i];

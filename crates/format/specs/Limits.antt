@@ -1,5 +1,5 @@
 -- The fixed numbers of document 01, as document 02 moved them, each named here and nowhere else.
-use Prim.Native.Nat.{ℕ, _+_, _*_}
+use Prim.Native.Nat.{ℕ, _+_, _*_, _/_}
 
 -- "A node is one byte." The greatest byte.
 abbrev pub max-byte : ℕ
@@ -70,7 +70,7 @@ abbrev pub node-count : ℕ
 node-count = filling-node + 1
 
 abbrev pub row-cells : ℕ
-row-cells = node-count + 15
+row-cells = (node-count + 15) / 16 * 16
 
 abbrev pub cell-count : ℕ
 cell-count = node-count * row-cells

@@ -38,7 +38,7 @@ impl Limits {
     pub const NODES: usize = Limits::FILLING_NODE + 1;
 
     // Rows begin at multiples of 16: what is cleared or read at once lies in one line of the processor's cache.
-    pub const ROW_CELLS: usize = Limits::NODES + 15;
+    pub const ROW_CELLS: usize = (Limits::NODES + 15) / 16 * 16;
 
     pub const CELLS: usize = Limits::NODES * Limits::ROW_CELLS;
 

@@ -5,7 +5,7 @@ use mathlib.Core.Logic.{inl, inr}
 use mathlib.Core.List.{List}
 use native.Mathlib.Omega.{arith}
 use lib.ListN.{length, getD}
-use Rattle.format.specs.Limits.{position-count, first-variable}
+use Rattle.format.specs.Limits.{position-count, first-variable, variable-count}
 use Rattle.terms.specs.Term.{Term, Terms, app, nil, Values}
 use Rattle.ordering.specs.Order.{_≻_, L1, L2, L3, none}
 use Rattle.ordering.specs.declared.verdict.Verdict.{Verdict}
@@ -23,8 +23,8 @@ use Rattle.comparing.proofs.Resolved.{byte-low, SymbolNode, resolved-node}
 use Rattle.judging.specs.Contracts.Holding.{BindingTestable, ElementTestable, InstanceAt}
 
 module _ {nodes lengths values ready cells : List ℕ} (m : SettledCells nodes lengths values ready cells) where
-  pub resolvable : {i : ℕ} {t : Term} → TermAt nodes lengths values i t → (i < length nodes) × (getD nodes i 0 < first-variable + length values)
-  resolvable a = (omega (arith, within a, m .nodes-length), omega (arith, byte-low a, m .values-length))
+  pub resolvable : {i : ℕ} {t : Term} → TermAt nodes lengths values i t → (i < length nodes) × (getD nodes i 0 < first-variable + variable-count)
+  resolvable a = (omega (arith, within a, m .nodes-length), byte-low a)
 
   pub readable : {i : ℕ} {t : Term} → TermAt nodes lengths values i t → i < length nodes
   readable a = omega (arith, within a, m .nodes-length)

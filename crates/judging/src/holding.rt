@@ -30,8 +30,8 @@ ghost use Rattle.judging.specs.Contracts.Holding.{BindingTestable, HasBi
 fn binding_holds(
     nodes: &[u8],
     sizes: &[u8],
-    values: &[u8],
-    ready: &mut [u8],
+    values: &[u8; Limits::VARIABLES],
+    ready: &mut [u8; Limits::NODES],
     cells: &mut [u8],
     v: usize,
     p: usize,
@@ -61,8 +61,8 @@ fn binding_holds(
 fn inequality_holds(
     nodes: &[u8],
     sizes: &[u8],
-    values: &[u8],
-    ready: &mut [u8],
+    values: &[u8; Limits::VARIABLES],
+    ready: &mut [u8; Limits::NODES],
     cells: &mut [u8],
     p: usize,
     q: usize,
@@ -104,8 +104,8 @@ fn bindings_hold(
     at: usize,
     nodes: &[u8],
     sizes: &[u8],
-    values: &[u8],
-    ready: &mut [u8],
+    values: &[u8; Limits::VARIABLES],
+    ready: &mut [u8; Limits::NODES],
     cells: &mut [u8],
 ) -> bool
     requires { ⌜ SettledCells (now nodes) (now sizes) (now values) (now ready) (now cells) ⌝ }
@@ -133,8 +133,8 @@ fn elements_hold(
     end: usize,
     nodes: &[u8],
     sizes: &[u8],
-    values: &[u8],
-    ready: &mut [u8],
+    values: &[u8; Limits::VARIABLES],
+    ready: &mut [u8; Limits::NODES],
     cells: &mut [u8],
 ) -> bool
     requires { ⌜ SettledCells (now nodes) (now sizes) (now values) (now ready) (now cells) ⌝ }
@@ -165,8 +165,8 @@ fn line_holds(
     end: usize,
     nodes: &[u8],
     sizes: &[u8],
-    values: &[u8],
-    ready: &mut [u8],
+    values: &[u8; Limits::VARIABLES],
+    ready: &mut [u8; Limits::NODES],
     cells: &mut [u8],
 ) -> bool
     requires { ⌜ SettledCells (now nodes) (now sizes) (now values) (now ready) (now cells) ⌝ }
@@ -195,8 +195,8 @@ pub fn first_holding(
     lines: KeptLines,
     nodes: &[u8],
     sizes: &[u8],
-    values: &[u8],
-    ready: &mut [u8],
+    values: &[u8; Limits::VARIABLES],
+    ready: &mut [u8; Limits::NODES],
     cells: &mut [u8],
 ) -> usize
     requires { ⌜ SettledCells (now nodes) (now sizes) (now values) (now ready) (now cells) ⌝ }

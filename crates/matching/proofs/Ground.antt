@@ -7,6 +7,7 @@ use mathlib.Core.List.{List}
 use native.Mathlib.Omega.{arith}
 use lib.ListN.{length, getD}
 use lib.Seq.{ext-getD}
+use Rattle.format.specs.Lists.{SameBytes}
 use Rattle.terms.specs.Term.{Term, size}
 use Rattle.terms.specs.Prefix.{prefix}
 use Rattle.terms.specs.Contracts.Stored.{GroundStored}
@@ -22,22 +23,17 @@ pub standing : {nodes lengths : List ℕ} {i : ℕ} → HasGround nodes lengths 
 standing g = ground-standing (g .stored)
 
 module _ {nodes lengths arities : List ℕ} {a b : ℕ} {s t : Term} (g : GroundStored nodes lengths arities a s) (h : GroundStored nodes lengths arities b t) where
-  pub same-bytes : getD lengths a 0 ≡ getD lengths b 0 → ((k : ℕ) → k < getD lengths a 0 → getD nodes (a + k) 0 ≡ getD nodes (b + k) 0) → s ≡ t
-  same-bytes e same =
+  -- Where the sizes are the same, the terms are if their bytes are.
+  pub told-by-bytes : getD lengths a 0 ≡ getD lengths b 0 → SameBytes nodes a b (getD lengths a 0) ↔ (s ≡ t)
+  told-by-bytes e =
       let x = ground-size g in
       let y = ground-size h in
       let d = length-prefix s in
-      let z : length (prefix s) ≡ length (prefix t) = omega (arith, length-prefix t) in
-      prefix-injective arities (g .few-symbols) s t (ground-fits arities s (g .ground)) (ground-fits arities t (h .ground))
-      (ext-getD 0 (prefix s) (prefix t) z (λ k l. sym (ground-byte g k (omega arith)) ∙ (same k (omega arith) ∙ ground-byte h k (omega arith))))
-
-  differ : (s ≡ t → ⊥) → (false ≡ true) ↔ (s ≡ t)
-  differ n = (λ e. let z : _≡_ {A = ℕ} 0 1 = cc in absurd (omega arith), λ e. absurd (n e))
+      let z : length (prefix s) ≡ length (prefix t) = omega (arith, length-prefix t) in (
+        λ same. prefix-injective arities (g .few-symbols) s t (ground-fits arities s (g .ground)) (ground-fits arities t (h .ground))
+            (ext-getD 0 (prefix s) (prefix t) z (λ k l. sym (ground-byte g k (omega arith)) ∙ (same .each k (omega arith) ∙ ground-byte h k (omega arith)))),
+        λ q. record { each = λ k l. ground-byte g k (omega arith) ∙ (ap (λ u. getD (prefix u) k 0) q ∙ sym (ground-byte h k (omega arith))) },
+      )
 
   pub other-sizes : (getD lengths a 0 ≡ getD lengths b 0 → ⊥) → (false ≡ true) ↔ (s ≡ t)
-  other-sizes n = differ (λ e. n (ground-size g ∙ (ap size e ∙ sym (ground-size h))))
-
-  pub other-bytes : (k : ℕ) → k < getD lengths a 0 → (getD nodes (a + k) 0 ≡ getD nodes (b + k) 0 → ⊥) → (false ≡ true) ↔ (s ≡ t)
-  other-bytes k l n =
-      let x = ground-size g in
-      differ (λ e. n (ground-byte g k (omega arith) ∙ (ap (λ u. getD (prefix u) k 0) e ∙ sym (ground-byte h k (omega (arith, ap size e))))))
+  other-sizes n = (λ e. let z : _≡_ {A = ℕ} 0 1 = cc in absurd (omega arith), λ e. absurd (n (ground-size g ∙ (ap size e ∙ sym (ground-size h)))))

@@ -1,5 +1,6 @@
 // Whether two terms are identical.
 use format::byte::wide;
+use format::same::same_bytes;
 ghost use mathlib.Core.Path.{_≡_};
 ghost use mathlib.Core.Logic.{_↔_};
 ghost use mathlib.Core.Bool.{true};
@@ -18,12 +19,5 @@ pub fn same_terms(nodes: &[u8], sizes: &[u8], a: usize, b: usize) -> bool
     if n != wide(sizes[b]) {
         return false;
     }
-    let mut i = 0;
-    while i < n {
-        if nodes[a + i] != nodes[b + i] {
-            return false;
-        }
-        i = i + 1;
-    }
-    true
+    same_bytes(nodes, a, b, n)
 }

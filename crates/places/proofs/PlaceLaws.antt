@@ -1,6 +1,6 @@
 -- From place to place.
-use Prim.Native.Nat.{ℕ, zero, suc, _+_, _-_, _*_, _≤_, _<_}
-use mathlib.Core.Path.{_≡_, refl, sym, ap, ap₂, subst, _∙_}
+use Prim.Native.Nat.{ℕ, suc, _+_, _-_, _*_, _≤_, _<_}
+use mathlib.Core.Path.{_≡_, sym, ap, ap₂, subst, _∙_}
 use mathlib.Core.Bool.{Bool}
 use mathlib.Core.Option.{some}
 use mathlib.Core.List.{List, [], _∷_, _++_}
@@ -10,6 +10,7 @@ use native.Mathlib.Decide.{ℕ-discrete}
 use lib.ListN.{length, take, drop}
 use Rattle.format.specs.Limits.{max-equations, max-tasks, max-steps}
 use Rattle.format.specs.Lists.{entry}
+use Rattle.format.specs.Theory.Lists.{entry-found}
 use Rattle.terms.specs.Filling.{filling}
 use Rattle.terms.specs.Equation.{Equation}
 use Rattle.sheet.specs.Sheet.{Task, Sheet}
@@ -120,17 +121,11 @@ module _ {input : List ℕ} {known : Known} {fits : Bool} {equations lengths bou
   pub steps-few : {task steps : ℕ} → task ≤ length (s .tasks) → steps ≤ max-steps * task → steps ≤ max-tasks * max-steps
   steps-few h k = omega (arith, few-tasks)
 
-entry-there : {A : Type 0} (xs : List A) (i : ℕ) → i < length xs → (x : A) × (entry xs i ≡ some x)
-unfolding entry
-entry-there [] i h = absurd (omega arith)
-entry-there (x ∷ xs) zero h = (x, refl)
-entry-there (x ∷ xs) (suc i) h = entry-there xs i (omega arith)
-
 module _ {input : List ℕ} {known : Known} {fits : Bool} {equations lengths bounds table : List ℕ} {s : Sheet} (r : Ready input known fits equations lengths bounds table s)
     {task : ℕ} (low : task < length (s .tasks)) {before out : List ℕ} (p : TaskListed)
     (given : (s : Sheet) (t : Task) → Ready input known fits equations lengths bounds table s → entry (s .tasks) task ≡ some t → TaskGiven (s .arities) (s .equations) t before out p) where
   its-task : (t : Task) × (entry (s .tasks) task ≡ some t)
-  its-task = entry-there (s .tasks) task low
+  its-task = entry-found (s .tasks) task low
 
   its-frames : TaskGiven (s .arities) (s .equations) (its-task .0) before out p
   its-frames = given s (its-task .0) r (its-task .1)

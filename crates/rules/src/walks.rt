@@ -1,4 +1,4 @@
-// "Judge and run first walk every equation and direction in order."
+// "Judge and run first walk every equation and direction in order"
 use crate::keep::RuleKept;
 use crate::keep::keep_rule;
 use format::limits::Limits;

@@ -33,7 +33,7 @@ fn first_rule(
     table: &[u8],
     nodes: &mut [u8],
     sizes: &mut [u8],
-    ready: &mut [u8],
+    ready: &mut [u8; Limits::NODES],
     cells: &mut [u8],
     node: usize,
 ) -> usize

@@ -1,7 +1,7 @@
 -- The walk from its first line to its end.
 use Prim.Native.Nat.{ℕ, _+_, _-_, _*_, _≤_, _<_}
 use mathlib.Core.Path.{_≡_, refl, sym, ap, subst, _∙_}
-use mathlib.Core.Bool.{Bool, true, false}
+use mathlib.Core.Bool.{Bool, false}
 use mathlib.Core.Option.{some}
 use mathlib.Core.List.{List, [], _∷_, _++_}
 use lib.ListN.{length, take, drop, replicate}
@@ -11,6 +11,7 @@ use native.Mathlib.Omega.{arith}
 use Rattle.format.specs.Buffer.{written}
 use Rattle.format.specs.Limits.{variable-count, no-position, max-lines, record-bytes}
 use Rattle.format.specs.declared.refusal.Refusal.{Refusal}
+use Rattle.format.specs.Theory.Lists.{false-true}
 use Rattle.solving.specs.Line.{no-bindings, records}
 use Rattle.solving.specs.Walk.{Walked, solved, enough, over-limit, opening, walk}
 use Rattle.solving.specs.Turns.{table-after}
@@ -87,9 +88,6 @@ pub ends-between : {nodes sizes memory : List ℕ} {stops : Bool} {s t source ta
 ends-between {nodes = nodes} {sizes = sizes} {memory = memory} {stops = stops} {t = t} {source = source} {a = a} x y c =
     subst (λ t. WalkEnds nodes sizes memory stops source t a) y (subst (λ s. WalkEnds nodes sizes memory stops s t a) x c)
 
-pub not-stopping : {A : Type 0} → false ≡ true → A
-not-stopping e = let z : _≡_ {A = ℕ} 0 1 = cc in absurd (omega arith)
-
 -- 3. The end of the walk, told. Nothing has stopped it, so that no line is left unfinished.
 module _ {nodes sizes memory : List ℕ} (source target : ℕ) (a : Advanced) (c : WalkEnds nodes sizes memory false source target a) where
   comes-walk : stopping-walk false nodes sizes source target ≡ walk enough (view-of nodes sizes) source target
@@ -103,7 +101,7 @@ module _ {nodes sizes memory : List ℕ} (source target : ℕ) (a : Advanced) (c
   all-finished k = go (decLt (a .walk .top) max-lines)
     where
       go : Dec (a .walk .top < max-lines) → max-lines ≤ a .walk .top
-      go (yes l) = not-stopping (k .stopped l .0)
+      go (yes l) = false-true (k .stopped l .0)
       go (no l) = omega arith
 
   pub solved-leaves : a .progress ≡ Going → LeavesWalk nodes sizes source target memory (record { ending = Solved; lines = a .walk .done; turns = a .walk .turns })

@@ -20,7 +20,7 @@ use Rattle.terms.specs.Theory.Prefix.{fits-variables}
 use Rattle.reducing.specs.Match.{Match, no-match, match, values-of, has-variable, have-variable}
 use Rattle.reducing.specs.Run.{Step, try}
 use Rattle.reducing.specs.Test.{line-test}
-use Rattle.reducing.specs.Theory.Step.{try-some}
+use Rattle.reducing.specs.Theory.Step.{stepped, tested, outcome, try-is, try-some}
 use Rattle.reducing.specs.Theory.Match.{either}
 use Rattle.matching.specs.Contracts.Matching.{SlotIs, MatchIs, Matched, SidePart}
 use Rattle.replacing.specs.Contracts.Replacing.{ReplacementIs, ReplacedAs}
@@ -28,8 +28,6 @@ use Rattle.replacing.specs.declared.part.Replaced.{Replaced}
 use Rattle.rules.specs.Contracts.Rows.{SideIs}
 use Rattle.applying.specs.Contracts.Trying.{part-at}
 use Rattle.stepping.specs.Contracts.Stepping.{StepIs}
-use Rattle.reducing.specs.Theory.Step.{stepped, tested}
-use Rattle.applying.proofs.TryLaws.{outcome, try-is}
 use Rattle.applying.proofs.MatchLaws.{side-part}
 
 -- 1. What a possible step is, in the direction that was tried.
@@ -43,13 +41,13 @@ module _ (filling subject : Term) (p i : ℕ) (e : Equation) (d : Direction) (s 
     pub gives : s .result ≡ replace subject p (inst (values-of filling found) (target e d))
 
   same-direction : try filling line-test subject p (part-at subject p) i e d ≡ some s → s .direction ≡ d
-  same-direction h = go (match (source e d) (part-at subject p) no-match) (sym (try-is filling subject p i e d) ∙ h)
+  same-direction h = go (match (source e d) (part-at subject p) no-match) (sym (try-is filling line-test subject p (part-at subject p) i e d) ∙ h)
     where
       by-test : (m : Match) (b : Bool) → tested filling subject p i e d m b ≡ some s → s .direction ≡ d
       by-test m true h = let z : s ≡ stepped filling subject p i e d m = cc in ap (λ x. x .direction) z
       by-test m false h = let z : _≡_ {A = ℕ} 0 1 = cc in absurd (omega arith)
 
-      go : (o : Option Match) → outcome filling subject p i e d o ≡ some s → s .direction ≡ d
+      go : (o : Option Match) → outcome filling line-test subject p i e d o ≡ some s → s .direction ≡ d
       go (some m) h = by-test m (line-test e d (values-of filling m)) h
       go none h = let z : _≡_ {A = ℕ} 0 1 = cc in absurd (omega arith)
 

@@ -4,7 +4,6 @@ use mathlib.Core.Path.{_≡_}
 use mathlib.Core.Logic.{_↔_}
 use mathlib.Core.Bool.{Bool, true, false}
 use mathlib.Core.List.{List}
-use lib.ListN.{getD}
 use Rattle.format.specs.Limits.{position-count}
 use Rattle.terms.specs.Term.{Term, Terms, size, sizes}
 use Rattle.terms.specs.declared.arguments.Arguments.{Arguments}
@@ -27,13 +26,6 @@ abbrev pub LeftToAsk : Verdict → (s t : Term) (ss ts : Terms) → Type 0
 LeftToAsk smaller s t ss ts = (¬ (s ≡ t)) × ((s ≻ t) ↔ SomeReaches ss t)
 LeftToAsk equal s t ss ts = s ≡ t
 LeftToAsk greater s t ss ts = (¬ (s ≡ t)) × ((s ≻ t) ↔ ExceedsAll s ts)
-
--- Of the row, nodes are passed over whose symbols are smaller.
-pub record BehindSmaller (nodes : List ℕ) (symbol : ℕ) (row rest : Arguments) : Type 0 where
-  pub same-end : rest .end ≡ row .end
-  pub forward : row .from ≤ rest .from
-  pub inside : rest .from ≤ row .end
-  pub smaller-symbols : (k : ℕ) → row .from ≤ k → k < rest .from → getD nodes k 0 < symbol
 
 module _ (nodes lengths values : List ℕ) where
   -- Some term stands at node `i`; some terms stand in the row.

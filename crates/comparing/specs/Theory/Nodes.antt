@@ -1,9 +1,10 @@
--- Laws of the nodes: where terms stand, that a node stands for one term at most, and the number of nodes of that term.
+-- Laws of the nodes: where terms stand, that the same bytes stand for one term at most, and the number of nodes of that term.
 use Prim.Native.Nat.{ℕ, _+_, _-_, _≤_, _<_}
 use mathlib.Core.Path.{_≡_, refl, sym, ap}
 use mathlib.Core.List.{List}
 use native.Mathlib.Omega.{arith}
 use lib.ListN.{getD}
+use Rattle.format.specs.Lists.{SameBytes}
 use Rattle.format.specs.Limits.{max-symbols, first-variable, variable-count, node-count}
 use Rattle.format.specs.Theory.Byte.{class-symbol, class-variable}
 use Rattle.terms.specs.Term.{Term, Terms, app, nil, cons, size, sizes}
@@ -50,20 +51,45 @@ module _ {nodes lengths : List ℕ} {Value : ℕ → Term → Type 0} where
   row-empty (none e) h = refl
   row-empty (more s r) h = absurd (omega (arith, some-node s, row-ordered r))
 
-  -- A node stands for one term at most, if a variable has one value at most.
+  -- Where nodes and lengths are the same bytes at two places, the same term stands there, if a variable has one value at most.
   module _ (once : (v : ℕ) (s t : Term) → Value v s → Value v t → s ≡ t) where
-    mutual
-      pub unique : {i : ℕ} {s t : Term} → Denotes nodes lengths Value i s → Denotes nodes lengths Value i t → s ≡ t
-      unique (symbol-node {f = f} h c r) (symbol-node {f = g} i d q) = let e : f ≡ g = cc in cc (row-unique r q)
-      unique (symbol-node h c r) (variable-node i d o y) = let z : _≡_ {A = ℕ} 0 1 = cc in absurd (omega arith)
-      unique (variable-node h c o x) (symbol-node i d q) = let z : _≡_ {A = ℕ} 0 1 = cc in absurd (omega arith)
-      unique (variable-node {v = v} h c o x) (variable-node {v = w} i d p y) = let e : v ≡ w = cc in once w _ _ (rw e at x) y
+    module _ {i j n : ℕ} (same-nodes : SameBytes nodes i j n) (same-lengths : SameBytes lengths i j n) where
+      same-at : (p q : ℕ) → p + j ≡ q + i → i ≤ p → p < i + n → (getD nodes p 0 ≡ getD nodes q 0) × (getD lengths p 0 ≡ getD lengths q 0)
+      same-at p q e h l =
+          let x : i + (p - i) ≡ p = omega arith in
+          let y : j + (p - i) ≡ q = omega arith in
+          (rw (x, y) at (same-nodes .each (p - i) (omega arith)), rw (x, y) at (same-lengths .each (p - i) (omega arith)))
 
-      pub row-unique : {k end : ℕ} {ss ts : Terms} → RowDenotes nodes lengths Value k end ss → RowDenotes nodes lengths Value k end ts → ss ≡ ts
-      row-unique (none e) (none d) = refl
-      row-unique (none e) (more s r) = absurd (omega (arith, some-node s, row-ordered r))
-      row-unique (more s r) (none e) = absurd (omega (arith, some-node s, row-ordered r))
-      row-unique (more s r) (more t q) = cc (unique s t, row-unique r q)
+      mutual
+        same-term : {p q : ℕ} {s t : Term} → p + j ≡ q + i → i ≤ p → p + getD lengths p 0 ≤ i + n → Denotes nodes lengths Value p s → Denotes nodes lengths Value q t → s ≡ t
+        same-term {p} {q} e h l (symbol-node {f = f} x c r) (symbol-node {f = g} y d w) =
+            let (a, b) = same-at p q e h (omega (arith, row-ordered r)) in
+            let z : f ≡ g = cc in
+            cc (same-row (omega arith) (omega arith) (omega arith) l r w)
+        same-term {p} {q} e h l (symbol-node x c r) (variable-node y d o w) =
+            let (a, b) = same-at p q e h (omega (arith, row-ordered r)) in
+            let z : _≡_ {A = ℕ} 0 1 = cc in absurd (omega arith)
+        same-term {p} {q} e h l (variable-node x c o w) (symbol-node y d r) =
+            let (a, b) = same-at p q e h (omega arith) in
+            let z : _≡_ {A = ℕ} 0 1 = cc in absurd (omega arith)
+        same-term {p} {q} e h l (variable-node {v = u} x c o a) (variable-node {v = v} y d w b) =
+            let (f, g) = same-at p q e h (omega arith) in
+            let z : u ≡ v = cc in once v _ _ (rw z at a) b
+
+        same-row : {k m end last : ℕ} {ss ts : Terms} → k + j ≡ m + i → end + j ≡ last + i → i ≤ k → end ≤ i + n → RowDenotes nodes lengths Value k end ss → RowDenotes nodes lengths Value m last ts → ss ≡ ts
+        same-row e d h l (none x) (none y) = refl
+        same-row e d h l (none x) (more s r) = absurd (omega (arith, some-node s, row-ordered r))
+        same-row e d h l (more s r) (none x) = absurd (omega (arith, some-node s, row-ordered r))
+        same-row {k} {m} e d h l (more s r) (more t w) =
+            let (a, b) = same-at k m e h (omega (arith, some-node s, row-ordered r)) in
+            cc (same-term e h (omega (arith, row-ordered r)) s t, same-row (omega arith) d (omega (arith, some-node s)) l r w)
+
+    same-bytes-same-term : {i j : ℕ} {s t : Term} → SameBytes nodes i j (getD lengths i 0) → SameBytes lengths i j (getD lengths i 0) → Denotes nodes lengths Value i s → Denotes nodes lengths Value j t → s ≡ t
+    same-bytes-same-term p q a b = same-term p q (omega arith) (omega arith) (omega arith) a b
+
+    -- A node stands for one term at most.
+    pub unique : {i : ℕ} {s t : Term} → Denotes nodes lengths Value i s → Denotes nodes lengths Value i t → s ≡ t
+    unique a b = same-bytes-same-term (record { each = λ k l. refl }) (record { each = λ k l. refl }) a b
 
 -- A ground term stands whatever the variables stand for, and `lengths` has the number of its nodes.
 module _ {nodes lengths : List ℕ} where
@@ -90,6 +116,10 @@ module _ {nodes lengths : List ℕ} where
 module _ {nodes lengths values : List ℕ} where
   ground-once : (v : ℕ) (s t : Term) → ValueOf nodes lengths values v s → ValueOf nodes lengths values v t → s ≡ t
   ground-once v s t x y = unique (λ v s t e d. absurd e) (x .ground) (y .ground)
+
+  -- The same nodes and lengths stand for the same term.
+  pub same-nodes-same-term : {i j : ℕ} {s t : Term} → SameBytes nodes i j (getD lengths i 0) → SameBytes lengths i j (getD lengths i 0) → TermAt nodes lengths values i s → TermAt nodes lengths values j t → s ≡ t
+  same-nodes-same-term p q a b = same-bytes-same-term ground-once p q a b
 
   pub term-unique : {i : ℕ} {s t : Term} → TermAt nodes lengths values i s → TermAt nodes lengths values i t → s ≡ t
   term-unique a b = unique ground-once a b

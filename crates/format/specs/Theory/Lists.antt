@@ -55,11 +55,15 @@ entry-none [] i h = refl
 entry-none (x ∷ xs) zero h = absurd (omega arith)
 entry-none (x ∷ xs) (suc i) h = entry-none xs i (omega arith)
 
+-- What is false is not true.
+pub false-true : {A : Type 0} → false ≡ true → A
+false-true e = let z : _≡_ {A = ℕ} 0 1 = cc in absurd (omega arith)
+
 -- A conjunction that is true, taken apart.
 pub and-true : (a b : Bool) → (a && b) ≡ true → (a ≡ true) × (b ≡ true)
 and-true true true e = (refl, refl)
-and-true true false e = let z : _≡_ {A = ℕ} 0 1 = cc in absurd (omega arith)
-and-true false b e = let z : _≡_ {A = ℕ} 0 1 = cc in absurd (omega arith)
+and-true true false e = false-true e
+and-true false b e = false-true e
 
 pub all-true : {A : Type 0} (f : A → Bool) (xs : List A) → all f xs ≡ true → Every (λ x. f x ≡ true) xs
 unfolding all

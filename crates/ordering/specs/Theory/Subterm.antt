@@ -14,7 +14,7 @@ pub var-exceeds-nothing : {v : ℕ} {t : Term} → ¬ (var v ≻ t)
 var-exceeds-nothing g = elim g [ ]
 
 -- An argument, one and all.
-member-reached : {s : Term} {ss : Terms} → Member s ss → SomeReaches ss s
+pub member-reached : {s : Term} {ss : Terms} → Member s ss → SomeReaches ss s
 member-reached first = here-equal
 member-reached (later m) = there (member-reached m)
 

@@ -13,13 +13,13 @@ use Rattle.terms.specs.Position.{subterms}
 use Rattle.terms.specs.Equation.{Equation, Direction, left-right, right-left, source}
 use Rattle.terms.specs.Contracts.Limits.{WithinLimits}
 use Rattle.terms.specs.Theory.Position.{length-subterms}
-use Rattle.reducing.specs.Match.{Match, no-match, match, values-of, has-variable}
+use Rattle.reducing.specs.Match.{values-of, has-variable}
 use Rattle.reducing.specs.Run.{Step, none-found, try, try-equations, try-positions, step, last-term}
 use Rattle.reducing.specs.Reduction.{Irreducible}
 use Rattle.reducing.specs.Test.{reference-test, reference-run, line-run, EverySolves}
 use Rattle.reducing.specs.Theory.Match.{match-complete}
 use Rattle.reducing.specs.Theory.Variables.{unmet-filled}
-use Rattle.reducing.specs.Theory.Step.{or-else, stepped, tested}
+use Rattle.reducing.specs.Theory.Step.{or-else, tested, outcome, try-is}
 use Rattle.reducing.specs.Theory.Runs.{RunEnded, run-ended}
 use Rattle.reducing.specs.Theory.Reference.{reference-test-is, source-variables, run-is-reference-run}
 
@@ -72,15 +72,6 @@ module _ (filling : Term) (test : Equation → Direction → Values → Bool) (s
         let none-here = positions-tried 0 (subterms subject) h p (omega (arith, length-subterms subject)) in
         subst (λ m. try filling test subject p part m e d ≡ none) w (equations-tried p part 0 es (subst (λ m. try-equations filling test subject m part 0 es ≡ none) z none-here) i x d)
 
-  -- A match that passes the test is a step.
-  try-passes : (p : ℕ) (part : Term) (n : ℕ) (e : Equation) (d : Direction) (m : Match) → match (source e d) part no-match ≡ some m → test e d (values-of filling m) ≡ true
-      → try filling test subject p part n e d ≡ some (stepped filling subject p n e d m)
-  unfolding try
-  try-passes p part n e d m x y = ap outcome x ∙ ap (tested filling subject p n e d m) y
-    where
-      outcome : Option Match → Option Step
-      outcome o = elim o [ none ↦ none | some m ↦ tested filling subject p n e d m (test e d (values-of filling m)) ]
-
 module _ (filling : Term) (es : List Equation) (within : Every WithinLimits es) where
   pub none-reduces : (subject : Term) → step filling reference-test es subject ≡ none → Irreducible filling es subject
   none-reduces subject h result r =
@@ -93,7 +84,7 @@ module _ (filling : Term) (es : List Equation) (within : Every WithinLimits es) 
       λ v. value v (has-variable v (source e d)) refl (agree v) (λ n. unmet-filled filling (source e d) part m v x n ∙ sym (r .fills v n)) in
       let all : values-of filling m ≡ r .values = λ i v. same v i in
       let passes : reference-test e d (values-of filling m) ≡ true = ap (reference-test e d) all ∙ reference-test-is e d (r .values) .1 (r .exceeds) in
-      let a = try-passes filling reference-test subject (r .position) part (r .number) e d m x passes in
+      let a = try-is filling reference-test subject (r .position) part (r .number) e d ∙ (ap (outcome filling reference-test subject (r .position) (r .number) e d) x ∙ ap (tested filling subject (r .position) (r .number) e d m) passes) in
       let b = step-tried filling reference-test subject es h (r .position) (r .inside) (r .number) (r .equation-there) d in
       let z : _≡_ {A = ℕ} 0 1 = cc in
       omega arith

@@ -31,6 +31,14 @@ abbrev pub tested : (filling subject : Term) (p n : ℕ) → Equation → Direct
 tested filling subject p n e d m b = elim b [ false ↦ none | true ↦ some (stepped filling subject p n e d m) ]
 
 module _ (filling : Term) (test : Equation → Direction → Values → Bool) where
+  -- What a try gives, by the match and then the test.
+  abbrev pub outcome : (subject : Term) (p n : ℕ) → Equation → Direction → Option Match → Option Step
+  outcome subject p n e d o = elim o [ none ↦ none | some m ↦ tested filling subject p n e d m (test e d (values-of filling m)) ]
+
+  pub try-is : (subject : Term) (p : ℕ) (part : Term) (n : ℕ) (e : Equation) (d : Direction) → try filling test subject p part n e d ≡ outcome subject p n e d (match (source e d) part no-match)
+  unfolding try
+  try-is subject p part n e d = refl
+
   -- The step rewrites the subject by the equation, at this part of it.
   pub record Rewrites (e : Equation) (subject part : Term) (s : Step) : Type 0 where
     pub found : Match

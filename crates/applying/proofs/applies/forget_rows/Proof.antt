@@ -18,20 +18,8 @@ abbrev μ-loop : tie.MeasureT-loop
 loop-holds : tie.Need-loop-holds Inv-loop μ-loop
 loop-holds c = (cleared-none _ 0, omega arith)
 
-slice-write-ready : tie.Need-slice-write-ready Inv-loop μ-loop
-slice-write-ready c = let (f, h) = c .before .loop .inv in omega (arith, f .same-length, c .loop-test .taken, c .before .before .pre)
-
-add-i : tie.Need-add-i Inv-loop μ-loop
-add-i c = search needs
-
-loop-less : tie.Need-loop-less Inv-loop μ-loop
-loop-less c = search needs
-
 loop-again : tie.Need-loop-again Inv-loop μ-loop
 loop-again c = let (f, h) = c .before .loop .inv in (cleared-more f (omega arith) (omega (arith, c .loop-test .taken, c .before .before .pre)), omega (arith, c .loop-test .taken))
-
-same-length : tie.Need-same-length Inv-loop μ-loop
-same-length c = c .before .loop .inv .0 .same-length
 
 returns : tie.Need-returns Inv-loop μ-loop
 returns c =
@@ -42,13 +30,4 @@ returns c =
 pub forget-rows-spec : {M : Type 1} → statement M
 forget-rows-spec =
     tie.close
-    (tie.spec
-    Inv-loop
-    μ-loop
-    loop-holds
-    slice-write-ready
-    add-i
-    loop-less
-    loop-again
-    same-length
-    returns)
+    (tie.spec Inv-loop μ-loop loop-holds (λ c. search needs) (λ c. search needs) (λ c. search needs) loop-again returns)

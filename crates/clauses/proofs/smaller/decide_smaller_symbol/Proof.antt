@@ -8,49 +8,49 @@ use Rattle.clauses.proofs.smaller.decide_smaller_symbol.Tie as tie
 
 arguments-of-requires : tie.Need-arguments-of-requires
 arguments-of-requires c κs =
-    let start = c .before .before .before .before .before in
+    let start = c .before .before .before in
     let x = subject-resolves (start .pre .0) (start .pre .1 .1 .0 .0) (start .pre .1 .1 .0 .1) in omega (arith, x .below, start .pre .0 .sizes-length)
 
-exceeds-arguments-requires : tie.Need-exceeds-arguments-requires
-exceeds-arguments-requires c κs =
-    let start = c .before .before .before .before .before .before .before .before in
+exceeds-all-requires : tie.Need-exceeds-all-requires
+exceeds-all-requires c κs =
+    let start = c .before .before .before .before .before .before in
     let y = subject-resolves (start .pre .0) (start .pre .1 .1 .0 .0) (start .pre .1 .1 .0 .1) in
     rw (c .before .before .arguments-of .ensures) (start .pre .0, (start .pre .1 .0, (y .arguments, omega (arith, start .pre .1 .1 .0 .1))))
 
 arguments-of-requires-2 : tie.Need-arguments-of-requires-2
 arguments-of-requires-2 c κs =
-    let start = c .before .before .before .before .before .before .before .before .before .before .before .before .before .before in
+    let start = c .before .before .before .before .before .before .before .before .before .before in
     let x = symbol-resolves (start .pre .1 .0 .0) (start .pre .1 .0 .1) in omega (arith, x .below, start .pre .0 .sizes-length)
 
-argument-reaches-requires : tie.Need-argument-reaches-requires
-argument-reaches-requires c κs =
-    let start = c .before .before .before .before .before .before .before .before .before .before .before .before .before .before .before .before .before in
-    let x = symbol-resolves (start .pre .1 .0 .0) (start .pre .1 .0 .1) in rw (c .before .before .arguments-of2 .ensures) (c .before .before .before .before .before .before .before .before .exceeds-arguments .ensures .1, (x .arguments, start .pre .1 .1 .0))
+some-reaches-requires : tie.Need-some-reaches-requires
+some-reaches-requires c κs =
+    let start = c .before .before .before .before .before .before .before .before .before .before .before .before .before in
+    let x = symbol-resolves (start .pre .1 .0 .0) (start .pre .1 .0 .1) in rw (c .before .before .arguments-of2 .ensures) (c .before .before .before .before .before .before .exceeds-all .ensures .1, (x .arguments, start .pre .1 .1 .0))
 
 returns : tie.Need-returns
 returns c =
-    let at-call = c .before .before .before .before .before in
-    let start = at-call .before .before .before .before .before .before .before .before .before .before .before .before .before .before .before .before .before .before in
-    let call = at-call .argument-reaches in
+    let at-call = c .before .before .before in
+    let start = at-call .before .before .before .before .before .before .before .before .before .before .before .before .before .before in
+    let call = at-call .some-reaches in
     let reaching = rw (at-call .before .before .before .arguments-of2 .ensures, c .if2 .taken) at (call .ensures .0) in
     (second-fails (start .pre .1 .0 .1) (start .pre .0 .symbols _ (start .pre .1 .1 .0 .1)) (start .pre .1 .1 .1) reaching, call .ensures .1)
 
 returns-2 : tie.Need-returns-2
 returns-2 c =
-    let at-call = c .before .before .before .before .before in
-    let at-first = at-call .before .before .before .before .before .before .before .before .before in
-    let start = at-first .before .before .before .before .before .before .before .before .before in
-    let call = at-call .argument-reaches in
-    let exceeding = rw (at-first .before .before .before .arguments-of .ensures, at-call .before .before .before .before .if1 .taken) at (at-first .exceeds-arguments .ensures .0) in
+    let at-call = c .before .before .before in
+    let at-first = at-call .before .before .before .before .before .before .before in
+    let start = at-first .before .before .before .before .before .before .before in
+    let call = at-call .some-reaches in
+    let exceeding = rw (at-first .before .before .before .arguments-of .ensures, at-call .before .before .before .before .if1 .taken) at (at-first .exceeds-all .ensures .0) in
     let reaching = rw (at-call .before .before .before .arguments-of2 .ensures, c .if2 .left) at (call .ensures .0) in
     (second-exceeds (start .pre .1 .0 .1) (start .pre .0 .symbols _ (start .pre .1 .1 .0 .1)) (start .pre .1 .1 .1) exceeding reaching, call .ensures .1)
 
 returns-3 : tie.Need-returns-3
 returns-3 c =
-    let at-call = c .before .before .before .before .before in
+    let at-call = c .before .before .before in
     let at-row = at-call .before .before .before in
-    let start = at-row .before .before .before .before .before .before in
-    let call = at-call .exceeds-arguments in
+    let start = at-row .before .before .before .before in
+    let call = at-call .exceeds-all in
     let exceeding = rw (at-row .arguments-of .ensures, c .if1 .left) at (call .ensures .0) in
     (second-reaches (start .pre .1 .0 .1) (start .pre .0 .symbols _ (start .pre .1 .1 .0 .1)) (start .pre .1 .1 .1) exceeding, call .ensures .1)
 
@@ -59,15 +59,12 @@ decide-smaller-symbol-spec =
     tie.close
     (tie.spec
     arguments-of-requires
-    exceeds-arguments-requires
+    exceeds-all-requires
     arguments-of-requires-2
-    argument-reaches-requires
-    (λ c. search needs)
+    some-reaches-requires
     (λ c. search needs)
     returns
     (λ c. search needs)
-    (λ c. search needs)
     returns-2
-    (λ c. search needs)
     (λ c. search needs)
     returns-3)

@@ -10,7 +10,7 @@ returns c = ready-before (c .if1 .taken)
 
 returns-2 : tie.Need-returns-2
 returns-2 c =
-    let start = c .before .before .before .before .before .before .before .before in
+    let start = c .before .before .before .before .before .before .before in
     ready-now (omega (arith, start .pre .0, start .pre .1)) (c .before .before .clear .ensures)
 
 pub make-ready-spec : {M : Type 1} → statement M
@@ -23,7 +23,6 @@ make-ready-spec =
     (λ c. search needs)
     (λ c. search needs)
     (λ c κs. search needs)
-    (λ c. search needs)
     (λ c. search needs)
     (λ c. search needs)
     returns-2)

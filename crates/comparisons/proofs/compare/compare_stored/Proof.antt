@@ -12,8 +12,8 @@ use Rattle.comparisons.proofs.compare.compare_stored.Tie as tie
 shared-slice-read-wide : tie.Need-shared-slice-read-wide
 shared-slice-read-wide c = let (s, t, p) = c .before .before .before .before .pre .0 in omega (arith, p .loaded .lengths-length)
 
-slice-aggregate-compare-3 : tie.Need-slice-aggregate-compare-3
-slice-aggregate-compare-3 c = let start = c .before .before .before .before .before .before .before .before in sym (cells-there (start .args .scratch .now) (start .pre .1))
+slice-aggregate-compare : tie.Need-slice-aggregate-compare
+slice-aggregate-compare c = let start = c .before .before .before .before .before .before .before .before in sym (cells-there (start .args .scratch .now) (start .pre .1))
 
 compare-requires : tie.Need-compare-requires
 compare-requires c κs =
@@ -26,14 +26,14 @@ compare-requires c κs =
     )
 
 fill-requires : tie.Need-fill-requires
-fill-requires c κs = omega (arith, c .before .before .scratch .given .1, c .before .before .before .before .before .before .before .before .before .before .before .before .before .pre .1)
+fill-requires c κs = omega (arith, c .before .before .scratch .given .1, c .before .before .before .before .before .before .before .before .before .before .before .before .pre .1)
 
 same-length : tie.Need-same-length
 same-length c = c .before .scratch2 .given ∙ c .before .before .before .before .before .scratch .given .1
 
 returns : tie.Need-returns
 returns c =
-    let at-compare = c .before .before .before .before .before .before .before in
+    let at-compare = c .before .before .before .before .before .before in
     let at-wide = at-compare .before .before .before .before in
     let start = at-wide .before .before .before .before .before in
     let compared = at-compare .compare in (
@@ -49,9 +49,7 @@ compare-stored-spec =
     (λ c κs. search needs)
     (λ c. search needs)
     (λ c. search needs)
-    (λ c. search needs)
-    (λ c. search needs)
-    slice-aggregate-compare-3
+    slice-aggregate-compare
     compare-requires
     fill-requires
     same-length

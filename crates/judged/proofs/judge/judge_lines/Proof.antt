@@ -56,14 +56,14 @@ first-holding-requires c κs =
 
 returns : tie.Need-returns
 returns c = λ arities i e d ls ts is.
-    let start = c .before .before .before .before .before .before .before .before .before .before .before .before .before .before .before .before .before .before .before .before .before .before .before .before .before .before .before .before .before in
+    let start = c .before .before .before .before .before .before .before .before .before .before .before .before .before .before .before .before .before .before .before .before .before .before .before .before .before .before .before .before in
     let nodes = start .args .nodes .now in
-    let copied = c .before .before .before .before .before .before .before .before .before .before .before .before .before .before .before .before .copy-front in
-    let measured = c .before .before .before .before .before .before .before .before .before .before .before .copy-front2 in
+    let copied = c .before .before .before .before .before .before .before .before .before .before .before .before .before .before .before .copy-front in
+    let measured = c .before .before .before .before .before .before .before .before .before .before .copy-front2 in
     let (n, x) = nodes-fronted (is .rule-is) nodes (copied .last .1 .0) (is .loaded .nodes-length) (copied .ensures) in
     let (l, y) = sizes-fronted (is .rule-is) (start .args .sizes .now) (measured .last .1 .0) (is .loaded .lengths-length) (measured .ensures) in
-    let at = c .before .before .before .before .before .before .before .before .before .before .before .before .before .before .before .before .before .before .before .before .place-values .ensures arities nodes ts (start .args .n) (is .loaded) refl in
-    c .before .before .before .first-holding .ensures .0 (given-values ts) (value e (given-values ts)) ls (judge-lines-are is at n l x y)
+    let at = c .before .before .before .before .before .before .before .before .before .before .before .before .before .before .before .before .before .before .before .place-values .ensures arities nodes ts (start .args .n) (is .loaded) refl in
+    c .before .before .first-holding .ensures .0 (given-values ts) (value e (given-values ts)) ls (judge-lines-are is at n l x y)
 
 pub judge-lines-spec : {M : Type 1} → statement M
 judge-lines-spec =
@@ -81,8 +81,6 @@ judge-lines-spec =
     part-copy-front-start-2
     (λ c. search needs)
     copy-front-requires-2
-    (λ c. search needs)
-    (λ c. search needs)
     first-holding-requires
     (λ c. search needs)
     (λ c. search needs)

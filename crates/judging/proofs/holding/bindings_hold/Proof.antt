@@ -17,36 +17,30 @@ abbrev μ-loop : tie.MeasureT-loop
 μ-loop table at nodes sizes values ready₀ cells₀ v₀ ready cells v = variable-count - v
 
 loop-holds : tie.Need-loop-holds Inv-loop μ-loop
-loop-holds c = slots-start (c .before .before .before .before .before .before .pre .0)
+loop-holds c = slots-start (c .before .before .before .before .pre .0)
 
 add-p : tie.Need-add-p Inv-loop μ-loop
-add-p c = omega (arith, c .before .before .before .before .before .before .before .before .pre .1 .are .room)
+add-p c = omega (arith, c .before .before .before .before .before .before .pre .1 .are .room)
 
 shared-slice-read-p : tie.Need-shared-slice-read-p Inv-loop μ-loop
-shared-slice-read-p c = omega (arith, c .before .before .before .before .before .before .before .before .before .pre .1 .are .room)
+shared-slice-read-p c = omega (arith, c .before .before .before .before .before .before .before .pre .1 .are .room)
 
 binding-holds-requires : tie.Need-binding-holds-requires Inv-loop μ-loop
 binding-holds-requires c κs =
     let at-loop = c .before .before .before .before .before .before in
-    let start = at-loop .before .before .before .before .before .before .before in
+    let start = at-loop .before .before .before .before .before in
     let h = c .before .before .before .before .before .loop-test .taken in
     (at-loop .loop .inv .settled, (binding-there (at-loop .loop .inv) h (c .wide .ensures .0) (omega (arith, c .before .before .before .if1 .taken)) (start .pre .1), h))
 
 same-length : tie.Need-same-length Inv-loop μ-loop
 same-length c =
-    let at-call = c .before .before .before .before .before in
-    let start = at-call .before .before .before .before .before .before .before .before .before .before .before .before .before .before in
-    omega (arith, at-call .binding-holds .ensures .1 .ready-length, start .pre .0 .ready-length)
-
-same-length-2 : tie.Need-same-length-2 Inv-loop μ-loop
-same-length-2 c =
-    let at-call = c .before .before .before .before .before in
-    let start = at-call .before .before .before .before .before .before .before .before .before .before .before .before .before .before in
+    let at-call = c .before .before .before in
+    let start = at-call .before .before .before .before .before .before .before .before .before .before .before .before in
     omega (arith, at-call .binding-holds .ensures .1 .cells-length, start .pre .0 .cells-length)
 
 returns : tie.Need-returns Inv-loop μ-loop
 returns c =
-    let at-call = c .before .before .before .before .before in
+    let at-call = c .before .before .before in
     let at-loop = at-call .before .before .before .before .before .before .before in
     (slot-fails (at-loop .loop .inv) (at-call .before .before .before .before .before .before .loop-test .taken) (at-call .before .wide .ensures .0) (omega (arith, at-call .before .before .before .before .if1 .taken)) (at-call .binding-holds .ensures .0) (not-true _ (c .if2 .taken)), at-call .binding-holds .ensures .1)
 
@@ -55,20 +49,14 @@ loop-again c =
     let inv = c .before .before .before .loop .inv in
     let h = c .before .before .loop-test .taken in
     ⊎-elim
-    (λ w. rw (w .10, w .11) (slot-holds inv h (w .3 .ensures .0) (omega (arith, w .0 .taken)) (w .4 .ensures .0) (not-false _ (w .9 .left)) (w .4 .ensures .1)))
+    (λ w. rw (w .8, w .9) (slot-holds inv h (w .3 .ensures .0) (omega (arith, w .0 .taken)) (w .4 .ensures .0) (not-false _ (w .7 .left)) (w .4 .ensures .1)))
     (λ w. rw (w .1, w .2) (slot-free inv h refl (w .0 .left)))
     (c .if1 .came)
 
-same-length-3 : tie.Need-same-length-3 Inv-loop μ-loop
-same-length-3 c =
+same-length-2 : tie.Need-same-length-2 Inv-loop μ-loop
+same-length-2 c =
     let at-loop = c .before in
-    let start = at-loop .before .before .before .before .before .before .before in
-    omega (arith, at-loop .loop .inv .settled .ready-length, start .pre .0 .ready-length)
-
-same-length-4 : tie.Need-same-length-4 Inv-loop μ-loop
-same-length-4 c =
-    let at-loop = c .before in
-    let start = at-loop .before .before .before .before .before .before .before in
+    let start = at-loop .before .before .before .before .before in
     omega (arith, at-loop .loop .inv .settled .cells-length, start .pre .0 .cells-length)
 
 returns-2 : tie.Need-returns-2 Inv-loop μ-loop
@@ -86,11 +74,9 @@ bindings-hold-spec =
     (λ c κs. search needs)
     binding-holds-requires
     same-length
-    same-length-2
     returns
     (λ c. search needs)
     (λ c. search needs)
     loop-again
-    same-length-3
-    same-length-4
+    same-length-2
     returns-2)

@@ -4,48 +4,25 @@ use borrow.Author.Tests.{not-true, not-false}
 use Rattle.judging.proofs.Lines.{has-bindings, has-elements, line-fails, line-tells}
 use Rattle.judging.proofs.holding.line_holds.Statement.{statement}
 use Rattle.judging.proofs.holding.line_holds.Tie as tie
+use borrow.Author.Needs.{needs}
 
 bindings-hold-requires : tie.Need-bindings-hold-requires
-bindings-hold-requires c κs = let start = c .before .before .before .before .before .before .before .before in (start .pre .0, has-bindings (start .pre .1))
-
-same-length : tie.Need-same-length
-same-length c =
-    let at-call = c .before .before .before .before .before in
-    let start = at-call .before .before .before .before .before .before .before .before .before in
-    omega (arith, at-call .bindings-hold .ensures .1 .ready-length, start .pre .0 .ready-length)
-
-same-length-2 : tie.Need-same-length-2
-same-length-2 c =
-    let at-call = c .before .before .before .before .before in
-    let start = at-call .before .before .before .before .before .before .before .before .before in
-    omega (arith, at-call .bindings-hold .ensures .1 .cells-length, start .pre .0 .cells-length)
+bindings-hold-requires c κs = let start = c .before .before .before .before .before .before in (start .pre .0, has-bindings (start .pre .1))
 
 returns : tie.Need-returns
-returns c = let call = c .before .before .before .before .before .bindings-hold in (line-fails (call .ensures .0) (not-true _ (c .if1 .taken)), call .ensures .1)
+returns c = let call = c .before .before .before .bindings-hold in (line-fails (call .ensures .0) (not-true _ (c .if1 .taken)), call .ensures .1)
 
 add-elements-hold : tie.Need-add-elements-hold
-add-elements-hold c = let e = has-elements (c .before .before .before .before .before .before .before .before .before .before .before .before .before .before .pre .1) in omega (arith, e .are .ends, e .are .room)
+add-elements-hold c = let e = has-elements (c .before .before .before .before .before .before .before .before .before .before .pre .1) in omega (arith, e .are .ends, e .are .room)
 
 elements-hold-requires : tie.Need-elements-hold-requires
-elements-hold-requires c κs = (c .before .before .before .before .before .before .before .bindings-hold .ensures .1, has-elements (c .before .before .before .before .before .before .before .before .before .before .before .before .before .before .before .before .pre .1))
-
-same-length-3 : tie.Need-same-length-3
-same-length-3 c =
-    let at-call = c .before .before .before .before in
-    let start = at-call .before .before .before .before .before .before .before .before .before .before .before .before .before .before .before .before .before in
-    omega (arith, at-call .elements-hold .ensures .1 .ready-length, start .pre .0 .ready-length)
-
-same-length-4 : tie.Need-same-length-4
-same-length-4 c =
-    let at-call = c .before .before .before .before in
-    let start = at-call .before .before .before .before .before .before .before .before .before .before .before .before .before .before .before .before .before in
-    omega (arith, at-call .elements-hold .ensures .1 .cells-length, start .pre .0 .cells-length)
+elements-hold-requires c κs = (c .before .before .before .before .before .bindings-hold .ensures .1, has-elements (c .before .before .before .before .before .before .before .before .before .before .before .before .pre .1))
 
 returns-2 : tie.Need-returns-2
 returns-2 c =
-    let at-call = c .before .before .before .before in
+    let at-call = c .before .before in
     let call = at-call .elements-hold in
-    let at-bindings = at-call .before .before .before .before .before .before .before .before in
+    let at-bindings = at-call .before .before .before .before .before .before in
     (line-tells (at-bindings .bindings-hold .ensures .0) (not-false _ (at-call .before .before .before .if1 .left)) (call .ensures .0), call .ensures .1)
 
 pub line-holds-spec : {M : Type 1} → statement M
@@ -53,11 +30,9 @@ line-holds-spec =
     tie.close
     (tie.spec
     bindings-hold-requires
-    same-length
-    same-length-2
+    (λ c. search needs)
     returns
     add-elements-hold
     elements-hold-requires
-    same-length-3
-    same-length-4
+    (λ c. search needs)
     returns-2)

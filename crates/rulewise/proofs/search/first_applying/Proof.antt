@@ -16,9 +16,6 @@ abbrev μ-loop : tie.MeasureT-loop
 loop-holds : tie.Need-loop-holds Inv-loop μ-loop
 loop-holds c = trying-start (c .before .before .before .before .before .before .pre .0) (c .before .before .before .before .before .before .pre .1) refl
 
-slice-aggregate-applies : tie.Need-slice-aggregate-applies Inv-loop μ-loop
-slice-aggregate-applies c = sym (c .before .before .before .before .loop .inv .settled .are .ready-length)
-
 applies-requires : tie.Need-applies-requires Inv-loop μ-loop
 applies-requires c κs =
     let has = c .before .before .before .before .before .before .before .before .before .before .before .before .pre .0 in
@@ -36,30 +33,30 @@ applies-requires c κs =
     )
 
 same-length : tie.Need-same-length Inv-loop μ-loop
-same-length c = c .before .before .before .before .before .before .before .before .applies .kept .1 .1 .1 .1 .1 .0 ∙ trying-nodes (c .before .before .before .before .before .before .before .before .before .before .before .before .before .before .loop .inv) (c .before .before .before .before .before .before .before .before .before .before .before .before .before .before .before .before .before .before .before .before .before .pre .0)
+same-length c = c .before .before .before .before .before .before .before .applies .kept .1 .1 .1 .1 .1 .0 ∙ trying-nodes (c .before .before .before .before .before .before .before .before .before .before .before .before .before .loop .inv) (c .before .before .before .before .before .before .before .before .before .before .before .before .before .before .before .before .before .before .before .before .pre .0)
 
 same-length-2 : tie.Need-same-length-2 Inv-loop μ-loop
-same-length-2 c = c .before .before .before .before .before .before .before .before .applies .kept .1 .1 .1 .1 .1 .1 .0 ∙ trying-sizes (c .before .before .before .before .before .before .before .before .before .before .before .before .before .before .loop .inv) (c .before .before .before .before .before .before .before .before .before .before .before .before .before .before .before .before .before .before .before .before .before .pre .0)
+same-length-2 c = c .before .before .before .before .before .before .before .applies .kept .1 .1 .1 .1 .1 .1 .0 ∙ trying-sizes (c .before .before .before .before .before .before .before .before .before .before .before .before .before .loop .inv) (c .before .before .before .before .before .before .before .before .before .before .before .before .before .before .before .before .before .before .before .before .pre .0)
 
 same-length-3 : tie.Need-same-length-3 Inv-loop μ-loop
-same-length-3 c = c .before .before .before .before .before .before .before .before .applies .kept .1 .1 .1 .1 .1 .1 .1 .1 .0 ∙ (c .before .before .before .before .before .before .before .before .before .before .before .before .before .before .loop .inv .settled .are .cells-length ∙ sym (c .before .before .before .before .before .before .before .before .before .before .before .before .before .before .before .before .before .before .before .before .before .pre .1))
+same-length-3 c = c .before .before .before .before .before .before .before .applies .kept .1 .1 .1 .1 .1 .1 .1 .1 .0 ∙ (c .before .before .before .before .before .before .before .before .before .before .before .before .before .loop .inv .settled .are .cells-length ∙ sym (c .before .before .before .before .before .before .before .before .before .before .before .before .before .before .before .before .before .before .before .before .pre .1))
 
 returns : tie.Need-returns Inv-loop μ-loop
 returns c =
-    let k = c .before .before .before .before .before .before .before .before .before .before .before .before .before .before .loop .inv in
-    let answer = c .before .before .before .before .before .before .before .before .applies in
-    (trying-found k (c .before .before .before .before .before .before .before .before .before .before .before .before .before .loop-test .taken) (answer .ensures .0) (c .if1 .taken), λ arities subject s. answer .ensures .1 .0 arities subject (k .same arities subject s))
+    let k = c .before .before .before .before .before .before .before .before .before .before .before .before .before .loop .inv in
+    let answer = c .before .before .before .before .before .before .before .applies in
+    (trying-found k (c .before .before .before .before .before .before .before .before .before .before .before .before .loop-test .taken) (answer .ensures .0) (c .if1 .taken), λ arities subject s. answer .ensures .1 .0 arities subject (k .same arities subject s))
 
 add-node : tie.Need-add-node Inv-loop μ-loop
-add-node c = let has = c .before .before .before .before .before .before .before .before .before .before .before .before .before .before .before .before .before .before .before .before .before .pre .0 in omega (arith, c .before .before .before .before .before .before .before .before .before .before .before .before .before .loop-test .taken, has .is .inside, has .is .subject-is .stored .within)
+add-node c = let has = c .before .before .before .before .before .before .before .before .before .before .before .before .before .before .before .before .before .before .before .before .pre .0 in omega (arith, c .before .before .before .before .before .before .before .before .before .before .before .before .loop-test .taken, has .is .inside, has .is .subject-is .stored .within)
 
 loop-less : tie.Need-loop-less Inv-loop μ-loop
-loop-less c = omega (arith, c .before .before .before .before .before .before .before .before .before .before .before .before .before .loop-test .taken)
+loop-less c = omega (arith, c .before .before .before .before .before .before .before .before .before .before .before .before .loop-test .taken)
 
 loop-again : tie.Need-loop-again Inv-loop μ-loop
 loop-again c =
-    let answer = c .before .before .before .before .before .before .before .before .applies in
-    trying-next (c .before .before .before .before .before .before .before .before .before .before .before .before .before .before .loop .inv) (c .before .before .before .before .before .before .before .before .before .before .before .before .before .loop-test .taken) (answer .ensures .0) (c .if1 .left) (answer .ensures .1 .1) (answer .ensures .1 .0)
+    let answer = c .before .before .before .before .before .before .before .applies in
+    trying-next (c .before .before .before .before .before .before .before .before .before .before .before .before .before .loop .inv) (c .before .before .before .before .before .before .before .before .before .before .before .before .loop-test .taken) (answer .ensures .0) (c .if1 .left) (answer .ensures .1 .1) (answer .ensures .1 .0)
 
 same-length-4 : tie.Need-same-length-4 Inv-loop μ-loop
 same-length-4 c = trying-nodes (c .before .loop .inv) (c .before .before .before .before .before .before .before .before .pre .0)
@@ -80,7 +77,6 @@ first-applying-spec =
     Inv-loop
     μ-loop
     loop-holds
-    slice-aggregate-applies
     applies-requires
     same-length
     same-length-2

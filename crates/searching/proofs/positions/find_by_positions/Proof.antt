@@ -21,7 +21,7 @@ first-rule-requires c κs = let loop = c .before .before .before .before .before
 
 returns : tie.Need-returns Inv-loop μ-loop
 returns c =
-    let call = c .before .before .before .before .before .before .before .before in
+    let call = c .before .before .before .before .before .before .before in
     let turn = call .before .before .before .before .before in
     let inv = turn .before .loop .inv in
     let told = call .first-rule .ensures in
@@ -29,7 +29,7 @@ returns c =
 
 loop-again : tie.Need-loop-again Inv-loop μ-loop
 loop-again c =
-    let call = c .before .before .before .before .before .before .before .before in
+    let call = c .before .before .before .before .before .before .before in
     let turn = call .before .before .before .before .before in
     let told = call .first-rule .ensures in
     finding-next (turn .before .before .before .before .before .before .before .before .before .before .pre .0) (turn .before .loop .inv) (turn .loop-test .taken) (told .0) (c .if1 .left) (told .1 .0) (told .1 .1)
@@ -45,7 +45,6 @@ find-by-positions-spec =
     μ-loop
     (λ c. search needs)
     loop-holds
-    (λ c. search needs)
     first-rule-requires
     (λ c. search needs)
     (λ c. search needs)

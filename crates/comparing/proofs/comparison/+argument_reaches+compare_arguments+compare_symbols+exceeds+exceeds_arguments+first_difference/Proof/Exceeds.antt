@@ -1,24 +1,24 @@
 -- The needs of `exceeds`.
 use Prim.Native.Nat.{ℕ}
-use native.Mathlib.Omega.{arith}
-use Rattle.comparing.specs.Theory.Nodes.{within}
-use Rattle.comparing.specs.Theory.Cells.{made-ready-settled}
-use Rattle.comparing.proofs.Resolved.{byte-low}
-use Rattle.comparing.proofs.Pair.{resolves, subject-resolves, told, known, settled}
 use Rattle.comparing.proofs.comparison.exceeds.Reads as exceeds
 use Rattle.comparing.proofs.comparison.+argument_reaches+compare_arguments+compare_symbols+exceeds+exceeds_arguments+first_difference.Lts-exceeds as exceeds-lts
+use native.Mathlib.Omega.{arith}
+use Rattle.comparing.specs.Theory.Nodes.{within}
+use Rattle.comparing.proofs.Pair.{subject-resolves, resolves, told, known, settled}
+use Rattle.comparing.specs.Theory.Cells.{made-ready-settled}
+use Rattle.comparing.proofs.Resolved.{byte-low}
 use Rattle.comparing.proofs.comparison.+argument_reaches+compare_arguments+compare_symbols+exceeds+exceeds_arguments+first_difference.Proof.Measures.{exceeds-at, exceeds-calls}
 
 pub exceeds-resolve-requires : (t : ℕ) → exceeds-lts.Need-resolve-requires (exceeds-calls t) (exceeds-at t) exceeds.Post
 exceeds-resolve-requires t c κs =
-    let start = c .before .before .before .before .before in
+    let start = c .before .before .before in
     let m = start .pre .1 .0 in
     let h = start .pre .1 .1 .0 .denotes in
-    omega (arith, within h, byte-low h, m .nodes-length, m .values-length)
+    omega (arith, within h, byte-low h, m .nodes-length)
 
 pub exceeds-tell-constants-requires : (t : ℕ) → exceeds-lts.Need-tell-constants-requires (exceeds-calls t) (exceeds-at t) exceeds.Post
 exceeds-tell-constants-requires t c κs =
-    let start = c .before .before .before .before .before .before in
+    let start = c .before .before .before .before in
     let m = start .pre .1 .0 in
     let x = resolves (start .pre .1 .1 .0) (c .resolve .ensures) in
     let y = subject-resolves m (start .pre .1 .1 .1 .0) (start .pre .1 .1 .1 .1) in
@@ -27,27 +27,27 @@ exceeds-tell-constants-requires t c κs =
 pub exceeds-returns : (t : ℕ) → exceeds-lts.Need-returns (exceeds-calls t) (exceeds-at t) exceeds.Post
 exceeds-returns t c =
     let at-resolve = c .before .before .before .before in
-    let start = at-resolve .before .before .before .before .before .before in
+    let start = at-resolve .before .before .before .before in
     let x = resolves (start .pre .1 .1 .0) (at-resolve .resolve .ensures) in
     told x (start .pre .1 .0) (c .before .before .before .tell-constants .ensures .is _ (c .before .told .given .1) _)
 
 pub exceeds-make-ready-requires : (t : ℕ) → exceeds-lts.Need-make-ready-requires (exceeds-calls t) (exceeds-at t) exceeds.Post
 exceeds-make-ready-requires t c κs =
     let at-resolve = c .before .before .before .before .before in
-    let start = at-resolve .before .before .before .before .before .before in
+    let start = at-resolve .before .before .before .before in
     let x = resolves (start .pre .1 .1 .0) (at-resolve .resolve .ensures) in (x .below, start .pre .1 .0 .ready-length, start .pre .1 .0 .cells-length)
 
 pub exceeds-mul-cell : (t : ℕ) → exceeds-lts.Need-mul-cell (exceeds-calls t) (exceeds-at t) exceeds.Post
 exceeds-mul-cell t c =
-    let at-resolve = c .before .before .before .before .before .before .before .before .before .before in
-    let start = at-resolve .before .before .before .before .before .before in
+    let at-resolve = c .before .before .before .before .before .before .before .before in
+    let start = at-resolve .before .before .before .before in
     let resolve = at-resolve .resolve in
     let x = resolves (start .pre .1 .1 .0) (resolve .ensures) in omega (arith, x .below)
 
 pub exceeds-add-cell : (t : ℕ) → exceeds-lts.Need-add-cell (exceeds-calls t) (exceeds-at t) exceeds.Post
 exceeds-add-cell t c =
-    let at-resolve = c .before .before .before .before .before .before .before .before .before .before in
-    let start = at-resolve .before .before .before .before .before .before in
+    let at-resolve = c .before .before .before .before .before .before .before .before in
+    let start = at-resolve .before .before .before .before in
     let resolve = at-resolve .resolve in
     let x = resolves (start .pre .1 .1 .0) (resolve .ensures) in
     let y = subject-resolves (start .pre .1 .0) (start .pre .1 .1 .1 .0) (start .pre .1 .1 .1 .1) in
@@ -55,9 +55,9 @@ exceeds-add-cell t c =
 
 pub exceeds-slice-read-known : (t : ℕ) → exceeds-lts.Need-slice-read-known (exceeds-calls t) (exceeds-at t) exceeds.Post
 exceeds-slice-read-known t c =
-    let at-make-ready = c .before .before .before .before .before in
+    let at-make-ready = c .before .before .before in
     let at-resolve = at-make-ready .before .before .before .before .before .before in
-    let start = at-resolve .before .before .before .before .before .before in
+    let start = at-resolve .before .before .before .before in
     let resolve = at-resolve .resolve in
     let make-ready = at-make-ready .make-ready in
     let x = resolves (start .pre .1 .1 .0) (resolve .ensures) in
@@ -67,9 +67,9 @@ exceeds-slice-read-known t c =
 
 pub exceeds-returns-2 : (t : ℕ) → exceeds-lts.Need-returns-2 (exceeds-calls t) (exceeds-at t) exceeds.Post
 exceeds-returns-2 t c =
-    let at-make-ready = c .before .before .before .before .before .before .before in
+    let at-make-ready = c .before .before .before .before .before in
     let at-resolve = at-make-ready .before .before .before .before .before .before in
-    let start = at-resolve .before .before .before .before .before .before in
+    let start = at-resolve .before .before .before .before in
     let resolve = at-resolve .resolve in
     let make-ready = at-make-ready .make-ready in
     let x = resolves (start .pre .1 .1 .0) (resolve .ensures) in
@@ -78,9 +78,9 @@ exceeds-returns-2 t c =
 
 pub exceeds-compare-symbols-requires : (t : ℕ) → exceeds-lts.Need-compare-symbols-requires (exceeds-calls t) (exceeds-at t) exceeds.Post
 exceeds-compare-symbols-requires t c κs =
-    let at-make-ready = c .before .before .before .before .before .before .before .before in
+    let at-make-ready = c .before .before .before .before .before .before in
     let at-resolve = at-make-ready .before .before .before .before .before .before in
-    let start = at-resolve .before .before .before .before .before .before in
+    let start = at-resolve .before .before .before .before in
     let resolve = at-resolve .resolve in
     let make-ready = at-make-ready .make-ready in
     let x = resolves (start .pre .1 .1 .0) (resolve .ensures) in
@@ -88,9 +88,9 @@ exceeds-compare-symbols-requires t c κs =
 
 pub exceeds-settle-requires : (t : ℕ) → exceeds-lts.Need-settle-requires (exceeds-calls t) (exceeds-at t) exceeds.Post
 exceeds-settle-requires t c κs =
-    let at-compare-symbols = c .before .before .before .before .before in
-    let at-resolve = at-compare-symbols .before .before .before .before .before .before .before .before .before .before .before .before .before .before .before in
-    let start = at-resolve .before .before .before .before .before .before in
+    let at-compare-symbols = c .before .before .before in
+    let at-resolve = at-compare-symbols .before .before .before .before .before .before .before .before .before .before .before .before .before in
+    let start = at-resolve .before .before .before .before in
     let resolve = at-resolve .resolve in
     let compare-symbols = at-compare-symbols .compare-symbols in
     let x = resolves (start .pre .1 .1 .0) (resolve .ensures) in
@@ -99,9 +99,9 @@ exceeds-settle-requires t c κs =
 
 pub exceeds-returns-3 : (t : ℕ) → exceeds-lts.Need-returns-3 (exceeds-calls t) (exceeds-at t) exceeds.Post
 exceeds-returns-3 t c =
-    let at-compare-symbols = c .before .before .before .before .before .before .before .before in
-    let at-resolve = at-compare-symbols .before .before .before .before .before .before .before .before .before .before .before .before .before .before .before in
-    let start = at-resolve .before .before .before .before .before .before in
+    let at-compare-symbols = c .before .before .before .before .before .before in
+    let at-resolve = at-compare-symbols .before .before .before .before .before .before .before .before .before .before .before .before .before in
+    let start = at-resolve .before .before .before .before in
     let resolve = at-resolve .resolve in
     let compare-symbols = at-compare-symbols .compare-symbols in
     let x = resolves (start .pre .1 .1 .0) (resolve .ensures) in

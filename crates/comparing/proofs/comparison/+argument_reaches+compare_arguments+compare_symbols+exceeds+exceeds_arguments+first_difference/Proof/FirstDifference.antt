@@ -1,13 +1,13 @@
 -- The needs of `first_difference`.
 use Prim.Native.Nat.{ℕ, _-_}
+use Rattle.comparing.proofs.comparison.first_difference.Reads as first-difference
+use Rattle.comparing.proofs.comparison.+argument_reaches+compare_arguments+compare_symbols+exceeds+exceeds_arguments+first_difference.Lts-first_difference as first-difference-lts
 use mathlib.Core.Path.{_≡_}
 use mathlib.Core.Logic.{inl, inr}
 use native.Mathlib.Omega.{arith}
 use Rattle.comparing.proofs.Rows.{first-argument}
 use Rattle.comparing.proofs.Arguments.{ComparingArguments, left-arguments, right-arguments, balanced, both-end, first-ends, second-ends, other-lists, difference}
 use Rattle.comparing.proofs.Pair.{symbol-resolves, subject-resolves, comparing-start}
-use Rattle.comparing.proofs.comparison.first_difference.Reads as first-difference
-use Rattle.comparing.proofs.comparison.+argument_reaches+compare_arguments+compare_symbols+exceeds+exceeds_arguments+first_difference.Lts-first_difference as first-difference-lts
 use Rattle.comparing.proofs.comparison.+argument_reaches+compare_arguments+compare_symbols+exceeds+exceeds_arguments+first_difference.Proof.Measures.{first-difference-at, first-difference-calls}
 
 abbrev pub first-difference-Inv-loop : first-difference-lts.InvT-loop
@@ -18,17 +18,22 @@ first-difference-μ-loop nodes sizes values ready₀ cells₀ i j first₀ secon
 
 pub first-difference-arguments-of-requires : (t : ℕ) → first-difference-lts.Need-arguments-of-requires (first-difference-calls t) (first-difference-at t) first-difference.Post first-difference-Inv-loop first-difference-μ-loop
 first-difference-arguments-of-requires t c κs =
-    let start = c .before .before .before .before .before in
+    let start = c .before .before .before in
     let x = symbol-resolves (start .pre .1 .1 .0 .0) (start .pre .1 .1 .0 .1) in omega (arith, x .below, start .pre .1 .0 .sizes-length)
 
-pub first-difference-arguments-of-requires-2 : (t : ℕ) → first-difference-lts.Need-arguments-of-requires-2 (first-difference-calls t) (first-difference-at t) first-difference.Post first-difference-Inv-loop first-difference-μ-loop
+pub first-difference-arguments-of-requires-2 :
+    (t : ℕ) → first-difference-lts.Need-arguments-of-requires-2 (first-difference-calls t)
+    (first-difference-at t)
+    first-difference.Post
+    first-difference-Inv-loop
+    first-difference-μ-loop
 first-difference-arguments-of-requires-2 t c κs =
-    let start = c .before .before .before .before .before .before in
+    let start = c .before .before .before .before in
     let y = subject-resolves (start .pre .1 .0) (start .pre .1 .1 .1 .0) (start .pre .1 .1 .1 .2) in omega (arith, y .below, start .pre .1 .0 .sizes-length)
 
 pub first-difference-loop-holds : (t : ℕ) → first-difference-lts.Need-loop-holds (first-difference-calls t) (first-difference-at t) first-difference.Post first-difference-Inv-loop first-difference-μ-loop
 first-difference-loop-holds t c =
-    let start = c .before .before .before .before .before .before .before in
+    let start = c .before .before .before .before .before in
     let x = symbol-resolves (start .pre .1 .1 .0 .0) (start .pre .1 .1 .0 .1) in
     let y = subject-resolves (start .pre .1 .0) (start .pre .1 .1 .1 .0) (start .pre .1 .1 .1 .2) in
     rw (c .before .arguments-of .ensures, c .arguments-of2 .ensures) (comparing-start x y (start .pre .1 .0) (start .pre .1 .1 .1 .2) (start .pre .1 .1 .1 .1))
@@ -36,16 +41,8 @@ first-difference-loop-holds t c =
 pub first-difference-same-length : (t : ℕ) → first-difference-lts.Need-same-length (first-difference-calls t) (first-difference-at t) first-difference.Post first-difference-Inv-loop first-difference-μ-loop
 first-difference-same-length t c =
     let at-loop = c .before .before .before .before in
-    let start = at-loop .before .before .before .before .before .before .before .before in
-    let loop = at-loop .loop in
-    omega (arith, loop .inv .settled .ready-length, start .pre .1 .0 .ready-length)
-
-pub first-difference-same-length-2 : (t : ℕ) → first-difference-lts.Need-same-length-2 (first-difference-calls t) (first-difference-at t) first-difference.Post first-difference-Inv-loop first-difference-μ-loop
-first-difference-same-length-2 t c =
-    let at-loop = c .before .before .before .before in
-    let start = at-loop .before .before .before .before .before .before .before .before in
-    let loop = at-loop .loop in
-    omega (arith, loop .inv .settled .cells-length, start .pre .1 .0 .cells-length)
+    let start = at-loop .before .before .before .before .before .before in
+    omega (arith, at-loop .loop .inv .settled .cells-length, start .pre .1 .0 .cells-length)
 
 pub first-difference-returns : (t : ℕ) → first-difference-lts.Need-returns (first-difference-calls t) (first-difference-at t) first-difference.Post first-difference-Inv-loop first-difference-μ-loop
 first-difference-returns t c =
@@ -56,7 +53,7 @@ pub first-difference-exceeds-requires : (t : ℕ) → first-difference-lts.Need-
 first-difference-exceeds-requires t c κs =
     let at-if = c .before .before .before .before in
     let at-loop = at-if .before .before in
-    let start = at-loop .before .before .before .before .before .before .before .before in
+    let start = at-loop .before .before .before .before .before .before in
     let loop = at-loop .loop in
     let if1 = at-if .if1 in
     let x = first-argument (left-arguments (loop .inv .lists)) (if1 .taken) in
@@ -64,27 +61,37 @@ first-difference-exceeds-requires t c κs =
     let b = balanced (loop .inv .lists) in
     (omega (arith, start .pre .0, x .first-weight, y .first-weight, b .left, b .right), (loop .inv .settled, (x .term, (y .term, loop .inv .low))))
 
-pub first-difference-other-arguments-requires : (t : ℕ) → first-difference-lts.Need-other-arguments-requires (first-difference-calls t) (first-difference-at t) first-difference.Post first-difference-Inv-loop first-difference-μ-loop
+pub first-difference-other-arguments-requires :
+    (t : ℕ) → first-difference-lts.Need-other-arguments-requires (first-difference-calls t)
+    (first-difference-at t)
+    first-difference.Post
+    first-difference-Inv-loop
+    first-difference-μ-loop
 first-difference-other-arguments-requires t c κs =
-    let at-if = c .before .before .before .before .before .before .before .before .before in
+    let at-if = c .before .before .before .before .before .before .before in
     let at-loop = at-if .before .before in
-    let start = at-loop .before .before .before .before .before .before .before .before in
+    let start = at-loop .before .before .before .before .before .before in
     let loop = at-loop .loop in
     let if1 = at-if .if1 in
     omega (arith, first-argument (left-arguments (loop .inv .lists)) (if1 .taken) .below, start .pre .1 .0 .sizes-length)
 
-pub first-difference-other-arguments-requires-2 : (t : ℕ) → first-difference-lts.Need-other-arguments-requires-2 (first-difference-calls t) (first-difference-at t) first-difference.Post first-difference-Inv-loop first-difference-μ-loop
+pub first-difference-other-arguments-requires-2 :
+    (t : ℕ) → first-difference-lts.Need-other-arguments-requires-2 (first-difference-calls t)
+    (first-difference-at t)
+    first-difference.Post
+    first-difference-Inv-loop
+    first-difference-μ-loop
 first-difference-other-arguments-requires-2 t c κs =
-    let at-if = c .before .before .before .before .before .before .before .before in
+    let at-if = c .before .before .before .before .before .before in
     let at-loop = at-if .before .before .before .before in
-    let start = at-loop .before .before .before .before .before .before .before .before in
+    let start = at-loop .before .before .before .before .before .before in
     let loop = at-loop .loop in
     let if2 = at-if .if2 in
     omega (arith, first-argument (right-arguments (loop .inv .lists)) (if2 .left) .below, start .pre .1 .0 .sizes-length)
 
 pub first-difference-loop-less : (t : ℕ) → first-difference-lts.Need-loop-less (first-difference-calls t) (first-difference-at t) first-difference.Post first-difference-Inv-loop first-difference-μ-loop
 first-difference-loop-less t c =
-    let at-if = c .before .before .before .before .before .before .before .before .before .before .before .before .before in
+    let at-if = c .before .before .before .before .before .before .before .before .before .before .before in
     let at-loop = at-if .before .before in
     let other-arguments = c .before .before .before .other-arguments in
     let loop = at-loop .loop in
@@ -93,7 +100,7 @@ first-difference-loop-less t c =
 
 pub first-difference-loop-again : (t : ℕ) → first-difference-lts.Need-loop-again (first-difference-calls t) (first-difference-at t) first-difference.Post first-difference-Inv-loop first-difference-μ-loop
 first-difference-loop-again t c =
-    let at-exceeds = c .before .before .before .before .before .before .before .before in
+    let at-exceeds = c .before .before .before .before .before .before in
     let at-if-2 = at-exceeds .before .before .before in
     let at-if = at-if-2 .before .before in
     let at-loop = at-if .before .before in
@@ -108,23 +115,15 @@ first-difference-loop-again t c =
       low = omega (arith, loop .inv .low);
     })
 
-pub first-difference-same-length-3 : (t : ℕ) → first-difference-lts.Need-same-length-3 (first-difference-calls t) (first-difference-at t) first-difference.Post first-difference-Inv-loop first-difference-μ-loop
-first-difference-same-length-3 t c =
-    let at-exceeds = c .before .before .before .before .before .before .before in
-    let start = at-exceeds .before .before .before .before .before .before .before .before .before .before .before .before .before .before .before in
-    let exceeds = at-exceeds .exceeds in
-    omega (arith, exceeds .ensures .1 .ready-length, start .pre .1 .0 .ready-length)
-
-pub first-difference-same-length-4 : (t : ℕ) → first-difference-lts.Need-same-length-4 (first-difference-calls t) (first-difference-at t) first-difference.Post first-difference-Inv-loop first-difference-μ-loop
-first-difference-same-length-4 t c =
-    let at-exceeds = c .before .before .before .before .before .before .before in
-    let start = at-exceeds .before .before .before .before .before .before .before .before .before .before .before .before .before .before .before in
-    let exceeds = at-exceeds .exceeds in
-    omega (arith, exceeds .ensures .1 .cells-length, start .pre .1 .0 .cells-length)
+pub first-difference-same-length-2 : (t : ℕ) → first-difference-lts.Need-same-length-2 (first-difference-calls t) (first-difference-at t) first-difference.Post first-difference-Inv-loop first-difference-μ-loop
+first-difference-same-length-2 t c =
+    let at-exceeds = c .before .before .before .before .before in
+    let start = at-exceeds .before .before .before .before .before .before .before .before .before .before .before .before .before in
+    omega (arith, at-exceeds .exceeds .ensures .1 .cells-length, start .pre .1 .0 .cells-length)
 
 pub first-difference-returns-2 : (t : ℕ) → first-difference-lts.Need-returns-2 (first-difference-calls t) (first-difference-at t) first-difference.Post first-difference-Inv-loop first-difference-μ-loop
 first-difference-returns-2 t c =
-    let at-exceeds = c .before .before .before .before .before .before .before in
+    let at-exceeds = c .before .before .before .before .before in
     let at-if-2 = at-exceeds .before .before .before in
     let at-if = at-if-2 .before .before in
     let at-loop = at-if .before .before in
@@ -134,38 +133,22 @@ first-difference-returns-2 t c =
     let exceeds = at-exceeds .exceeds in
     (rw (c .before .before .other-arguments .ensures, c .before .other-arguments2 .ensures) (difference (loop .inv .lists) (if1 .taken) (if2 .left) (exceeds .ensures .0) (λ e. elim (c .match .keys2) [ inl k ↦ (let z : _≡_ {A = ℕ} 1 0 = rw e at k in omega arith) | inr k ↦ (let z : _≡_ {A = ℕ} 1 2 = rw e at k in omega arith) ]) (loop .inv .low)), exceeds .ensures .1)
 
-pub first-difference-same-length-5 : (t : ℕ) → first-difference-lts.Need-same-length-5 (first-difference-calls t) (first-difference-at t) first-difference.Post first-difference-Inv-loop first-difference-μ-loop
-first-difference-same-length-5 t c =
+pub first-difference-same-length-3 : (t : ℕ) → first-difference-lts.Need-same-length-3 (first-difference-calls t) (first-difference-at t) first-difference.Post first-difference-Inv-loop first-difference-μ-loop
+first-difference-same-length-3 t c =
     let at-loop = c .before .before .before .before in
-    let start = at-loop .before .before .before .before .before .before .before .before in
-    let loop = at-loop .loop in
-    omega (arith, loop .inv .settled .ready-length, start .pre .1 .0 .ready-length)
-
-pub first-difference-same-length-6 : (t : ℕ) → first-difference-lts.Need-same-length-6 (first-difference-calls t) (first-difference-at t) first-difference.Post first-difference-Inv-loop first-difference-μ-loop
-first-difference-same-length-6 t c =
-    let at-loop = c .before .before .before .before in
-    let start = at-loop .before .before .before .before .before .before .before .before in
-    let loop = at-loop .loop in
-    omega (arith, loop .inv .settled .cells-length, start .pre .1 .0 .cells-length)
+    let start = at-loop .before .before .before .before .before .before in
+    omega (arith, at-loop .loop .inv .settled .cells-length, start .pre .1 .0 .cells-length)
 
 pub first-difference-returns-3 : (t : ℕ) → first-difference-lts.Need-returns-3 (first-difference-calls t) (first-difference-at t) first-difference.Post first-difference-Inv-loop first-difference-μ-loop
 first-difference-returns-3 t c =
     let loop = c .before .before .before .before .loop in
     (first-ends (loop .inv .lists) (loop .inv .low) (c .before .before .if1 .left) (c .if3 .taken), loop .inv .settled)
 
-pub first-difference-same-length-7 : (t : ℕ) → first-difference-lts.Need-same-length-7 (first-difference-calls t) (first-difference-at t) first-difference.Post first-difference-Inv-loop first-difference-μ-loop
-first-difference-same-length-7 t c =
+pub first-difference-same-length-4 : (t : ℕ) → first-difference-lts.Need-same-length-4 (first-difference-calls t) (first-difference-at t) first-difference.Post first-difference-Inv-loop first-difference-μ-loop
+first-difference-same-length-4 t c =
     let at-loop = c .before .before .before .before in
-    let start = at-loop .before .before .before .before .before .before .before .before in
-    let loop = at-loop .loop in
-    omega (arith, loop .inv .settled .ready-length, start .pre .1 .0 .ready-length)
-
-pub first-difference-same-length-8 : (t : ℕ) → first-difference-lts.Need-same-length-8 (first-difference-calls t) (first-difference-at t) first-difference.Post first-difference-Inv-loop first-difference-μ-loop
-first-difference-same-length-8 t c =
-    let at-loop = c .before .before .before .before in
-    let start = at-loop .before .before .before .before .before .before .before .before in
-    let loop = at-loop .loop in
-    omega (arith, loop .inv .settled .cells-length, start .pre .1 .0 .cells-length)
+    let start = at-loop .before .before .before .before .before .before in
+    omega (arith, at-loop .loop .inv .settled .cells-length, start .pre .1 .0 .cells-length)
 
 pub first-difference-returns-4 : (t : ℕ) → first-difference-lts.Need-returns-4 (first-difference-calls t) (first-difference-at t) first-difference.Post first-difference-Inv-loop first-difference-μ-loop
 first-difference-returns-4 t c =

@@ -24,12 +24,13 @@ use Rattle.comparing.proofs.comparison.+argument_reaches+compare_argume
 use Rattle.comparing.proofs.cells.held.Reads as held-reads
 use Rattle.comparing.proofs.cells.make_ready.Reads as make-ready-reads
 use Rattle.comparing.proofs.cells.settle.Reads as settle-reads
-use Rattle.comparing.proofs.comparison.behind_smaller.Reads as behind-smaller-reads
 use Rattle.comparing.proofs.comparison.greater_if.Reads as greater-if-reads
 use Rattle.comparing.proofs.constants.tell_constants.Reads as tell-constants-reads
 use Rattle.comparing.proofs.nodes.resolve.Reads as resolve-reads
 use Rattle.terms.proofs.arguments.arguments_of.Reads as arguments-of-reads
 use Rattle.terms.proofs.arguments.other_arguments.Reads as other-arguments-reads
+use Rattle.comparing.proofs.passing.behind_smaller.Reads as behind-smaller-reads
+use Rattle.format.proofs.byte.wide.Reads as wide-reads
 
 abbrev pub μ-argument-reaches : Measures 5 argument-reaches-kinds.ps ℕ
 μ-argument-reaches κs a = (row-weight (a .0 .now) (a .1 .0 .now) (a .1 .1 .0 .now) (a .1 .1 .1 .1 .1 .0) + term-weight (a .0 .now) (a .1 .0 .now) (a .1 .1 .0 .now) (a .1 .1 .1 .1 .1 .1 .0)) * 8 + 4
@@ -136,7 +137,7 @@ first-difference-below t =
     first-difference.Pre
 
 abbrev pub argument-reaches-calls : ℕ → argument-reaches-lts.Claims
-argument-reaches-calls t = (behind-smaller-reads.Asked, behind-smaller-reads.Learnt, exceeds-below t, exceeds.Post, other-arguments-reads.Asked, other-arguments-reads.Learnt)
+argument-reaches-calls t = (behind-smaller-reads.Asked, behind-smaller-reads.Learnt, exceeds-below t, exceeds.Post, wide-reads.Asked, wide-reads.Learnt)
 
 abbrev pub compare-arguments-calls : ℕ → compare-arguments-lts.Claims
 compare-arguments-calls t = (first-difference-below t, first-difference.Post, argument-reaches-below t, argument-reaches.Post, greater-if-reads.Asked, greater-if-reads.Learnt, exceeds-arguments-below t, exceeds-arguments.Post)
