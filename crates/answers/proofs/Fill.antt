@@ -7,13 +7,8 @@ use lib.Seq.{drop-cons, set-append-seam}
 use native.Mathlib.Numerals.{add-one}
 use native.Mathlib.Omega.{arith}
 use Rattle.format.specs.Buffer.{written}
-use Rattle.format.specs.Limits.{no-position, table-bytes, scratch-bytes}
-use Rattle.format.specs.Theory.Behind.{behind-more}
-use Rattle.outcomes.specs.Buffer.{filled, cleared, blanked}
-
-filled-is : (n b : ℕ) (buffer : List ℕ) → filled n b buffer ≡ replicate n b ++ drop n buffer
-unfolding filled written
-filled-is n b buffer = ap (λ k. replicate n b ++ drop k buffer) (length-replicate n b)
+use Rattle.outcomes.specs.Buffer.{filled}
+use Rattle.outcomes.specs.Theory.Fill.{filled-is}
 
 pub filled-none : (b : ℕ) (buffer : List ℕ) → buffer ≡ filled 0 b buffer
 unfolding filled written
@@ -37,16 +32,3 @@ filled-next n b buffer h =
 
 pub length-filled : (n b : ℕ) (buffer : List ℕ) → n ≤ length buffer → length (filled n b buffer) ≡ length buffer
 length-filled n b buffer h = ap length (filled-is n b buffer) ∙ length-append (replicate n b) (drop n buffer) ∙ omega (arith, length-replicate n b, length-drop n buffer)
-
--- What stands in the part that is filled does not matter.
-pub filled-behind : (n k b : ℕ) (xs ys : List ℕ) → k ≤ n → drop k xs ≡ drop k ys → filled n b xs ≡ filled n b ys
-filled-behind n k b xs ys h e = filled-is n b xs ∙ ap (replicate n b ++_) (behind-more n k xs ys h e) ∙ sym (filled-is n b ys)
-
--- So what stands behind what was used is enough.
-pub cleared-behind : (k : ℕ) (scratch worked last : List ℕ) → k ≤ scratch-bytes → drop k worked ≡ drop k scratch → last ≡ filled scratch-bytes 0 worked → last ≡ cleared scratch
-unfolding cleared
-cleared-behind k scratch worked last l h e = e ∙ filled-behind scratch-bytes k 0 worked scratch l h
-
-pub blanked-behind : (table worked last : List ℕ) → drop table-bytes worked ≡ drop table-bytes table → last ≡ filled table-bytes no-position worked → last ≡ blanked table
-unfolding blanked
-blanked-behind table worked last h e = e ∙ filled-behind table-bytes table-bytes no-position worked table (omega arith) h

@@ -1,2 +1,4 @@
 -- Laws.
 pub mod Testable
+pub mod Front
+pub mod Parts

@@ -14,20 +14,20 @@ use Rattle.reading.specs.Contracts.Read.{SheetRead}
 use Rattle.outcomes.specs.Buffer.{refusal-number}
 use Rattle.outcomes.specs.Asked.{find, asked, comparison-task}
 use Rattle.outcomes.specs.Outcome.{compare-answer, compare-call}
-use Rattle.comparisons.proofs.CompareTask.{outcome, answered}
+use Rattle.outcomes.specs.Theory.Outcomes.{compare-outcome, compare-answered}
 
 module _ (sheet scratch : List ℕ) (task : ℕ) where
   -- The whole call.
-  pub compare-short : length scratch < scratch-bytes → {n : ℕ} → n ≡ refusal-number short-buffer 0 → compare-call sheet task scratch ≡ outcome n scratch
+  pub compare-short : length scratch < scratch-bytes → {n : ℕ} → n ≡ refusal-number short-buffer 0 → compare-call sheet task scratch ≡ compare-outcome n scratch
   unfolding compare-call compare-answer asked
-  compare-short h e = ap (λ b. compare-answer scratch (asked b sheet (comparison-task task))) (lt-leb scratch-bytes (length scratch) h) ∙ ap (λ n. outcome n scratch) (sym e)
+  compare-short h e = ap (λ b. compare-answer scratch (asked b sheet (comparison-task task))) (lt-leb scratch-bytes (length scratch) h) ∙ ap (λ n. compare-outcome n scratch) (sym e)
 
-  pub compare-long : scratch-bytes ≤ length scratch → compare-call sheet task scratch ≡ answered sheet scratch task
+  pub compare-long : scratch-bytes ≤ length scratch → compare-call sheet task scratch ≡ compare-answered sheet scratch task
   unfolding compare-call
   compare-long h = ap (λ b. compare-answer scratch (asked b sheet (comparison-task task))) (le-leb scratch-bytes (length scratch) h)
 
   module _ (k : Known) (r : SheetStatus) (h : SheetRead sheet k r) where
-    pub compare-refused : scratch-bytes ≤ length scratch → {x : Refusal} {line n : ℕ} → r ≡ Refused x line → n ≡ refusal-number x line → compare-call sheet task scratch ≡ outcome n scratch
+    pub compare-refused : scratch-bytes ≤ length scratch → {x : Refusal} {line n : ℕ} → r ≡ Refused x line → n ≡ refusal-number x line → compare-call sheet task scratch ≡ compare-outcome n scratch
     unfolding compare-answer asked find
     compare-refused l e d =
-        compare-long l ∙ ap (λ x. compare-answer scratch (find (comparison-task task) x)) (subst (SheetRead sheet k) e h .0) ∙ ap (λ n. outcome n scratch) (sym d)
+        compare-long l ∙ ap (λ x. compare-answer scratch (find (comparison-task task) x)) (subst (SheetRead sheet k) e h .0) ∙ ap (λ n. compare-outcome n scratch) (sym d)

@@ -16,8 +16,7 @@ use Rattle.reading.specs.Contracts.Read.{SheetRead}
 use Rattle.outcomes.specs.Buffer.{refusal-number}
 use Rattle.outcomes.specs.Asked.{find, asked, Directed, direction-asked}
 use Rattle.outcomes.specs.Outcome.{TableOutcome, table-fits, directed-answer, directed-call}
-use Rattle.answers.proofs.Outcomes.{table-outcome}
-use Rattle.solutions.proofs.Directed.{answered}
+use Rattle.outcomes.specs.Theory.Outcomes.{table-outcome, directed-answered}
 
 module _ (gives : Directed → TableOutcome) (sheet table scratch : List ℕ) (equation direction : ℕ) where
   abbrev outcome : TableOutcome
@@ -39,7 +38,7 @@ module _ (gives : Directed → TableOutcome) (sheet table scratch : List ℕ) (e
   unfolding table-fits
   scratch-short g h e = short (cc (le-leb table-bytes (length table) g, lt-leb scratch-bytes (length scratch) h)) e
 
-  pub buffers-long : table-bytes ≤ length table → scratch-bytes ≤ length scratch → outcome ≡ answered gives sheet table scratch equation direction
+  pub buffers-long : table-bytes ≤ length table → scratch-bytes ≤ length scratch → outcome ≡ directed-answered gives sheet table scratch equation direction
   unfolding table-fits
   buffers-long g h = by-fit true (cc (le-leb table-bytes (length table) g, le-leb scratch-bytes (length scratch) h))
 

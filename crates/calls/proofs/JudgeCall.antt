@@ -15,8 +15,8 @@ use Rattle.reading.specs.declared.read.SheetStatus.the-variants.{Refused as She
 use Rattle.reading.specs.Contracts.Read.{SheetRead}
 use Rattle.outcomes.specs.Buffer.{refusal-number}
 use Rattle.outcomes.specs.Asked.{find, asked, judgement-task}
-use Rattle.answers.proofs.Outcomes.{table-outcome}
 use Rattle.outcomes.specs.Outcome.{table-fits, judge-answer, judge-call}
+use Rattle.outcomes.specs.Theory.Outcomes.{table-outcome}
 
 module _ (sheet table scratch : List ℕ) (task : ℕ) where
   by-fit : (b : Bool) → table-fits table scratch ≡ b → judge-call sheet task table scratch ≡ judge-answer table scratch (asked b sheet (judgement-task task))

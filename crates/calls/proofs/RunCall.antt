@@ -15,8 +15,8 @@ use Rattle.reading.specs.declared.read.SheetStatus.the-variants.{Refused as She
 use Rattle.reading.specs.Contracts.Read.{SheetRead}
 use Rattle.outcomes.specs.Buffer.{refusal-number}
 use Rattle.outcomes.specs.Asked.{find, asked, reduction-task}
-use Rattle.runs.proofs.RunTaskLaws.{outcome}
 use Rattle.outcomes.specs.Outcome.{RunOutcome, table-fits, run-fits, run-answer, run-call}
+use Rattle.outcomes.specs.Theory.Outcomes.{run-outcome}
 
 module _ (sheet table scratch term log : List ℕ) (task : ℕ) where
   abbrev whole : RunOutcome
@@ -26,9 +26,9 @@ module _ (sheet table scratch term log : List ℕ) (task : ℕ) where
   unfolding run-call
   by-fit b e = ap (λ b. run-answer table scratch term log (asked b sheet (reduction-task task))) e
 
-  short : run-fits table scratch term log ≡ false → {n : ℕ} → n ≡ refusal-number short-buffer 0 → whole ≡ outcome n table scratch term log
+  short : run-fits table scratch term log ≡ false → {n : ℕ} → n ≡ refusal-number short-buffer 0 → whole ≡ run-outcome n table scratch term log
   unfolding run-answer asked
-  short h e = by-fit false h ∙ ap (λ n. outcome n table scratch term log) (sym e)
+  short h e = by-fit false h ∙ ap (λ n. run-outcome n table scratch term log) (sym e)
 
   abbrev fits : Bool → Bool → Bool → Bool → Bool
   fits a b c d = (a && b) && c && d
@@ -37,19 +37,19 @@ module _ (sheet table scratch term log : List ℕ) (task : ℕ) where
   unfolding run-fits table-fits
   fits-is = refl
 
-  pub table-short : length table < table-bytes → {n : ℕ} → n ≡ refusal-number short-buffer 0 → whole ≡ outcome n table scratch term log
+  pub table-short : length table < table-bytes → {n : ℕ} → n ≡ refusal-number short-buffer 0 → whole ≡ run-outcome n table scratch term log
   table-short h e = short (fits-is ∙ ap (λ a. fits a (leb scratch-bytes (length scratch)) (leb term-bytes (length term)) (leb log-bytes (length log))) (lt-leb table-bytes (length table) h)) e
 
   module _ (g : table-bytes ≤ length table) where
-    pub scratch-short : length scratch < scratch-bytes → {n : ℕ} → n ≡ refusal-number short-buffer 0 → whole ≡ outcome n table scratch term log
+    pub scratch-short : length scratch < scratch-bytes → {n : ℕ} → n ≡ refusal-number short-buffer 0 → whole ≡ run-outcome n table scratch term log
     scratch-short h e = short (fits-is ∙ cc (le-leb table-bytes (length table) g, lt-leb scratch-bytes (length scratch) h)) e
 
     module _ (h : scratch-bytes ≤ length scratch) where
-      pub term-short : length term < term-bytes → {n : ℕ} → n ≡ refusal-number short-buffer 0 → whole ≡ outcome n table scratch term log
+      pub term-short : length term < term-bytes → {n : ℕ} → n ≡ refusal-number short-buffer 0 → whole ≡ run-outcome n table scratch term log
       term-short k e = short (fits-is ∙ cc (le-leb table-bytes (length table) g, le-leb scratch-bytes (length scratch) h, lt-leb term-bytes (length term) k)) e
 
       module _ (k : term-bytes ≤ length term) where
-        pub log-short : length log < log-bytes → {n : ℕ} → n ≡ refusal-number short-buffer 0 → whole ≡ outcome n table scratch term log
+        pub log-short : length log < log-bytes → {n : ℕ} → n ≡ refusal-number short-buffer 0 → whole ≡ run-outcome n table scratch term log
         log-short l e = short (fits-is ∙ cc (le-leb table-bytes (length table) g, le-leb scratch-bytes (length scratch) h, le-leb term-bytes (length term) k, lt-leb log-bytes (length log) l)) e
 
         module _ (l : log-bytes ≤ length log) where
@@ -57,9 +57,9 @@ module _ (sheet table scratch term log : List ℕ) (task : ℕ) where
           buffers-long = by-fit true (fits-is ∙ cc (le-leb table-bytes (length table) g, le-leb scratch-bytes (length scratch) h, le-leb term-bytes (length term) k, le-leb log-bytes (length log) l))
 
           pub sheet-refused : (k : Known) (r : SheetStatus) → SheetRead sheet k r → {x : Refusal} {line n : ℕ} → r ≡ Sheet-Refused x line → n ≡ refusal-number x line
-              → whole ≡ outcome n table scratch term log
+              → whole ≡ run-outcome n table scratch term log
           unfolding run-answer asked find
           sheet-refused k r s e d =
               buffers-long
               ∙ ap (λ x. run-answer table scratch term log (find (reduction-task task) x)) (subst (SheetRead sheet k) e s .0)
-              ∙ ap (λ n. outcome n table scratch term log) (sym d)
+              ∙ ap (λ n. run-outcome n table scratch term log) (sym d)

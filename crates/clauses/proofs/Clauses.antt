@@ -26,8 +26,7 @@ use Rattle.comparing.specs.Contracts.Nodes.{TermAt}
 use Rattle.comparing.specs.Contracts.Cells.{BothGround}
 use Rattle.comparing.specs.Contracts.Comparing.{greater-if, Compares, FindsReaching, ComparesWithAll}
 use Rattle.comparing.specs.Theory.Nodes.{symbol-at}
-use Rattle.comparing.proofs.Rows.{false-not}
-use Rattle.comparing.proofs.Rules.{smaller-symbols, greater-symbols}
+use Rattle.comparing.specs.Theory.Symbols.{false-not, smaller-symbols, greater-symbols}
 use Rattle.clauses.specs.Contracts.Clauses.{first-of, DecisionOf}
 
 -- The clause that is left for s = f(..) > t = g(..) where L1 does not apply.

@@ -18,7 +18,7 @@ use Rattle.ordering.specs.Theory.Verdict.{number-few}
 use Rattle.ordering.specs.Theory.Decision.{decision-verdict, decision-unique, is-smaller, is-equal, is-greater}
 use Rattle.comparing.specs.Contracts.Nodes.{TermAt}
 use Rattle.comparing.specs.Contracts.Cells.{BothGround, clause-unit, Settles, SettledCells, CellHolds}
-use Rattle.comparing.proofs.Settled.{cell-settles}
+use Rattle.comparing.specs.Theory.Cells.{cell-settles}
 use Rattle.clauses.specs.Contracts.Clauses.{DecisionOf}
 use Rattle.clauses.specs.Contracts.Kept.{cell-of, ClauseNumbered, DecisionHeld}
 

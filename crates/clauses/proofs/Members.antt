@@ -17,7 +17,7 @@ use Rattle.ordering.specs.Theory.Decide.{all-head, all-tail}
 use Rattle.comparing.specs.Contracts.Nodes.{TermAt, TermsAt}
 use Rattle.comparing.specs.Contracts.Comparing.{FindsReaching, ComparesWithAll}
 use Rattle.comparing.specs.Theory.Nodes.{row-first, same-nodes-same-term}
-use Rattle.comparing.proofs.Rows.{first-argument}
+use Rattle.comparing.specs.Theory.Rows.{first-argument}
 use Rattle.clauses.specs.Contracts.Among.{HasTwoTerms, HasRowAndTerm, TellsEqual, TellsAmong}
 
 not-all : {t : Term} {ss : Terms} → Member t ss → ¬ ExceedsAll t ss

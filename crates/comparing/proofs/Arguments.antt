@@ -19,7 +19,7 @@ use Rattle.comparing.specs.Contracts.Nodes.{TermAt, TermsAt}
 use Rattle.comparing.specs.Contracts.Cells.{SettledCells}
 use Rattle.comparing.specs.Contracts.Comparing.{HasTerms, HasArguments, LeftToAsk, Compares, FindsDifference}
 use Rattle.comparing.specs.Theory.Nodes.{row-first, row-empty}
-use Rattle.comparing.proofs.Weight.{term-weight, row-weight, term-weighs, row-weighs}
+use Rattle.comparing.specs.Theory.Weight.{term-weight, row-weight, term-weighs, row-weighs}
 
 -- At `i` and `j` stand terms with the same symbol, whose first arguments are the same; the two rows have their other arguments.
 pub record HasLists (nodes lengths values : List ℕ) (i j : ℕ) (first second : Arguments) : Type 0 where

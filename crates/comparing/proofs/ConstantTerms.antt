@@ -14,7 +14,7 @@ use Rattle.comparing.specs.Contracts.Nodes.{TermAt}
 use Rattle.comparing.specs.Contracts.Comparing.{greater-if, Compares, TellsConstants}
 use Rattle.comparing.specs.Theory.Nodes.{symbol-at, row-empty}
 use Rattle.comparing.proofs.Rows.{reaching-none, all-none}
-use Rattle.comparing.proofs.Rules.{smaller-symbols, greater-symbols}
+use Rattle.comparing.specs.Theory.Symbols.{smaller-symbols, greater-symbols}
 
 module _ {nodes lengths : List ℕ} {i j : ℕ} where
   pub tells-nothing : TellsConstants nodes lengths i j nothing

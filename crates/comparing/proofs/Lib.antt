@@ -1,5 +1,3 @@
-pub mod Weight
-pub mod Resolved
 pub mod Rows
 pub mod Smaller
 pub mod Loops

@@ -13,9 +13,10 @@ use Rattle.comparing.specs.Contracts.Cells.{SettledCells}
 use Rattle.comparing.specs.Contracts.Passing.{AllSmaller, BehindSmaller}
 use Rattle.comparing.specs.Contracts.Comparing.{HasTerms, Compares, FindsReaching, ComparesWithAll}
 use Rattle.comparing.specs.Theory.Nodes.{row-ends-within}
-use Rattle.comparing.proofs.Weight.{row-weight, weight-behind}
-use Rattle.comparing.proofs.Rows.{first-argument, reaching-others, all-others}
+use Rattle.comparing.specs.Theory.Weight.{row-weight, weight-behind}
+use Rattle.comparing.proofs.Rows.{reaching-others, all-others}
 use Rattle.comparing.proofs.Smaller.{behind-node, behind-terms, all-behind-node, reaching-behind-node}
+use Rattle.comparing.specs.Theory.Rows.{first-argument}
 
 module _ (nodes lengths values : List ℕ) where
   -- L1: of the terms in the row, those before `rest` do not reach the term at `j`.

@@ -1,6 +1,6 @@
 -- A row of cells that is cleared element by element, and is ready from then on.
 use Prim.Native.Nat.{ℕ, _+_, _*_, _≤_, _<_}
-use mathlib.Core.Path.{_≡_, refl, _∙_}
+use mathlib.Core.Path.{_≡_, refl}
 use mathlib.Core.Logic.{_⊎_, inl, inr}
 use mathlib.Core.List.{List}
 use native.Mathlib.Decide.{ℕ-discrete, decLt}
@@ -9,20 +9,6 @@ use lib.ListN.{length, getD, set, length-set}
 use lib.Seq.{getD-set-same, getD-set-other}
 use Rattle.format.specs.Limits.{position-count, node-count, row-cells}
 use Rattle.comparing.specs.Contracts.Cells.{Cleared, MadeReady}
-
-pub cleared-none : (cells : List ℕ) (from : ℕ) → Cleared cells from from cells
-cleared-none cells from = record { same-length = refl; inside = λ k h l. absurd (omega arith); below = λ k h. refl; above = λ k h. refl }
-
-pub cleared-more : {before after : List ℕ} {from at : ℕ} → Cleared before from at after → from ≤ at → at < length before → Cleared before from (at + 1) (set after at 0)
-cleared-more {before} {after} {from} {at} c h l = record {
-  same-length = length-set after at 0 ∙ c .same-length;
-  inside = λ k a b. elim (ℕ-discrete k at) [
-    | yes e ↦ rw e (getD-set-same after at 0 0 (omega (arith, c .same-length)))
-    | no e ↦ getD-set-other after at k 0 0 e ∙ c .inside k a (omega arith)
-  ];
-  below = λ k a. getD-set-other after at k 0 0 (λ e. omega arith) ∙ c .below k a;
-  above = λ k a. getD-set-other after at k 0 0 (λ e. omega arith) ∙ c .above k (omega arith);
-}
 
 -- The row was ready already.
 pub ready-before : {ready cells : List ℕ} {s : ℕ} → 0 < getD ready s 0 → MadeReady ready cells s ready cells

@@ -1,63 +1,23 @@
 -- What the verdict of the first term of a row says of the whole row, and the question that decides s > t.
-use Prim.Native.Nat.{ℕ, _+_, _≤_, _<_}
-use mathlib.Core.Path.{_≡_, refl, ap, _∙_}
+use Prim.Native.Nat.{ℕ, _≤_, _<_}
+use mathlib.Core.Path.{_≡_, refl}
 use mathlib.Core.Logic.{_↔_}
 use mathlib.Core.Bool.{Bool, true, false}
 use mathlib.Core.List.{List}
-use native.Mathlib.Omega.{arith}
-use lib.ListN.{getD}
-use Rattle.format.specs.Limits.{node-count}
 use Rattle.format.specs.Theory.Lists.{false-true}
-use Rattle.terms.specs.Term.{Term, Terms, cons, size, sizes}
+use Rattle.terms.specs.Term.{Term, Terms, cons}
 use Rattle.terms.specs.declared.arguments.Arguments.{Arguments}
 use Rattle.terms.specs.Contracts.Arguments.{behind-first}
-use Rattle.terms.specs.Theory.Position.{size-pos}
-use Rattle.ordering.specs.Order.{_≻_, SomeReaches, there, ExceedsAll, none, more}
+use Rattle.ordering.specs.Order.{SomeReaches, there, ExceedsAll, none, more}
 use Rattle.ordering.specs.declared.verdict.Verdict.{Verdict}
 use Rattle.ordering.specs.declared.verdict.Verdict.the-variants.{Smaller as smaller, Greater as greater}
-use Rattle.ordering.specs.Verdict.{verdict}
 use Rattle.ordering.specs.Theory.Decide.{some-nil, all-head, all-tail}
-use Rattle.ordering.specs.Theory.Verdict.{told-greater, told-not-greater, reaches-first, reaches-later, means-verdict}
+use Rattle.ordering.specs.Theory.Verdict.{told-greater, told-not-greater, reaches-first, reaches-later}
 use Rattle.comparing.specs.Contracts.Nodes.{TermAt, TermsAt}
-use Rattle.comparing.specs.Contracts.Comparing.{greater-if, HasTerm, HasTerms, Compares, FindsReaching, ComparesWithAll}
-use Rattle.comparing.specs.Theory.Nodes.{row-first, row-empty, some-node, within, ends-within}
-use Rattle.comparing.proofs.Weight.{term-weight, row-weight, term-weighs, row-weighs}
-
-pub false-not : {P : Type 0} → (P → false ≡ true) → ¬ P
-false-not k p = false-true (k p)
-
--- The answer to the question that decides s > t gives the verdict of two terms that are not equal.
-pub decides : {P : Type 0} {s t : Term} (q : Bool) → ¬ (s ≡ t) → (s ≻ t) ↔ P → (q ≡ true) ↔ P → verdict s t ≡ greater-if q
-unfolding greater-if
-decides {s = s} {t = t} true n x h = means-verdict s t greater (x .1 (h .0 refl))
-decides {s = s} {t = t} false n x h = means-verdict s t smaller (n, λ g. false-not (h .1) (x .0 g))
-
--- The first term of a row that has one, and the others.
-pub record FirstArgument (nodes lengths values : List ℕ) (row : Arguments) : Type 0 where
-  pub term : HasTerm nodes lengths values (row .from)
-  pub others : HasTerms nodes lengths values (behind-first lengths row)
-  pub below : row .from < node-count
-  pub end-below : row .from + getD lengths (row .from) 0 ≤ node-count
-  pub some : 1 ≤ getD lengths (row .from) 0
-  pub first-weight : term-weight nodes lengths values (row .from) ≤ row-weight nodes lengths values row
-  pub others-weight : row-weight nodes lengths values (behind-first lengths row) < row-weight nodes lengths values row
+use Rattle.comparing.specs.Contracts.Comparing.{Compares, FindsReaching, ComparesWithAll}
+use Rattle.comparing.specs.Theory.Nodes.{row-first, row-empty}
 
 module _ {nodes lengths values : List ℕ} where
-  pub first-argument : {row : Arguments} → HasTerms nodes lengths values row → row .from < row .end → FirstArgument nodes lengths values row
-  unfolding size
-  first-argument {row} h lt =
-      let f = row-first (h .denote) lt in
-      let e : row-weight nodes lengths values row ≡ size (f .first) + sizes (f .others) = row-weighs (h .denote) ∙ ap sizes (f .are) in
-      record {
-        term = record { term = f .first; denotes = f .denotes };
-        others = record { terms = f .others; denote = f .row };
-        below = within (f .denotes);
-        end-below = ends-within (f .denotes);
-        some = some-node (f .denotes);
-        first-weight = omega (arith, e, term-weighs (f .denotes));
-        others-weight = omega (arith, e, row-weighs (f .row), size-pos (f .first));
-      }
-
   -- L1.
   module _ {row : Arguments} {j : ℕ} where
     pub reaching-none : row .end ≤ row .from → FindsReaching nodes lengths values row j false

@@ -1,12 +1,9 @@
 -- The cells: a verdict that is read from its cell, and one that is put there.
 use Prim.Native.Nat.{ℕ, _+_, _*_, _%_, _≤_, _<_}
 use mathlib.Core.Path.{_≡_, refl, ap, _∙_}
-use mathlib.Core.Logic.{_⊎_, inl, inr}
 use mathlib.Core.List.{List}
-use native.Mathlib.Decide.{ℕ-discrete}
 use native.Mathlib.Omega.{arith}
-use lib.ListN.{length, getD, set, length-set}
-use lib.Seq.{getD-set-same, getD-set-other}
+use lib.ListN.{getD, set}
 use Rattle.format.specs.Limits.{position-count, node-count, row-cells}
 use Rattle.terms.specs.Term.{Term}
 use Rattle.ordering.specs.declared.verdict.Verdict.{Verdict}
@@ -16,8 +13,9 @@ use Rattle.ordering.specs.Verdict.{verdict, verdict-number}
 use Rattle.comparing.specs.Contracts.Nodes.{TermAt, resolved}
 use Rattle.comparing.specs.Contracts.Cells.{clause-unit, Settles, SettledCells, CellHolds}
 use Rattle.comparing.specs.Contracts.Comparing.{Compares}
-use Rattle.comparing.specs.Theory.Nodes.{within, term-unique}
-use Rattle.comparing.proofs.Resolved.{resolved-node}
+use Rattle.comparing.specs.Theory.Nodes.{term-unique}
+use Rattle.comparing.specs.Theory.Resolved.{resolved-node}
+use Rattle.comparing.specs.Theory.Cells.{cell-put, cell-settles}
 
 -- The verdict that a cell holds, by its byte.
 pub holds : {cell : ℕ} {r : Verdict} → cell % clause-unit ≡ verdict-number r + 1 → CellHolds cell r
@@ -39,43 +37,13 @@ verdict-settles {r} {s} {t} e =
     record { verdict-is = d ∙ ap (λ v. verdict-number v + 1) e; clause-is = λ h g. absurd (omega (arith, number-few r)) }
 
 module _ {nodes lengths values ready cells : List ℕ} (x : SettledCells nodes lengths values ready cells) where
-  -- A cell that is not 0 says what is settled.
-  pub cell-settles : {i j : ℕ} {s t : Term} → 0 < getD ready i 0 → position-count ≤ j → 0 < getD cells (i * row-cells + j) 0 → TermAt nodes lengths values i s
-      → TermAt nodes lengths values j t → Settles (getD cells (i * row-cells + j) 0) s t
-  cell-settles {i} {j} {s} {t} o l h a b = elim (x .settled i j s t o l a b) [ inl e ↦ absurd (omega arith) | inr e ↦ e ]
-
   pub cell-known : {i j : ℕ} {r : Verdict} → 0 < getD ready i 0 → position-count ≤ j → 0 < getD cells (i * row-cells + j) 0
       → CellHolds (getD cells (i * row-cells + j) 0) r → Compares nodes lengths values i j r
-  cell-known {i} {j} {r} o l h c = record { is = λ s t a b. c .only (verdict s t) (cell-settles o l h a b .verdict-is) }
-
-  pub cell-put : {i j w : ℕ} → i < node-count → j < node-count → ((s t : Term) → TermAt nodes lengths values i s → TermAt nodes lengths values j t → Settles w s t)
-      → SettledCells nodes lengths values ready (set cells (i * row-cells + j) w)
-  cell-put {i} {j} {w} h k c = record {
-    nodes-length = x .nodes-length;
-    sizes-length = x .sizes-length;
-    values-length = x .values-length;
-    ready-length = x .ready-length;
-    cells-length = length-set cells (i * row-cells + j) w ∙ x .cells-length;
-    symbols = x .symbols;
-    settled = settled;
-  }
-    where
-      settled : (p q : ℕ) (s t : Term) → 0 < getD ready p 0 → position-count ≤ q → TermAt nodes lengths values p s → TermAt nodes lengths values q t
-          → (getD (set cells (i * row-cells + j) w) (p * row-cells + q) 0 ≡ 0) ⊎ Settles (getD (set cells (i * row-cells + j) w) (p * row-cells + q) 0) s t
-      settled p q s t o l a b = elim (ℕ-discrete (p * row-cells + q) (i * row-cells + j)) [
-        | yes e ↦
-            let u = within a in
-            let v = within b in
-            let d : p ≡ i = omega arith in
-            let f : q ≡ j = omega arith in
-            let z : i * row-cells + j < length cells = omega (arith, x .cells-length) in
-            inr (rw (e, getD-set-same cells (i * row-cells + j) w 0 z) (c s t (rw d at a) (rw f at b)))
-        | no e ↦ rw (getD-set-other cells (i * row-cells + j) (p * row-cells + q) w 0 e) (x .settled p q s t o l a b)
-      ]
+  cell-known {i} {j} {r} o l h c = record { is = λ s t a b. c .only (verdict s t) (cell-settles x o l h a b .verdict-is) }
 
   pub cell-set : {i j : ℕ} {r : Verdict} → i < node-count → j < node-count → Compares nodes lengths values i j r
       → SettledCells nodes lengths values ready (set cells (i * row-cells + j) (verdict-number r + 1))
-  cell-set h k c = cell-put h k (λ s t a b. verdict-settles (c .is s t a b))
+  cell-set h k c = cell-put x h k (λ s t a b. verdict-settles (c .is s t a b))
 
 -- The verdict of two nodes is that of the node that the first gives way to.
 pub compares-resolved : {nodes lengths values : List ℕ} {i j : ℕ} {r : Verdict} → Compares nodes lengths values (resolved nodes values i) j r → Compares nodes lengths values i j r

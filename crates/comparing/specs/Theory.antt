@@ -2,3 +2,7 @@
 pub mod Nodes
 pub mod Stored
 pub mod Cells
+pub mod Weight
+pub mod Resolved
+pub mod Rows
+pub mod Symbols

@@ -1,7 +1,6 @@
 -- Laws for the call compare: what it earns, by the task that is found.
 use Prim.Native.Nat.{ℕ, _≤_, _<_}
 use mathlib.Core.Path.{_≡_, sym, ap, subst, _∙_}
-use mathlib.Core.Bool.{true}
 use mathlib.Core.Option.{Option, none, some}
 use mathlib.Core.List.{List, _++_, append-nil}
 use lib.ListN.{length}
@@ -26,41 +25,36 @@ use Rattle.sheet.specs.Theory.Accepted.{accepted-valid}
 use Rattle.reading.specs.Theory.Found.{task-asked, is-run, is-judgement, is-comparison}
 use Rattle.outcomes.specs.Buffer.{refusal-number, cleared}
 use Rattle.outcomes.specs.Asked.{found, find, asked, comparison-in, comparison-task}
-use Rattle.outcomes.specs.Outcome.{CompareOutcome, decision-fields, compare-answer}
+use Rattle.outcomes.specs.Outcome.{decision-fields, compare-answer}
+use Rattle.outcomes.specs.Theory.Outcomes.{compare-outcome, compare-answered}
 use Rattle.comparisons.specs.Contracts.Comparison.{PairIn}
 
-abbrev pub outcome : ℕ → List ℕ → CompareOutcome
-outcome n scratch = record { returned = n; scratch = scratch }
-
 module _ (sheet scratch : List ℕ) (task : ℕ) where
-  abbrev pub answered : CompareOutcome
-  answered = compare-answer scratch (asked true sheet (comparison-task task))
-
-  answer-of : (s : Sheet) → read sheet ≡ accepted s → (o : Option Task) → entry (s .tasks) task ≡ o → answered ≡ compare-answer scratch (found (comparison-in o))
+  answer-of : (s : Sheet) → read sheet ≡ accepted s → (o : Option Task) → entry (s .tasks) task ≡ o → compare-answered sheet scratch task ≡ compare-answer scratch (found (comparison-in o))
   unfolding asked find comparison-task
   answer-of s r o h = ap (λ x. compare-answer scratch (find (comparison-task task) x)) r ∙ ap (λ o. compare-answer scratch (found (comparison-in o))) h
 
   module _ (known : Known) (a : Accepts sheet known) where
-    pub task-absent : known .tasks ≤ task → {n : ℕ} → n ≡ refusal-number absent-argument 0 → answered ≡ outcome n scratch
+    pub task-absent : known .tasks ≤ task → {n : ℕ} → n ≡ refusal-number absent-argument 0 → compare-answered sheet scratch task ≡ compare-outcome n scratch
     unfolding compare-answer found comparison-in
-    task-absent h e = let (s, r, g) = a in answer-of s r none (entry-none (s .tasks) task (omega (arith, g .tasks-are))) ∙ ap (λ n. outcome n scratch) (sym e)
+    task-absent h e = let (s, r, g) = a in answer-of s r none (entry-none (s .tasks) task (omega (arith, g .tasks-are))) ∙ ap (λ n. compare-outcome n scratch) (sym e)
 
     module _ (there : task < known .tasks) (place : TaskFound) (each : (t : Task) → TaskIn sheet task t → TaskAt sheet t place) where
-      pub run-there : {k n : ℕ} → place .head ≡ Run k → n ≡ refusal-number absent-argument 0 → answered ≡ outcome n scratch
+      pub run-there : {k n : ℕ} → place .head ≡ Run k → n ≡ refusal-number absent-argument 0 → compare-answered sheet scratch task ≡ compare-outcome n scratch
       unfolding compare-answer found comparison-in
       run-there {k} h e =
           let (t, i) = task-asked sheet known task a there in
           let (u, x) = is-run t (sym (each t i .0) ∙ h) in
           let (s, r, y) = i in
-          answer-of s r (some (run k u)) (y ∙ ap some x) ∙ ap (λ n. outcome n scratch) (sym e)
+          answer-of s r (some (run k u)) (y ∙ ap some x) ∙ ap (λ n. compare-outcome n scratch) (sym e)
 
-      pub judgement-there : {k d n : ℕ} → place .head ≡ Judgement k d → n ≡ refusal-number absent-argument 0 → answered ≡ outcome n scratch
+      pub judgement-there : {k d n : ℕ} → place .head ≡ Judgement k d → n ≡ refusal-number absent-argument 0 → compare-answered sheet scratch task ≡ compare-outcome n scratch
       unfolding compare-answer found comparison-in
       judgement-there {k} h e =
           let (t, i) = task-asked sheet known task a there in
           let (o, ts, x, z) = is-judgement t (sym (each t i .0) ∙ h) in
           let (s, r, y) = i in
-          answer-of s r (some (judgement k o ts)) (y ∙ ap some x) ∙ ap (λ n. outcome n scratch) (sym e)
+          answer-of s r (some (judgement k o ts)) (y ∙ ap some x) ∙ ap (λ n. compare-outcome n scratch) (sym e)
 
       -- The two terms of a comparison.
       pub record PairFound : Type 0 where
@@ -98,13 +92,13 @@ module _ (sheet scratch : List ℕ) (task : ℕ) where
 
       pub comparison-there : (h : place .head ≡ Comparison) (d : Decision) (after : List ℕ) {n : ℕ}
           → ((s t : Term) → PairIn sheet (known-arities known) (place .from) (place .end) s t → d ≡ decision s t) → n ≡ decision-fields d
-          → after ≡ cleared scratch → answered ≡ outcome n after
+          → after ≡ cleared scratch → compare-answered sheet scratch task ≡ compare-outcome n after
       unfolding compare-answer found comparison-in
       comparison-there h d after {n} v e c =
           let f = pair-found h in
           let (s, y, z) = f .is-task in
           let told : decision-fields (decision (f .first) (f .second)) ≡ n = ap decision-fields (sym (v (f .first) (f .second) (f .pair))) ∙ sym e in
-          answer-of s y (some (comparison (f .first) (f .second))) z ∙ ap (λ n. outcome n (cleared scratch)) told ∙ ap (outcome n) (sym c)
+          answer-of s y (some (comparison (f .first) (f .second))) z ∙ ap (λ n. compare-outcome n (cleared scratch)) told ∙ ap (compare-outcome n) (sym c)
 
     pub known-roomy : Roomy known
     known-roomy = let (s, r, g) = a in g .roomy

@@ -20,7 +20,7 @@ use Rattle.scanning.specs.Contracts.Known.{Roomy}
 use Rattle.scanning.specs.Theory.Arities.{arities-taken}
 use Rattle.loading.specs.Contracts.Loading.{Loaded}
 use Rattle.outcomes.specs.Buffer.{filled, cleared}
-use Rattle.answers.proofs.Fill.{cleared-behind}
+use Rattle.outcomes.specs.Theory.Fill.{cleared-behind}
 use Rattle.comparisons.specs.Contracts.Comparison.{PairIn, PairLoaded}
 
 -- Two terms stand, the first at the subject's first node and the second at `second`, whatever the variables stand for.

@@ -4,3 +4,4 @@ pub mod Lists
 pub mod Kind
 pub mod Front
 pub mod Behind
+pub mod Parts

@@ -30,7 +30,7 @@ use Rattle.judging.specs.Contracts.Holding.{LinesAre}
 use Rattle.loading.specs.Contracts.Loading.{Loaded}
 use Rattle.judged.specs.Contracts.Judgement.{ValuesAt, HasLoaded, JudgeIs}
 use Rattle.applying.specs.Theory.Testable.{AtFront, lines-testable}
-use Rattle.applying.proofs.FrontLaws.{Fronted, same-from, ground-kept}
+use Rattle.applying.specs.Theory.Front.{Fronted, same-from, ground-kept}
 
 -- 1. The term at a place of a list.
 nth-behind : (done : Terms) (t : Term) (left : Terms) (d : Term) → nth (append done (cons t left)) (count done) d ≡ t

@@ -3,17 +3,17 @@ use Prim.Native.Nat.{ℕ, zero, suc, _+_, _*_, _≤_, _<_}
 use mathlib.Core.Path.{_≡_, refl, sym, ap, subst, _∙_}
 use mathlib.Core.Bool.{true}
 use mathlib.Core.Option.{Option, none, some}
-use mathlib.Core.List.{List, [], _∷_}
+use mathlib.Core.List.{List}
 use lib.ListN.{length, take, drop}
 use native.Mathlib.Omega.{arith}
-use Rattle.format.specs.Limits.{no-position, max-text, max-equations, max-lines, table-bytes, scratch-bytes}
+use Rattle.format.specs.Limits.{no-position, max-text, max-equations, table-bytes, scratch-bytes}
 use Rattle.format.specs.Lists.{entry}
 use Rattle.format.specs.declared.refusal.Refusal.{Refusal}
 use Rattle.format.specs.declared.refusal.Refusal.the-variants.{AbsentArgument as absent-argument}
 use Rattle.format.specs.Theory.Lists.{entry-none, every-entry}
 use Rattle.format.specs.Theory.Behind.{behind-more}
-use Rattle.terms.specs.Term.{Term, Terms, count, Values, Grounds}
-use Rattle.terms.specs.Equation.{Equation, Direction, value}
+use Rattle.terms.specs.Term.{Terms, count, Grounds}
+use Rattle.terms.specs.Equation.{Equation, Direction}
 use Rattle.scanning.specs.declared.known.Known.{Known}
 use Rattle.scanning.specs.Contracts.Scan.{known-arities}
 use Rattle.scanning.specs.Contracts.Known.{Roomy}
@@ -26,38 +26,25 @@ use Rattle.reading.specs.declared.seek.TaskHead.the-variants.{Run, Judgement as
 use Rattle.reading.specs.Contracts.Seek.{Accepts, TaskIn, TaskAt, task-terms}
 use Rattle.reading.specs.Theory.Found.{task-asked, is-run, is-judgement, is-comparison}
 use Rattle.loading.specs.Contracts.Loading.{TermsIn, Loaded}
-use Rattle.solving.specs.Line.{Line}
-use Rattle.solving.specs.Holds.{LineHolds}
-use Rattle.solving.specs.Judge.{line-holds?, first-holding}
-use Rattle.solving.specs.Theory.Solve.{solved-line-count}
-use Rattle.reducing.specs.Test.{holding-in, holding-line, given-values}
+use Rattle.reducing.specs.Test.{holding-line, given-values}
+use Rattle.reducing.specs.Walks.{equation-line, WalkRefusal, first-refusal}
 use Rattle.walking.specs.Contracts.Walking.{memory-bytes}
 use Rattle.outcomes.specs.Buffer.{field-limit, fields, refusal-number, filled, cleared, blanked}
-use Rattle.outcomes.specs.Asked.{found, find, asked, values-in, judgement-in, judgement-task, equation-line, WalkRefusal, first-refusal}
-use Rattle.outcomes.specs.Theory.Walks.{refusal-low}
+use Rattle.outcomes.specs.Asked.{found, find, asked, values-in, judgement-in, judgement-task}
+use Rattle.reducing.specs.Theory.Walks.{refusal-low}
+use Rattle.reducing.specs.Theory.Rules.{rule-below}
 use Rattle.outcomes.specs.Outcome.{TableOutcome, table-unsolved, judge-fields, judge-walked, judge-answer}
+use Rattle.outcomes.specs.Theory.Outcomes.{table-outcome}
+use Rattle.outcomes.specs.Theory.Fill.{cleared-behind, blanked-behind}
 use Rattle.rules.specs.Contracts.Rows.{RowsAre, HasRows}
-use Rattle.searching.proofs.NextLaws.{rule-below}
-use Rattle.answers.proofs.Outcomes.{table-outcome}
-use Rattle.answers.proofs.Fill.{cleared-behind, blanked-behind}
 use Rattle.scanning.specs.Theory.Arities.{symbols-room, symbols-taken, arities-taken}
 use Rattle.judged.specs.declared.judge.Judged.{Judged}
 use Rattle.judged.specs.declared.judge.Judged.the-variants.{Refused, End}
 use Rattle.judged.specs.Contracts.Judgement.{JudgeIs, JudgedAs}
 use Rattle.judgements.specs.Contracts.JudgeTask.{JudgementIn, HasJudgement, ValuesIn, HasValues, JudgedIn, HasJudged, JudgedNumber}
+use Rattle.judgements.specs.Theory.Holding.{holding-few}
 
--- 1. The number of a line fits its field.
-first-holding-low : (ρ : Values) (value : ℕ → Term) (ls : List Line) → first-holding ρ value ls ≤ length ls
-unfolding first-holding
-first-holding-low ρ value [] = omega arith
-first-holding-low ρ value (l ∷ ls) = go (line-holds? ρ value l) (first-holding ρ value ls) (first-holding-low ρ value ls)
-  where
-    go : (d : Dec (LineHolds ρ value l)) (n : ℕ) → n ≤ length ls → _≤_ (elim d [ yes h ↦ 1 | no x ↦ elim n [ zero ↦ 0 | suc i ↦ suc (suc i) ] ]) (suc (length ls))
-    go (yes h) n b = omega arith
-    go (no x) zero b = omega arith
-    go (no x) (suc i) b = omega arith
-
--- 2. The lent buffers are left blank.
+-- 1. The lent buffers are left blank.
 pub walk-behind : (scratch worked : List ℕ) → drop memory-bytes worked ≡ drop memory-bytes scratch → drop scratch-bytes worked ≡ drop scratch-bytes scratch
 walk-behind scratch worked = behind-more scratch-bytes memory-bytes worked scratch (omega arith)
 
@@ -66,7 +53,7 @@ pub left-over : (n : ℕ) (table table′ blank scratch scratch′ last : List �
 left-over n table table′ blank scratch scratch′ last t b s l =
     ap (λ t. table-outcome n t (cleared scratch)) (sym (blanked-behind table table′ blank t b)) ∙ ap (table-outcome n blank) (sym (cleared-behind scratch-bytes scratch scratch′ last (omega arith) s l))
 
--- 3. The values of a judgement, and the lines of its rule.
+-- 2. The values of a judgement, and the lines of its rule.
 module _ {sheet : List ℕ} {known : Known} {from end : ℕ} {equations lengths : List ℕ} {rule : ℕ} {table : List ℕ} {filled i : ℕ} {e : Equation} {d : Direction} {ts : Terms}
     (v : ValuesIn sheet known from end equations lengths rule table filled i e d ts) where
   pub values-room : known .symbols ≤ length (known .arities)
@@ -89,19 +76,10 @@ module _ {sheet : List ℕ} {known : Known} {from end : ℕ} {equations lengths 
         one-each = v .one-each;
       }
 
-  pub values-hold : {r : ℕ} → r ≡ first-holding (given-values ts) (value e (given-values ts)) (v .kept) → r ≡ holding-line e d (given-values ts)
-  unfolding holding-line holding-in
-  values-hold h = h ∙ sym (ap (holding-in e (given-values ts)) (v .solves))
-
-  pub holding-few : {r : ℕ} → r ≡ holding-line e d (given-values ts) → r ≤ max-lines
-  holding-few h =
-      let same = values-hold {r = first-holding (given-values ts) (value e (given-values ts)) (v .kept)} refl in
-      omega (arith, h, same, first-holding-low (given-values ts) (value e (given-values ts)) (v .kept), solved-line-count e (v .rule-is .row .limits) d (v .kept) (v .turns) (v .solves))
-
   holding-low : {r : ℕ} → r ≡ holding-line e d (given-values ts) → r < field-limit
-  holding-low h = omega (arith, holding-few h)
+  holding-low h = omega (arith, holding-few v h)
 
--- 4. The number, by what the walks gave.
+-- 3. The number, by what the walks gave.
 pub none-holds : {line n : ℕ} → line ≡ 0 → n ≡ 0 → n ≡ judge-fields line
 unfolding judge-fields fields
 none-holds h e = e ∙ sym (ap judge-fields h)
@@ -150,7 +128,7 @@ module _ {sheet : List ℕ} {known : Known} {from end : ℕ} {equations lengths 
       pub judged-told : {n : ℕ} → n ≡ judge-fields line → JudgedNumber judged e d (given-values ts) n
       judged-told {n} x = subst (λ w. JudgedNumber w e d (given-values ts) n) (sym h) (x ∙ ap judge-fields (holds i e d ts values-there))
 
--- 5. What judge earns, by the task.
+-- 4. What judge earns, by the task.
 module _ (sheet table scratch : List ℕ) (task : ℕ) where
   abbrev pub judge-answered : TableOutcome
   judge-answered = judge-answer table scratch (asked true sheet (judgement-task task))
@@ -194,7 +172,7 @@ module _ (sheet : List ℕ) (known : Known) (task : ℕ) (a : Accepts sheet know
   pub judgement-has : HasJudgement sheet known (k + k + d) (place .from) (place .end)
   judgement-has = record { task = task; is = judgement-found }
 
--- 6. A judgement that is found.
+-- 5. A judgement that is found.
 module _ {sheet : List ℕ} {known : Known} {rule from end task : ℕ} (j : JudgementIn sheet known rule from end task) where
   -- Its sheet, its equation and its values.
   record TaskParts : Type 0 where

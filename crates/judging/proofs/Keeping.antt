@@ -6,6 +6,7 @@ use native.Mathlib.Omega.{arith}
 use lib.ListN.{length, getD, take, drop, replicate, length-append, length-map}
 use lib.Seq.{slice, length-take-le, drop-append-add, drop-drop}
 use Rattle.format.specs.Limits.{max-elements, no-position, record-bytes, table-bytes}
+use Rattle.format.specs.Theory.Parts.{part-slice}
 use Rattle.terms.specs.Contracts.Stored.{PartAt}
 use Rattle.solving.specs.Line.{Line, line, binding-byte, element-bytes, record-of, records}
 use Rattle.solving.specs.Contracts.Written.{WrittenLines}
@@ -14,8 +15,9 @@ use Rattle.lines.specs.Contracts.Layout.{count-place, placed}
 use Rattle.lines.specs.Theory.Placed.{placed-length, placed-none, placed-behind}
 use Rattle.judging.specs.declared.trimmed.Kept.the-variants.{Full, End}
 use Rattle.judging.specs.Contracts.Trimmed.{trimmed, trimmed-lines, RecordsAre, HasRecords, KeptAs}
-use Rattle.judging.proofs.Lengths.{counted-length, length-trimmed}
-use Rattle.judging.proofs.Parts.{length-part, part-room, part-slice, part-rest, part-byte}
+use Rattle.judging.proofs.Lengths.{counted-length}
+use Rattle.judging.proofs.Parts.{length-part, part-room, part-rest, part-byte}
+use Rattle.judging.specs.Theory.Lengths.{length-trimmed}
 
 -- What stands behind a part that is put into a buffer stays.
 drop-placed : (n at : ℕ) (part buffer : List ℕ) → at + length part ≤ n → at ≤ length buffer → drop n (placed at part buffer) ≡ drop n buffer

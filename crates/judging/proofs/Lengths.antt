@@ -1,19 +1,9 @@
 -- How many bytes a line has without filler: as many as its count of elements says.
 use Prim.Native.Nat.{ℕ, _+_, _*_}
-use mathlib.Core.Path.{_≡_}
 use mathlib.Core.List.{List}
-use native.Mathlib.Omega.{arith}
-use lib.ListN.{length, getD, length-append, length-map}
-use Rattle.format.specs.Limits.{variable-count}
-use Rattle.solving.specs.Line.{Bindings, Element, line}
-use Rattle.solving.specs.Theory.Records.{length-element-bytes}
+use lib.ListN.{getD}
 use Rattle.lines.specs.Contracts.Layout.{count-place, first-element}
-use Rattle.judging.specs.Contracts.Trimmed.{trimmed}
 
 -- By the count that stands there.
 abbrev pub counted-length : (bytes : List ℕ) (at : ℕ) → ℕ
 counted-length bytes at = first-element + 2 * getD bytes (at + count-place) 0
-
-pub length-trimmed : (θ : Bindings) (es : List Element) → length θ ≡ variable-count → length (trimmed (line θ es)) ≡ first-element + 2 * length es
-unfolding trimmed
-length-trimmed θ es h = simp (length-append, length-map) (omega (arith, length-element-bytes es))

@@ -19,8 +19,9 @@ use Rattle.judging.specs.declared.trimmed.KeptLines.{KeptLines}
 use Rattle.judging.specs.Contracts.Trimmed.{trimmed, trimmed-lines}
 use Rattle.judging.specs.Contracts.Holding.{LinesTestable, BindingsAre, ElementsAre, LineIs, LinesAre, HasBindings, HasElements, HasLine, HasLines}
 use Rattle.judging.proofs.Answer.{Tells, not-so, told-not}
-use Rattle.judging.proofs.Lengths.{counted-length, length-trimmed}
+use Rattle.judging.proofs.Lengths.{counted-length}
 use Rattle.judging.proofs.Parts.{slice-front, slice-back, slice-first}
+use Rattle.judging.specs.Theory.Lengths.{length-trimmed}
 
 module _ (nodes lengths values : List ℕ) (ρ : Values) (value : ℕ → Term) (table : List ℕ) where
   pub record LineParts (at end : ℕ) (l : Line) : Type 0 where

@@ -5,19 +5,13 @@ use mathlib.Core.List.{List, _∷_, _++_}
 use native.Mathlib.Numerals.{add-one}
 use native.Mathlib.Omega.{arith}
 use lib.ListN.{length, getD, take, drop, length-append, length-drop}
-use lib.Seq.{slice, slice-cons, length-slice, take-add, take-take, take-at, drop-at, drop-drop, length-take-le, getD-drop, getD-take, getD-at}
+use lib.Seq.{slice, slice-cons, length-slice, take-take, drop-at, drop-drop, length-take-le, getD-drop, getD-take, getD-at}
+use Rattle.format.specs.Theory.Parts.{part-slice}
 
 -- Where the bytes from `f` on start with `a`.
 module _ (f : ℕ) (l a b : List ℕ) (e : drop f l ≡ a ++ b) where
   pub part-room : 0 < length a → f + length a ≤ length l
   part-room h = omega (arith, length-drop f l, ap length e, length-append a b)
-
-  pub part-slice : f ≤ length l → slice f (f + length a) l ≡ a
-  part-slice h =
-      ap (drop f) (take-add f (length a) l)
-      ∙ (drop-at (take f l) (take (length a) (drop f l)) f (length-take-le f l h)
-      ∙ (ap (take (length a)) e
-      ∙ take-at a b (length a) refl))
 
   pub part-rest : drop (f + length a) l ≡ b
   part-rest = sym (drop-drop (length a) f l) ∙ (ap (drop (length a)) e ∙ drop-at a b (length a) refl)

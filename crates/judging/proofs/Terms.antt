@@ -19,7 +19,7 @@ use Rattle.comparing.specs.Contracts.Nodes.{TermAt, resolved}
 use Rattle.comparing.specs.Contracts.Cells.{SettledCells}
 use Rattle.comparing.specs.Contracts.Comparing.{HasTerm, Compares}
 use Rattle.comparing.specs.Theory.Nodes.{within, row-empty, symbol-at}
-use Rattle.comparing.proofs.Resolved.{byte-low, SymbolNode, resolved-node}
+use Rattle.comparing.specs.Theory.Resolved.{byte-low, SymbolNode, resolved-node}
 use Rattle.judging.specs.Contracts.Holding.{BindingTestable, ElementTestable, InstanceAt}
 
 module _ {nodes lengths values ready cells : List ℕ} (m : SettledCells nodes lengths values ready cells) where

@@ -23,7 +23,7 @@ use Rattle.solving.specs.Walk.{Walked, solved, refused, solve-with, solve}
 use Rattle.reducing.specs.Run.{Step, Run, ending-number, last-term}
 use Rattle.terms.specs.Filling.{filling}
 use Rattle.reducing.specs.Test.{holding-line-with, holding-line, line-run-with, line-run, given-values}
-use Rattle.outcomes.specs.Asked.{WalkRefusal, first-refusal-with, first-refusal}
+use Rattle.reducing.specs.Walks.{WalkRefusal, first-refusal-with, first-refusal}
 
 -- The first byte of each frame that is printed.
 abbrev pub table-kind : ℕ

@@ -20,11 +20,10 @@ use Rattle.reading.specs.Contracts.Seek.{Accepts}
 use Rattle.rules.specs.declared.walks.Walks.{Walks}
 use Rattle.rules.specs.declared.walks.Walks.the-variants.{Refused, Full, Kept}
 use Rattle.rules.specs.Contracts.Rows.{RowsAre, HasRows, bound-count}
-use Rattle.rules.specs.Contracts.Walks.{WalksAs}
-use Rattle.outcomes.specs.Asked.{equation-line, first-refusal}
-use Rattle.outcomes.specs.Theory.Walks.{refusal-low}
+use Rattle.rules.specs.Contracts.Walks.{WalksAs, LinesReady}
+use Rattle.reducing.specs.Theory.Walks.{refusal-low}
 use Rattle.reducing.specs.Test.{EverySolves}
-use Rattle.reductions.specs.Contracts.RunTerm.{LinesReady}
+use Rattle.reducing.specs.Walks.{equation-line, first-refusal}
 use Rattle.listing.specs.Listing.{printed, two-bytes, refusal-frame}
 use Rattle.printing.specs.Contracts.Appended.{Appended}
 use Rattle.printing.specs.Theory.Printed.{length-printed-one}

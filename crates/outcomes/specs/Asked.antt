@@ -1,18 +1,15 @@
 -- What a call asks for, or the refusal that it earns before any walk (document 01, 'Who can cause a refusal').
-use Prim.Native.Nat.{ℕ, suc, _+_}
+use Prim.Native.Nat.{ℕ}
 use mathlib.Core.Bool.{Bool, true, false}
 use mathlib.Core.Option.{Option, none, some}
-use mathlib.Core.List.{List, [], _∷_}
-use Rattle.format.specs.Limits.{variable-count}
-use Rattle.format.specs.declared.refusal.Refusal.{Refusal}
+use mathlib.Core.List.{List}
 use Rattle.format.specs.declared.refusal.Refusal.the-variants.{ShortBuffer as short-buffer, AbsentArgument as absent-argument}
 use Rattle.format.specs.Lists.{entry}
 use Rattle.terms.specs.Term.{Term, Values}
-use Rattle.terms.specs.Equation.{Equation, Direction, left-right, right-left, direction-of}
+use Rattle.terms.specs.Equation.{Equation, Direction, direction-of}
 use Rattle.terms.specs.Filling.{filling}
 use Rattle.sheet.specs.Sheet.{Task, run, judgement, comparison, Sheet}
 use Rattle.sheet.specs.Reading.{Reading, refused-at, accepted, read}
-use Rattle.solving.specs.Walk.{solved, refused, solve-with, solve}
 use Rattle.reducing.specs.Test.{given-values}
 
 -- "12, no such equation, direction or task, or the task is of another kind (line 0)."
@@ -99,28 +96,3 @@ reduction-in constant es (some (comparison s t)) = none
 unfoldable pub reduction-task : (task : ℕ) → Sheet → Option Reduction
 unfolding reduction-in entry filling
 reduction-task task s = reduction-in (filling (s .arities)) (s .equations) (entry (s .tasks) task)
-
--- 8 to 10: "The line is the equation's." Frame 01 is line 1, and the equations follow.
-unfoldable pub equation-line : ℕ → ℕ
-equation-line e = e + 2
-
-pub record WalkRefusal : Type 0 where
-  pub refusal : Refusal
-  pub line : ℕ
-
--- With any number of variables.
-module _ (variables : ℕ) where
-  -- "Judge and run first walk every equation and direction in order": the first refusal of their walks, `e` the number of the first equation.
-  unfoldable pub first-refusal-with : (e : ℕ) → List Equation → Option WalkRefusal
-  unfolding solve-with equation-line
-  first-refusal-with e [] = none
-  first-refusal-with e (q ∷ qs) =
-      elim (solve-with variables q left-right) [
-        | refused r ↦ some (record { refusal = r; line = equation-line e })
-        | solved ls n ↦ elim (solve-with variables q right-left) [ refused r ↦ some (record { refusal = r; line = equation-line e }) | solved ls′ n′ ↦ first-refusal-with (suc e) qs ]
-      ]
-
--- With the sheet's number of variables.
-unfoldable pub first-refusal : (e : ℕ) → List Equation → Option WalkRefusal
-unfolding first-refusal-with solve
-first-refusal = first-refusal-with variable-count

@@ -22,8 +22,9 @@ use Rattle.solving.specs.Walk.{Walked, solved, refused, solve}
 use Rattle.solving.specs.Always.{Answered, answered, unanswered, always}
 use Rattle.reducing.specs.Run.{Step, Run, ending-number, last-term}
 use Rattle.reducing.specs.Test.{holding-line, line-run}
+use Rattle.reducing.specs.Walks.{equation-line, WalkRefusal, first-refusal}
 use Rattle.outcomes.specs.Buffer.{fields, refusal-number, cleared, blanked}
-use Rattle.outcomes.specs.Asked.{asked, Pair, comparison-task, Directed, direction-asked, Judgement, judgement-task, Reduction, reduction-task, equation-line, WalkRefusal, first-refusal}
+use Rattle.outcomes.specs.Asked.{asked, Pair, comparison-task, Directed, direction-asked, Judgement, judgement-task, Reduction, reduction-task}
 
 -- Check: "(refusal, line)". It is lent nothing but the sheet.
 unfoldable pub check-answer : Reading Sheet → ℕ

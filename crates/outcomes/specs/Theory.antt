@@ -1,3 +1,4 @@
 -- Laws.
 pub mod Number
-pub mod Walks
+pub mod Outcomes
+pub mod Fill

@@ -18,8 +18,8 @@ use Rattle.scanning.specs.declared.known.Known.{Known}
 use Rattle.scanning.specs.Contracts.Scan.{known-arities}
 use Rattle.reducing.specs.Test.{EverySolves}
 use Rattle.rules.specs.Contracts.Rows.{HasRows}
-use Rattle.reductions.specs.Contracts.RunTerm.{LinesReady}
 use Rattle.listing.specs.Listing.{printed, two-bytes, total-kind, task-frames}
+use Rattle.rules.specs.Contracts.Walks.{LinesReady}
 use Rattle.printing.specs.Contracts.Appended.{Appended}
 use Rattle.printing.specs.Theory.Printed.{length-printed-one}
 use Rattle.cursor.specs.declared.place.Place.{Place}
@@ -27,15 +27,14 @@ use Rattle.cursor.specs.declared.place.Place.the-variants.{Table, Line as LineP
 use Rattle.cursor.specs.declared.place.Piece.{Piece}
 use Rattle.cursor.specs.declared.place.Listed.{Listed}
 use Rattle.cursor.specs.Contracts.Rest.{rule-frames, left-frames}
-use Rattle.cursor.specs.Contracts.Stands.{Ready, LinesThere, AtPlace, StandsAt, under-way, at-end, Progress}
+use Rattle.cursor.specs.Contracts.Stands.{Ready, LinesThere, under-way, at-end, Progress}
 use Rattle.cursor.specs.Theory.Rest.{task-steps, table-left, some-lines-left, lines-left, tables-left, task-left, total-left}
 use Rattle.cursor.specs.Theory.Gives.{gives-frames, gives-none}
 use Rattle.tables.specs.declared.table.LinesListed.{LinesListed}
 use Rattle.tables.specs.Contracts.Table.{TableGiven, LinesGiven}
-use Rattle.tables.proofs.TableLaws.{frames-count}
+use Rattle.tables.specs.Theory.Tables.{frames-count}
 use Rattle.tasks.specs.declared.task.TaskListed.{TaskListed}
 use Rattle.tasks.specs.Contracts.Task.{TaskGiven}
-use Rattle.places.specs.Contracts.Step.{HasPlace}
 
 abbrev moved-to : Known → Bool → Place → ℕ → Listed
 moved-to known fits place bytes = record { cursor = record { place = place; known = known; fits = fits }; bytes = bytes }
@@ -149,38 +148,3 @@ module _ {input : List ℕ} {known : Known} {fits : Bool} {equations lengths bou
             (g .appended) (g .within) (omega (arith, few-tasks r));
         stands = under-way s ready (omega arith, omega (arith, g .few-steps));
       })
-
--- 4. What stands at the cursor's place.
-module _ {input : List ℕ} {known : Known} {fits : Bool} {equations lengths bounds table scratch : List ℕ} where
-  under-way-place : {place : Place} (s : Sheet) → Ready input known fits equations lengths bounds table s → AtPlace s scratch place → HasPlace input known fits equations lengths scratch place
-  under-way-place s r a = record { bounds = bounds; table = table; content = s; ready = r; at = a }
-
-  pub table-stands : {rule : ℕ} → StandsAt input known fits equations lengths bounds table scratch (Table rule) → HasPlace input known fits equations lengths scratch (Table rule)
-  table-stands (under-way s r a) = under-way-place s r a
-
-  pub line-stands : {rule line lines : ℕ} → StandsAt input known fits equations lengths bounds table scratch (LinePlace rule line lines) → HasPlace input known fits equations lengths scratch (LinePlace rule line lines)
-  line-stands (under-way s r a) = under-way-place s r a
-
-  pub task-stands : {task steps : ℕ} → StandsAt input known fits equations lengths bounds table scratch (TaskPlace task steps)
-      → (s : Sheet) × Ready input known fits equations lengths bounds table s × AtPlace s scratch (TaskPlace task steps)
-  task-stands (under-way s r a) = (s, r, a)
-
-  module _ {scratch′ out : List ℕ} {x : Listed} where
-    pub from-the-table : {rule : ℕ} → StandsAt input known fits equations lengths bounds table scratch (Table rule)
-        → ((bounds table : List ℕ) (s : Sheet) → Ready input known fits equations lengths bounds table s → AtPlace s scratch (Table rule) → Progress input (Table rule) equations lengths bounds table scratch′ out x)
-        → Progress input (Table rule) equations lengths bounds table scratch′ out x
-    from-the-table (under-way s r a) p = p bounds table s r a
-
-    pub from-the-line : {rule line lines : ℕ} → StandsAt input known fits equations lengths bounds table scratch (LinePlace rule line lines)
-        → ((bounds table : List ℕ) (s : Sheet) → Ready input known fits equations lengths bounds table s → AtPlace s scratch (LinePlace rule line lines)
-        → Progress input (LinePlace rule line lines) equations lengths bounds table scratch′ out x)
-        → Progress input (LinePlace rule line lines) equations lengths bounds table scratch′ out x
-    from-the-line (under-way s r a) p = p bounds table s r a
-
-pub at-place : {input : List ℕ} {place place′ : Place} {equations lengths bounds table scratch out : List ℕ} {x : Listed} → place ≡ place′ → Progress input place′ equations lengths bounds table scratch out x
-    → Progress input place equations lengths bounds table scratch out x
-at-place {input} {equations = equations} {lengths} {bounds} {table} {scratch} {out} {x} e p = subst (λ q. Progress input q equations lengths bounds table scratch out x) (sym e) p
-
-pub stands-at : {input : List ℕ} {known : Known} {fits : Bool} {equations lengths bounds table scratch : List ℕ} {place place′ : Place} → place ≡ place′ → StandsAt input known fits equations lengths bounds table scratch place
-    → StandsAt input known fits equations lengths bounds table scratch place′
-stands-at {input} {known} {fits} {equations} {lengths} {bounds} {table} {scratch} e p = subst (StandsAt input known fits equations lengths bounds table scratch) e p

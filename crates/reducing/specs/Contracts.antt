@@ -1,2 +1,3 @@
 -- What the contracts of the code cite.
 pub mod Rules
+pub mod Part

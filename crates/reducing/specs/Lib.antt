@@ -4,3 +4,4 @@ pub mod Test
 pub mod Reduction
 pub mod Theory
 pub mod Contracts
+pub mod Walks

@@ -6,3 +6,5 @@ pub mod First
 pub mod Runs
 pub mod Reference
 pub mod Irreducible
+pub mod Walks
+pub mod Rules

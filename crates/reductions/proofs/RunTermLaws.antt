@@ -22,13 +22,13 @@ use Rattle.reducing.specs.Test.{line-test, line-run}
 use Rattle.reducing.specs.Theory.Runs.{run-few}
 use Rattle.outcomes.specs.Buffer.{fields}
 use Rattle.rules.specs.Contracts.Rows.{RowsAre}
-use Rattle.rules.specs.Contracts.Walks.{RulesAt}
+use Rattle.rules.specs.Contracts.Walks.{RulesAt, LinesReady}
 use Rattle.searching.specs.Contracts.Next.{NextIs, RulesKept, HasRulesKept}
 use Rattle.seeking.specs.Contracts.Seeking.{RulesReady, RunIs}
 use Rattle.running.specs.declared.course.Course.{Course}
 use Rattle.running.specs.Contracts.Course.{CourseIs, the-run, last-of}
 use Rattle.scanning.specs.Theory.Arities.{symbols-room, symbols-taken, arities-taken}
-use Rattle.reductions.specs.Contracts.RunTerm.{LinesReady, RunTermIs, RunCourse, Ran}
+use Rattle.reductions.specs.Contracts.RunTerm.{RunTermIs, RunCourse, Ran}
 
 -- 1. What the run starts from.
 abbrev taken-arities : Known → List ℕ

@@ -20,8 +20,9 @@ ghost use Rattle.format.specs.Limits.{max-steps, table-bytes, scratch-bytes, te
 ghost use Rattle.terms.specs.Term.{Term};
 ghost use Rattle.terms.specs.Equation.{Equation};
 ghost use Rattle.scanning.specs.Contracts.Scan.{known-arities};
+ghost use Rattle.rules.specs.Contracts.Walks.{LinesReady};
 ghost use Rattle.searching.specs.Contracts.Next.{next-bytes, NextIs, RulesKept, HasRulesKept};
-ghost use Rattle.reductions.specs.Contracts.RunTerm.{LinesReady, RunTermIs, HasRunTerm, RunCourse, Ran};
+ghost use Rattle.reductions.specs.Contracts.RunTerm.{RunTermIs, HasRunTerm, RunCourse, Ran};
 
 // The table of next rules, where the search goes by positions.
 fn prepare_next(

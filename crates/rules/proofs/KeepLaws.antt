@@ -1,40 +1,33 @@
 -- The walk of a rule over its equation's row, and the lines that are kept of it.
-use Prim.Native.Nat.{ℕ, _+_, _-_, _*_, _%_, _≤_, _<_}
-use mathlib.Core.Path.{_≡_, sym, ap, subst, _∙_}
+use Prim.Native.Nat.{ℕ, _+_, _*_, _%_, _≤_}
+use mathlib.Core.Path.{_≡_, ap, subst, _∙_}
 use mathlib.Core.Option.{some}
-use mathlib.Core.List.{List, [], _∷_, _++_}
+use mathlib.Core.List.{List, _++_}
 use native.Mathlib.Omega.{arith}
-use lib.ListN.{length, getD, take, drop, length-append, take-append-drop}
-use lib.Seq.{take-at, take-append-le}
+use lib.ListN.{length}
+use lib.Seq.{take-append-le}
 use lib.Dec.{ltb}
 use Rattle.format.specs.Limits.{record-bytes, table-bytes}
-use Rattle.format.specs.declared.refusal.Refusal.{Refusal}
 use Rattle.terms.specs.Term.{Values}
-use Rattle.terms.specs.Prefix.{equation-bytes}
 use Rattle.terms.specs.Equation.{Equation, Direction, left-right, right-left, direction-number, direction-of, value}
-use Rattle.terms.specs.Contracts.Limits.{WithinLimits, positions}
-use Rattle.unifying.specs.Contracts.Equation.{equation-sizes}
-use Rattle.unifying.specs.Theory.Equation.{length-nodes, length-sizes}
-use Rattle.solving.specs.Line.{Line, line}
-use Rattle.solving.specs.Walk.{Walked, refused, solve, Solves}
+use Rattle.terms.specs.Contracts.Limits.{WithinLimits}
+use Rattle.solving.specs.Line.{Line}
+use Rattle.solving.specs.Walk.{Walked, solve, Solves}
 use Rattle.solving.specs.Judge.{first-holding}
-use Rattle.solving.specs.Contracts.Written.{WrittenLines}
 use Rattle.walking.specs.Contracts.Walking.{memory-bytes}
 use Rattle.lines.specs.Contracts.Layout.{placed}
 use Rattle.solver.specs.declared.positions.WalkEnd.{WalkEnd}
 use Rattle.solver.specs.declared.positions.WalkEnd.the-variants.{Solved, Refused}
 use Rattle.solver.specs.declared.positions.WalkResult.{WalkResult as Reported}
-use Rattle.solver.specs.Contracts.Equation.{SidesAre}
 use Rattle.solver.specs.Contracts.Reports.{LeavesEnd, Leaves}
 use Rattle.reducing.specs.Test.{holding-in, line-test}
 use Rattle.judging.specs.declared.trimmed.Kept.{Kept}
-use Rattle.judging.specs.declared.trimmed.Kept.the-variants.{Full, End}
-use Rattle.judging.specs.Contracts.Trimmed.{trimmed, trimmed-lines, RecordsAre, KeptAs}
-use Rattle.judging.proofs.Lengths.{length-trimmed}
+use Rattle.judging.specs.declared.trimmed.Kept.the-variants.{End}
+use Rattle.judging.specs.Contracts.Trimmed.{trimmed-lines, RecordsAre, KeptAs}
 use Rattle.rules.specs.Contracts.Rows.{RuleIs}
 use Rattle.rules.specs.Contracts.Lines.{RuleLines}
 use Rattle.rules.specs.Theory.Proper.{walked-proper}
-use Rattle.rules.proofs.RowLaws.{row-start, rule-row, row-end, row-room}
+use Rattle.rules.specs.Theory.Kept.{end, ends, records-there, solves, walked-lines}
 
 -- 1. The walk is given the equation's bytes and sizes, and the direction's number.
 numbered-direction : (n i : ℕ) (d : Direction) → n ≡ 2 * i + direction-number d → direction-of (n % 2) ≡ some d
@@ -46,35 +39,6 @@ module _ {equations lengths arities : List ℕ} {rule i : ℕ} {e : Equation} {d
   pub rule-direction : direction-of (rule % 2) ≡ some d
   rule-direction = numbered-direction rule i d (is .number)
 
-  module _ {first second : ℕ} (x : first ≡ getD lengths (row-start rule) 0) (y : second ≡ getD lengths (row-start rule + first) 0) where
-    abbrev end : ℕ
-    end = row-start rule + first + second
-
-    abbrev many : ℕ
-    many = end - row-start rule
-
-    pub end-in-equations : end ≤ length equations
-    end-in-equations = omega (arith, row-end is x y, row-room (is .row), is .row .equations-length)
-
-    pub end-in-lengths : end ≤ length lengths
-    end-in-lengths = omega (arith, row-end is x y, row-room (is .row), is .row .lengths-length)
-
-    all-positions : many ≡ positions e
-    all-positions = omega (arith, row-end is x y, rule-row is)
-
-    pub sides-there : SidesAre (take many (drop (row-start rule) equations)) (take many (drop (row-start rule) lengths)) e
-    sides-there = record {
-      arities = arities;
-      is = record {
-        spelled = ap (λ n. take many (drop n equations)) (rule-row is) ∙ (ap (take many) (is .row .bytes .is) ∙ take-at (equation-bytes e) (is .row .bytes .rest) many (length-nodes e ∙ sym all-positions));
-        limits = is .row .limits;
-        left-fits = is .row .left-fits;
-        right-fits = is .row .right-fits;
-        few-symbols = is .row .few-symbols;
-      };
-      measured = ap (λ n. take many (drop n lengths)) (rule-row is) ∙ (ap (take many) (is .row .measured .is) ∙ take-at (equation-sizes e) (is .row .measured .rest) many (length-sizes e ∙ sym all-positions));
-    }
-
 -- The records stand first in a longer memory too.
 pub leaves-longer : {w : Walked} {memory : List ℕ} {told : Reported} → Leaves w memory told → (behind : List ℕ) → length memory ≡ memory-bytes → Leaves w (memory ++ behind) told
 leaves-longer {w} {memory} {told} l behind h = record { ends = go (told .ending) (l .ends) }
@@ -83,48 +47,16 @@ leaves-longer {w} {memory} {told} l behind h = record { ends = go (told .ending)
     go Solved (ls, x, y, f, z) = (ls, x, y, f, take-append-le (told .lines * record-bytes) memory behind (omega arith) ∙ z)
     go (Refused why) x = x
 
-pub leaves-refused : {w : Walked} {memory : List ℕ} {told : Reported} {why : Refusal} → Leaves w memory told → told .ending ≡ Refused why → w ≡ refused why
-leaves-refused {w} {memory} {told} l x = subst (λ x. LeavesEnd w memory x (told .lines) (told .turns)) x (l .ends)
-
--- 2. Lines without filler are no longer than their records.
-trimmed-short : (n : ℕ) (ls : List Line) → WrittenLines n ls → length (trimmed-lines ls) ≤ length ls * record-bytes
-unfolding trimmed-lines
-trimmed-short n [] w = omega arith
-trimmed-short n (line θ es ∷ ls) w = omega (arith, length-append (trimmed (line θ es)) (trimmed-lines ls), length-trimmed θ es (w .0 .slots), w .0 .few-elements, trimmed-short n ls (w .1))
-
--- 3. The lines of a walk that solves.
+-- 2. The lines of a walk that solves.
 module _ {e : Equation} (w : WithinLimits e) (d : Direction) {memory : List ℕ} {told : Reported} (l : Leaves (solve e d) memory told) (x : told .ending ≡ Solved) where
-  abbrev ends : LeavesEnd (solve e d) memory Solved (told .lines) (told .turns)
-  ends = subst (λ x. LeavesEnd (solve e d) memory x (told .lines) (told .turns)) x (l .ends)
-
-  abbrev walked-lines : List Line
-  walked-lines = ends .0
-
-  solves : Solves e d
-  solves = record { table = walked-lines; turns = told .turns; walked = ends .1 }
-
-  pub records-there : RecordsAre memory (told .lines) walked-lines
-  records-there = record {
-    counted = ends .2;
-    first = record { rest = drop (told .lines * record-bytes) memory; is = sym (take-append-drop (told .lines * record-bytes) memory) ∙ ap (_++ drop (told .lines * record-bytes) memory) (ends .4) };
-    positions = positions e;
-    written = walked-proper w d (ends .1) .written;
-  }
-
-  holds-there : (ρ : Values) → line-test e d ρ ≡ ltb 0 (first-holding ρ (value e ρ) walked-lines)
+  holds-there : (ρ : Values) → line-test e d ρ ≡ ltb 0 (first-holding ρ (value e ρ) (walked-lines w d l x))
   unfolding line-test
-  holds-there ρ = ap (λ t. ltb 0 (holding-in e ρ t)) (ends .1)
+  holds-there ρ = ap (λ t. ltb 0 (holding-in e ρ t)) (ends w d l x .1)
 
-  rule-lines : RuleLines e d walked-lines
-  rule-lines = record { proper = walked-proper w d (ends .1); tests = holds-there }
-
-  few-bytes : length (trimmed-lines walked-lines) ≤ table-bytes
-  few-bytes = omega (arith, trimmed-short (positions e) walked-lines (walked-proper w d (ends .1) .written), ends .2, ends .3)
+  rule-lines : RuleLines e d (walked-lines w d l x)
+  rule-lines = record { proper = walked-proper w d (ends w d l x .1); tests = holds-there }
 
   module _ (start : ℕ) (before after : List ℕ) (kept : Kept) (k : (ls : List Line) → RecordsAre memory (told .lines) ls → KeptAs ls start before after kept) where
-    pub full-kept : kept ≡ Full → Solves e d × (0 < start) × (drop table-bytes after ≡ drop table-bytes before)
-    full-kept y = let (long, same) = subst (KeptAs walked-lines start before after) y (k walked-lines records-there) in (solves, omega (arith, few-bytes), same)
-
     pub lines-kept : {end : ℕ} → kept ≡ End end
         → Solves e d × (ls : List Line) × RuleLines e d ls × (end ≡ start + length (trimmed-lines ls)) × (end ≤ table-bytes) × (after ≡ placed start (trimmed-lines ls) before)
-    lines-kept y = let (ends-there, room, there) = subst (KeptAs walked-lines start before after) y (k walked-lines records-there) in (solves, walked-lines, rule-lines, ends-there, room, there)
+    lines-kept y = let (ends-there, room, there) = subst (KeptAs (walked-lines w d l x) start before after) y (k (walked-lines w d l x) (records-there w d l x)) in (solves w d l x, walked-lines w d l x, rule-lines, ends-there, room, there)

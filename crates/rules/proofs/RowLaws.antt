@@ -1,34 +1,22 @@
 -- The row of a rule's equation: what stands there, and where its sides stand by the sizes that the row has.
-use Prim.Native.Nat.{ℕ, _+_, _*_, _/_, _%_, _≤_, _<_}
+use Prim.Native.Nat.{ℕ, _+_, _*_, _%_}
 use mathlib.Core.Path.{_≡_, refl, sym, ap, subst, _∙_}
 use mathlib.Core.List.{List, _++_, map, map-append}
 use native.Mathlib.Omega.{arith}
-use lib.ListN.{length, getD, length-map}
+use lib.ListN.{getD, length-map}
 use Rattle.format.specs.Limits.{position-count}
 use Rattle.terms.specs.Term.{size}
 use Rattle.terms.specs.Position.{subterms}
 use Rattle.terms.specs.Prefix.{prefix, equation-bytes}
 use Rattle.terms.specs.Equation.{Equation, Direction, left-right, right-left, direction-number, source, target}
 use Rattle.terms.specs.declared.arguments.Arguments.{Arguments}
-use Rattle.terms.specs.Contracts.Limits.{positions}
 use Rattle.terms.specs.Contracts.Stored.{PartAt}
-use Rattle.terms.specs.Theory.Limits.{positions-few}
-use Rattle.terms.specs.Theory.Position.{size-pos, length-subterms}
-use Rattle.terms.specs.Theory.Positions.{left-at, right-at}
+use Rattle.terms.specs.Theory.Position.{length-subterms}
 use Rattle.terms.specs.Theory.Prefix.{length-prefix}
-use Rattle.terms.specs.Theory.Stored.{stored-first, stored-rest, stored-element}
+use Rattle.terms.specs.Theory.Stored.{stored-first, stored-rest}
 use Rattle.unifying.specs.Contracts.Equation.{equation-sizes}
-use Rattle.unifying.specs.Theory.Equation.{length-sizes, size-at}
-use Rattle.rules.specs.Contracts.Rows.{row-bytes, RowIs, RuleIs, SideIs}
-
--- Where the row of a rule's equation starts.
-abbrev pub row-start : ℕ → ℕ
-row-start rule = rule / 2 * position-count
-
-direction-low : (d : Direction) → direction-number d < 2
-unfolding direction-number
-direction-low left-right = omega arith
-direction-low right-left = omega arith
+use Rattle.rules.specs.Contracts.Rows.{RowIs, RuleIs, SideIs}
+use Rattle.rules.specs.Theory.Rows.{first-size, row-start, rule-row, second-size}
 
 -- "direction 00 before 01": rules with an even number are of direction 00.
 even-rule : (rule i : ℕ) (d : Direction) → rule ≡ 2 * i + direction-number d → rule % 2 ≡ 0 → d ≡ left-right
@@ -42,20 +30,6 @@ odd-rule rule i left-right n h = let z : rule % 2 ≡ 0 = omega arith in absurd 
 odd-rule rule i right-left n h = refl
 
 module _ {equations lengths arities : List ℕ} {i : ℕ} {e : Equation} (r : RowIs equations lengths arities i e) where
-  left-length : (row : ℕ) → row ≡ i * position-count → getD lengths row 0 ≡ size (e .left)
-  left-length row x =
-      let some-size : 0 < positions e = omega (arith, size-pos (e .left)) in
-      let y : row ≡ i * position-count + 0 = omega arith in
-      ap (λ n. getD lengths n 0) y ∙ (stored-element (r .measured) 0 (omega (arith, length-sizes e)) ∙ (size-at e 0 some-size ∙ ap size (left-at e)))
-
-  right-length : (right : ℕ) → right ≡ i * position-count + size (e .left) → getD lengths right 0 ≡ size (e .right)
-  right-length right x =
-      let some-size : size (e .left) < positions e = omega (arith, size-pos (e .right)) in
-      ap (λ n. getD lengths n 0) x ∙ (stored-element (r .measured) (size (e .left)) (omega (arith, length-sizes e)) ∙ (size-at e (size (e .left)) some-size ∙ ap size (right-at e)))
-
-  pub row-room : i * position-count + positions e ≤ row-bytes
-  row-room = omega (arith, r .inside, positions-few (r .limits))
-
   sizes-split : PartAt lengths (i * position-count) (map size (subterms (e .left)) ++ map size (subterms (e .right)))
   unfolding equation-sizes
   sizes-split = subst (PartAt lengths (i * position-count)) (map-append size (subterms (e .left)) (subterms (e .right))) (r .measured)
@@ -92,26 +66,8 @@ module _ {equations lengths arities : List ℕ} {i : ℕ} {e : Equation} (r : Ro
 
 -- The numbers that the code reads off the row of a rule.
 module _ {equations lengths arities : List ℕ} {rule i : ℕ} {e : Equation} {d : Direction} (is : RuleIs equations lengths arities rule i e d) where
-  pub rule-row : row-start rule ≡ i * position-count
-  rule-row = omega (arith, is .number, direction-low d)
-
-  pub rule-low : row-start rule + position-count ≤ length lengths
-  rule-low = omega (arith, rule-row, is .row .inside, is .row .lengths-length)
-
   module _ {first : ℕ} (x : first ≡ getD lengths (row-start rule) 0) where
-    first-size : first ≡ size (e .left)
-    first-size = x ∙ left-length (is .row) (row-start rule) rule-row
-
-    pub second-low : row-start rule + first < length lengths
-    second-low = omega (arith, first-size, rule-row, row-room (is .row), size-pos (e .right), is .row .lengths-length)
-
     module _ {second : ℕ} (y : second ≡ getD lengths (row-start rule + first) 0) where
-      second-size : second ≡ size (e .right)
-      second-size = y ∙ right-length (is .row) (row-start rule + first) (omega (arith, first-size, rule-row))
-
-      pub row-end : row-start rule + first + second ≡ i * position-count + positions e
-      row-end = omega (arith, first-size, second-size, rule-row)
-
       abbrev left-place : Arguments
       left-place = record { from = row-start rule; end = row-start rule + first }
 
@@ -122,10 +78,10 @@ module _ {equations lengths arities : List ℕ} {rule i : ℕ} {e : Equation} {d
       SidesAt a b = SideIs equations lengths arities a (source e d) × SideIs equations lengths arities b (target e d)
 
       left-there : SideIs equations lengths arities left-place (e .left)
-      left-there = left-side (is .row) (left-place .from) (left-place .end) rule-row (ap (row-start rule +_) first-size)
+      left-there = left-side (is .row) (left-place .from) (left-place .end) (rule-row is) (ap (row-start rule +_) (first-size is x))
 
       right-there : SideIs equations lengths arities right-place (e .right)
-      right-there = right-side (is .row) (right-place .from) (right-place .end) (omega (arith, rule-row, first-size)) (ap (row-start rule + first +_) second-size)
+      right-there = right-side (is .row) (right-place .from) (right-place .end) (omega (arith, rule-row is, first-size is x)) (ap (row-start rule + first +_) (second-size is x y))
 
       pub even-sides : rule % 2 ≡ 0 → SidesAt left-place right-place
       unfolding source target

@@ -1,9 +1,9 @@
 -- The walks of all rules in order: the first that is refused; and the lines of those that solve, kept one behind the other.
-use Prim.Native.Nat.{ℕ, zero, suc, _+_, _*_, _/_, _≤_, _<_}
+use Prim.Native.Nat.{ℕ, suc, _+_, _*_, _/_, _≤_, _<_}
 use mathlib.Core.Path.{_≡_, refl, sym, ap, ap₂, subst, _∙_}
 use mathlib.Core.Bool.{Bool, true, false}
 use mathlib.Core.Option.{none, some}
-use mathlib.Core.List.{List, [], _∷_, _++_}
+use mathlib.Core.List.{List, _++_}
 use native.Mathlib.Omega.{arith}
 use native.Mathlib.Decide.{decLt}
 use lib.ListN.{length, getD, set, take, drop, length-set}
@@ -16,55 +16,31 @@ use Rattle.terms.specs.Equation.{Equation, Direction, left-right, right-left, d
 use Rattle.solving.specs.Walk.{solve, Solves}
 use Rattle.walking.specs.Contracts.Walking.{memory-bytes}
 use Rattle.lines.specs.Contracts.Layout.{placed}
-use Rattle.lines.specs.Theory.Placed.{placed-length, placed-back, drop-placed}
+use Rattle.lines.specs.Theory.Placed.{placed-length, drop-placed, slice-placed}
 use Rattle.reducing.specs.Test.{EverySolves}
 use Rattle.reducing.specs.Contracts.Rules.{rule-number}
-use Rattle.outcomes.specs.Asked.{equation-line, first-refusal}
-use Rattle.outcomes.specs.Theory.Walks.{SolvedBefore, refused-first, solved-all, none-refused}
+use Rattle.reducing.specs.Walks.{equation-line, first-refusal}
+use Rattle.reducing.specs.Theory.Walks.{SolvedBefore, refused-first, solved-all, none-refused}
+use Rattle.reducing.specs.Theory.Rules.{RuleOf, rule-low, rule-of}
 use Rattle.judging.specs.Contracts.Trimmed.{trimmed-lines}
-use Rattle.judging.proofs.Parts.{part-slice}
 use Rattle.rules.specs.declared.keep.RuleKept.{RuleKept}
 use Rattle.rules.specs.declared.keep.RuleKept.the-variants.{Refused, Full, End}
-use Rattle.rules.specs.Contracts.Rows.{RowsAre, RuleIs, HasRows, HasRuleIn, bound-count}
+use Rattle.rules.specs.Contracts.Rows.{RowsAre, RuleIs, HasRows, bound-count}
 use Rattle.rules.specs.Contracts.Walks.{RuleKeptAs, RuleAt, RulesAt}
-
--- 1. The rule with a number.
-pub record RuleOf (es : List Equation) (rule : ℕ) : Type 0 where
-  pub number : ℕ
-  pub equation : Equation
-  pub direction : Direction
-  pub numbered : entry es number ≡ some equation
-  pub is : rule ≡ rule-number number direction
-
-pub rule-of : (es : List Equation) (rule : ℕ) → rule < 2 * length es → RuleOf es rule
-unfolding entry direction-number
-rule-of [] rule h = absurd (omega arith)
-rule-of (e ∷ es) zero h = record { number = 0; equation = e; direction = left-right; numbered = refl; is = refl }
-rule-of (e ∷ es) (suc zero) h = record { number = 0; equation = e; direction = right-left; numbered = refl; is = refl }
-rule-of (e ∷ es) (suc (suc rule)) h =
-    let r = rule-of es rule (omega arith) in
-    record { number = suc (r .number); equation = r .equation; direction = r .direction; numbered = r .numbered; is = omega (arith, r .is) }
-
-pub rule-low : (i : ℕ) (d : Direction) {n : ℕ} → i < n → rule-number i d < 2 * n
-unfolding direction-number
-rule-low i left-right h = omega arith
-rule-low i right-left h = omega arith
+use Rattle.rules.specs.Theory.Rows.{rule-in, this-rule}
 
 rule-half : (i : ℕ) (d : Direction) {rule : ℕ} → rule ≡ rule-number i d → rule / 2 ≡ i
 unfolding direction-number
 rule-half i left-right h = omega arith
 rule-half i right-left h = omega arith
 
--- 2. A part that is put into the table: what stands before it and behind it stays.
+-- 1. A part that is put into the table: what stands before it and behind it stays.
 module _ (at : ℕ) (part buffer : List ℕ) (room : at + length part ≤ length buffer) where
   slice-before : (f t : ℕ) → t ≤ at → slice f t (placed at part buffer) ≡ slice f t buffer
   unfolding placed
   slice-before f t h =
       ap (drop f)
       (take-append-le t (take at buffer) (part ++ drop (at + length part) buffer) (omega (arith, length-take-le at buffer (omega arith))) ∙ take-take t at buffer h)
-
-  pub slice-placed : slice at (at + length part) (placed at part buffer) ≡ part
-  slice-placed = part-slice at (placed at part buffer) part (drop (at + length part) buffer) (placed-back at part buffer (omega arith)) (omega (arith, placed-length at part buffer room))
 
   module _ (bounds : List ℕ) (rule bound : ℕ) where
     rule-stays : {k : ℕ} {e : Equation} {d : Direction} → RuleAt bounds buffer k e d → getD bounds (suc k) 0 ≤ at → k < rule
@@ -83,7 +59,7 @@ module _ (at : ℕ) (part buffer : List ℕ) (room : at + length part ≤ length
           };
         }
 
--- 3. The loop. The rules before `rule` solve. If they fit, their lines stand in the table up to `start`.
+-- 2. The loop. The rules before `rule` solve. If they fit, their lines stand in the table up to `start`.
 pub record WalkedTo (bounds table : List ℕ) (fits : Bool) (start rule : ℕ) (es : List Equation) : Type 0 where
   pub solve : SolvedBefore es rule
   pub kept : fits ≡ true → (i : ℕ) (e : Equation) (d : Direction) → entry es i ≡ some e → rule-number i d < rule
@@ -123,23 +99,7 @@ module _ (equations lengths : List ℕ) (count : ℕ) (table₀ scratch₀ : Lis
     so-far = λ arities es r c. record { solve = λ i e d x l. absurd (omega arith); kept = λ f i e d x l. absurd (omega arith) };
   }
 
-pub rule-in : {equations lengths arities : List ℕ} {es : List Equation} {rule i : ℕ} {e : Equation} {d : Direction} → RowsAre equations lengths arities es → entry es i ≡ some e → rule ≡ rule-number i d
-    → RuleIs equations lengths arities rule i e d
-rule-in {i = i} {e = e} r x y = record { row = r .row i e x; number = y }
-
 module _ {equations lengths : List ℕ} {count : ℕ} (has : HasRows equations lengths count) {rule : ℕ} (low : rule < count + count) where
-  this-rule : RuleOf (has .those) rule
-  this-rule = rule-of (has .those) rule (omega (arith, has .counted))
-
-  pub rule-there : HasRuleIn equations lengths rule
-  rule-there = record {
-    arities = has .arities;
-    number = this-rule .number;
-    equation = this-rule .equation;
-    direction = this-rule .direction;
-    is = rule-in (has .are) (this-rule .numbered) (this-rule .is);
-  }
-
   pub next-bound : rule + 1 < bound-count
   next-bound = omega (arith, has .counted, has .are .few)
 

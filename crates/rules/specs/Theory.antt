@@ -1,2 +1,5 @@
 -- Laws.
 pub mod Proper
+pub mod Rows
+pub mod Kept
+pub mod Front

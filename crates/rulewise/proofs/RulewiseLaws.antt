@@ -23,22 +23,24 @@ use Rattle.reducing.specs.Run.{Step, try, step}
 use Rattle.reducing.specs.Test.{line-test, EverySolves}
 use Rattle.reducing.specs.Contracts.Rules.{rule-number}
 use Rattle.reducing.specs.Theory.First.{step-none, step-first}
+use Rattle.reducing.specs.Contracts.Part.{part-at}
+use Rattle.reducing.specs.Theory.Rules.{rule-of, rule-low}
+use Rattle.reducing.specs.Theory.Step.{none-matches}
 use Rattle.comparing.specs.Theory.Cells.{none-ready, zero-bytes}
 use Rattle.matching.specs.Contracts.Matching.{Matched, SidePart}
 use Rattle.walking.specs.Contracts.Walking.{memory-bytes}
-use Rattle.lines.specs.Theory.Placed.{placed-length, drop-placed}
+use Rattle.lines.specs.Theory.Placed.{placed-length, drop-placed, slice-placed}
 use Rattle.judging.specs.declared.trimmed.KeptLines.{KeptLines}
 use Rattle.judging.specs.Contracts.Trimmed.{trimmed-lines}
 use Rattle.rules.specs.declared.keep.RuleKept.{RuleKept}
 use Rattle.rules.specs.declared.keep.RuleKept.the-variants.{Refused, Full, End}
 use Rattle.rules.specs.Contracts.Rows.{SideIs}
 use Rattle.rules.specs.Contracts.Walks.{RuleKeptAs}
-use Rattle.applying.specs.Contracts.Trying.{Settled, part-at, Applies, TryIs}
+use Rattle.rules.specs.Theory.Rows.{rule-in}
+use Rattle.applying.specs.Contracts.Trying.{Settled, Applies, TryIs}
+use Rattle.applying.specs.Theory.Parts.{side-part as matched-part}
 use Rattle.searching.specs.Contracts.Searching.{StepAt}
 use Rattle.rulewise.specs.Contracts.Rulewise.{MatchesFrom, SourceIs, FirstFor, KeptTry, HasKeptTry, UnkeptTry, HasUnkeptTry, AllSolve, HasAllSolve}
-use Rattle.applying.proofs.TryLaws.{none-matches}
-use Rattle.applying.proofs.MatchLaws.{side-part as matched-part}
-use Rattle.rules.proofs.WalkLaws.{rule-of, rule-low, slice-placed, rule-in}
 
 -- 1. The first node at which a side matches.
 pub record Seeking (equations : List ℕ) (side : Arguments) (nodes sizes : List ℕ) (end node : ℕ) : Type 0 where

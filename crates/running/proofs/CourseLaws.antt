@@ -11,21 +11,22 @@ use Rattle.format.specs.Limits.{max-byte, max-task-nodes, position-count, table
 use Rattle.format.specs.Buffer.{written}
 use Rattle.terms.specs.Term.{Term, size}
 use Rattle.terms.specs.Filling.{filling}
-use Rattle.terms.specs.Equation.{Equation, Direction, left-right, right-left, direction-number}
+use Rattle.terms.specs.Equation.{Equation, direction-number}
 use Rattle.terms.specs.Contracts.Stored.{SubjectIs}
 use Rattle.reducing.specs.declared.ending.Ending.{Ending}
 use Rattle.reducing.specs.declared.ending.Ending.the-variants.{NoneFound as none-found, LimitReached as limit-reached, ResultTooLarge as result-too-large}
 use Rattle.reducing.specs.Run.{Step, Run, after-step, step, run, last-term}
 use Rattle.reducing.specs.Test.{line-test, line-run}
-use Rattle.reducing.specs.Contracts.Rules.{rule-number}
 use Rattle.reducing.specs.Theory.Runs.{stopped, at-limit, unless-large, below-limit}
+use Rattle.reducing.specs.Theory.Rules.{rule-parts}
 use Rattle.outcomes.specs.Outcome.{log-of}
+use Rattle.outcomes.specs.Theory.Outcomes.{length-log}
 use Rattle.replacing.specs.Contracts.Replacing.{ReplacedAs}
 use Rattle.replacing.specs.declared.part.Replaced.the-variants.{TooLarge}
 use Rattle.searching.specs.Contracts.Searching.{StepAt}
 use Rattle.seeking.specs.Contracts.Seeking.{RulesReady, RunIs}
 use Rattle.stepping.specs.Contracts.Stepping.{StepIs}
-use Rattle.stepping.proofs.StepLaws.{step-possible}
+use Rattle.stepping.specs.Theory.Steps.{step-possible}
 use Rattle.running.specs.Contracts.Course.{CourseIs}
 
 -- 1. The next search goes by the same rules, and by the same subject in the nodes that a search left.
@@ -57,24 +58,12 @@ module _ (c : Term) (es : List Equation) where
   unfolding line-run run
   run-goes-on k t s e h = ap (below-limit (λ s. line-run c es k (s .result))) e ∙ ap (unless-large s (line-run c es k (s .result))) (le-ltb max-task-nodes (size (s .result)) h)
 
--- 3. The log of the steps done, and one more.
-pub length-log : (steps : List Step) → length (log-of steps) ≡ 3 * length steps
-unfolding log-of
-length-log [] = refl
-length-log (s ∷ steps) = let x = length-log steps in omega arith
-
 log-more : (steps : List Step) (s : Step) → log-of (steps ++ (s ∷ [])) ≡ log-of steps ++ (s .equation ∷ direction-number (s .direction) ∷ s .position ∷ [])
 unfolding log-of
 log-more [] s = refl
 log-more (x ∷ steps) s = ap (λ l. x .equation ∷ direction-number (x .direction) ∷ x .position ∷ l) (log-more steps s)
 
--- "direction 00 before 01": the rule's number says its equation and its direction.
-pub rule-parts : (rule i : ℕ) (d : Direction) → rule ≡ rule-number i d → (rule / 2 ≡ i) × (rule % 2 ≡ direction-number d)
-unfolding direction-number
-rule-parts rule i left-right h = (omega arith, omega arith)
-rule-parts rule i right-left h = (omega arith, omega arith)
-
--- 4. What holds before each search.
+-- 3. What holds before each search.
 -- A table that keeps the lines of all rules is as it was, and so is what stands behind the bytes that are lent.
 abbrev pub Kept : Bool → (table scratch table′ scratch′ : List ℕ) → Type 0
 Kept fits table scratch table′ scratch′ = (fits ≡ true → table′ ≡ table) × ((drop table-bytes table′ ≡ drop table-bytes table) × (drop scratch-bytes scratch′ ≡ drop scratch-bytes scratch))

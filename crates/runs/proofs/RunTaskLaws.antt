@@ -20,6 +20,7 @@ use Rattle.sheet.specs.Sheet.{Task, run, judgement, comparison, Sheet}
 use Rattle.sheet.specs.Reading.{accepted, read}
 use Rattle.sheet.specs.Contracts.Valid.{ValidTask}
 use Rattle.sheet.specs.Theory.Accepted.{accepted-valid}
+use Rattle.reducing.specs.Walks.{equation-line, first-refusal}
 use Rattle.scanning.specs.declared.known.Known.{Known}
 use Rattle.scanning.specs.Contracts.Scan.{known-arities}
 use Rattle.reading.specs.declared.seek.TaskFound.{TaskFound}
@@ -28,15 +29,16 @@ use Rattle.reading.specs.Contracts.Seek.{Accepts, TaskIn, TaskAt, Spans, task-t
 use Rattle.reading.specs.Theory.Found.{task-asked, is-run, is-judgement, is-comparison}
 use Rattle.loading.specs.Contracts.Loading.{TermsIn}
 use Rattle.outcomes.specs.Buffer.{refusal-number, cleared, blanked}
-use Rattle.outcomes.specs.Asked.{found, find, asked, reduction-in, reduction-task, equation-line, first-refusal}
-use Rattle.outcomes.specs.Theory.Walks.{refusal-low}
+use Rattle.outcomes.specs.Asked.{found, find, asked, reduction-in, reduction-task}
+use Rattle.reducing.specs.Theory.Walks.{refusal-low}
 use Rattle.outcomes.specs.Outcome.{RunOutcome, run-done, run-walked, run-answer}
+use Rattle.outcomes.specs.Theory.Outcomes.{run-outcome}
 use Rattle.walking.specs.Contracts.Walking.{memory-bytes}
 use Rattle.rules.specs.declared.walks.Walks.{Walks}
 use Rattle.rules.specs.declared.walks.Walks.the-variants.{Refused, Full, Kept}
 use Rattle.rules.specs.Contracts.Rows.{RowsAre, bound-count}
-use Rattle.rules.specs.Contracts.Walks.{WalksAs}
-use Rattle.reductions.specs.Contracts.RunTerm.{LinesReady, RunTermIs, Ran}
+use Rattle.rules.specs.Contracts.Walks.{WalksAs, LinesReady}
+use Rattle.reductions.specs.Contracts.RunTerm.{RunTermIs, Ran}
 use Rattle.runs.specs.Contracts.RunTask.{fit-together, RanAs, ReductionIn}
 
 -- 1. The walks.
@@ -61,29 +63,25 @@ pub refused-as : {walks : Walks} (arities : List ℕ) (es : List Equation) (k : 
 unfolding equation-line
 refused-as arities es k subject term log {r} e x = subst (λ w. RanAs w arities es k subject term term log log r) (sym e) (x, refl, refl)
 
--- 2. What run earns.
-abbrev pub outcome : ℕ → (table scratch term log : List ℕ) → RunOutcome
-outcome n table scratch term log = record { returned = n; table = table; scratch = scratch; term = term; log = log }
-
 pub scratch-behind : (scratch kept worked : List ℕ) → drop memory-bytes kept ≡ drop memory-bytes scratch → drop scratch-bytes worked ≡ drop scratch-bytes kept → drop scratch-bytes worked ≡ drop scratch-bytes scratch
 scratch-behind scratch kept worked g h = h ∙ behind-more scratch-bytes memory-bytes kept scratch (omega arith) g
 
 module _ (table scratch term log : List ℕ) (k : ℕ) (subject : Term) {r : ℕ} {blank clear term-after log-after : List ℕ} (b : blank ≡ blanked table) (c : clear ≡ cleared scratch) where
-  left-as : (n : ℕ) (t l : List ℕ) → r ≡ n → term-after ≡ t → log-after ≡ l → outcome n (blanked table) (cleared scratch) t l ≡ outcome r blank clear term-after log-after
+  left-as : (n : ℕ) (t l : List ℕ) → r ≡ n → term-after ≡ t → log-after ≡ l → run-outcome n (blanked table) (cleared scratch) t l ≡ run-outcome r blank clear term-after log-after
   left-as n t l x y z =
-      ap (λ n. outcome n (blanked table) (cleared scratch) t l) (sym x)
-      ∙ ap (λ b. outcome r b (cleared scratch) t l) (sym b)
-      ∙ ap (λ c. outcome r blank c t l) (sym c)
-      ∙ ap (λ t. outcome r blank clear t l) (sym y)
-      ∙ ap (outcome r blank clear term-after) (sym z)
+      ap (λ n. run-outcome n (blanked table) (cleared scratch) t l) (sym x)
+      ∙ ap (λ b. run-outcome r b (cleared scratch) t l) (sym b)
+      ∙ ap (λ c. run-outcome r blank c t l) (sym c)
+      ∙ ap (λ t. run-outcome r blank clear t l) (sym y)
+      ∙ ap (run-outcome r blank clear term-after) (sym z)
 
   ran-outcome : (arities : List ℕ) (es : List Equation) → first-refusal 0 es ≡ none → Ran arities es k subject term term-after log log-after r
-      → run-walked table scratch term log (record { filling = filling arities; equations = es; limit = k; subject = subject }) (first-refusal 0 es) ≡ outcome r blank clear term-after log-after
+      → run-walked table scratch term log (record { filling = filling arities; equations = es; limit = k; subject = subject }) (first-refusal 0 es) ≡ run-outcome r blank clear term-after log-after
   unfolding run-walked run-done
   ran-outcome arities es e d = ap (run-walked table scratch term log (record { filling = filling arities; equations = es; limit = k; subject = subject })) e ∙ left-as _ _ _ (d .returned) (d .term-is) (d .log-is)
 
   walked-outcome : (walks : Walks) (arities : List ℕ) (es : List Equation) (bounds kept : List ℕ) → WalksAs es bounds kept walks → RanAs walks arities es k subject term term-after log log-after r
-      → run-walked table scratch term log (record { filling = filling arities; equations = es; limit = k; subject = subject }) (first-refusal 0 es) ≡ outcome r blank clear term-after log-after
+      → run-walked table scratch term log (record { filling = filling arities; equations = es; limit = k; subject = subject }) (first-refusal 0 es) ≡ run-outcome r blank clear term-after log-after
   unfolding run-walked
   walked-outcome (Refused why number) arities es bounds kept w d =
       ap (run-walked table scratch term log (record { filling = filling arities; equations = es; limit = k; subject = subject })) w ∙ left-as _ _ _ (d .0) (d .1) (d .2)
@@ -100,30 +98,30 @@ module _ (sheet table scratch term log : List ℕ) (task : ℕ) where
       ap (λ x. run-answer table scratch term log (find (reduction-task task) x)) r ∙ ap (λ o. run-answer table scratch term log (found (reduction-in (filling (s .arities)) (s .equations) o))) h
 
   module _ (known : Known) (a : Accepts sheet known) where
-    pub task-absent : known .tasks ≤ task → {n : ℕ} → n ≡ refusal-number absent-argument 0 → answered ≡ outcome n table scratch term log
+    pub task-absent : known .tasks ≤ task → {n : ℕ} → n ≡ refusal-number absent-argument 0 → answered ≡ run-outcome n table scratch term log
     unfolding run-answer found reduction-in
     task-absent h e =
         let (s, r, g) = a in
-        answer-of s r none (entry-none (s .tasks) task (omega (arith, g .tasks-are))) ∙ ap (λ n. outcome n table scratch term log) (sym e)
+        answer-of s r none (entry-none (s .tasks) task (omega (arith, g .tasks-are))) ∙ ap (λ n. run-outcome n table scratch term log) (sym e)
 
     module _ (there : task < known .tasks) (place : TaskFound) (each : (t : Task) → TaskIn sheet task t → TaskAt sheet t place) where
-      pub comparison-there : {n : ℕ} → place .head ≡ Comparison → n ≡ refusal-number absent-argument 0 → answered ≡ outcome n table scratch term log
+      pub comparison-there : {n : ℕ} → place .head ≡ Comparison → n ≡ refusal-number absent-argument 0 → answered ≡ run-outcome n table scratch term log
       unfolding run-answer found reduction-in
       comparison-there h e =
           let (t, i) = task-asked sheet known task a there in
           let (u, v, x) = is-comparison t (sym (each t i .0) ∙ h) in
           let (s, r, y) = i in
-          answer-of s r (some (comparison u v)) (y ∙ ap some x) ∙ ap (λ n. outcome n table scratch term log) (sym e)
+          answer-of s r (some (comparison u v)) (y ∙ ap some x) ∙ ap (λ n. run-outcome n table scratch term log) (sym e)
 
-      pub judgement-there : {k d n : ℕ} → place .head ≡ Judgement k d → n ≡ refusal-number absent-argument 0 → answered ≡ outcome n table scratch term log
+      pub judgement-there : {k d n : ℕ} → place .head ≡ Judgement k d → n ≡ refusal-number absent-argument 0 → answered ≡ run-outcome n table scratch term log
       unfolding run-answer found reduction-in
       judgement-there {k} h e =
           let (t, i) = task-asked sheet known task a there in
           let (o, ts, x, z) = is-judgement t (sym (each t i .0) ∙ h) in
           let (s, r, y) = i in
-          answer-of s r (some (judgement k o ts)) (y ∙ ap some x) ∙ ap (λ n. outcome n table scratch term log) (sym e)
+          answer-of s r (some (judgement k o ts)) (y ∙ ap some x) ∙ ap (λ n. run-outcome n table scratch term log) (sym e)
 
--- 3. The task that is a run.
+-- 2. The task that is a run.
 pub reduction-found : (sheet : List ℕ) (task : ℕ) (known : Known) (a : Accepts sheet known) (there : task < known .tasks) (place : TaskFound)
     → ((t : Task) → TaskIn sheet task t → TaskAt sheet t place) → {k : ℕ} → place .head ≡ Run k → ReductionIn sheet known k (place .from) (place .end) task
 reduction-found sheet task known a there place each {k} h =
@@ -181,7 +179,7 @@ module _ {sheet : List ℕ} {known : Known} {limit from end task : ℕ} (i : Red
 
   pub reduction-answered : (table scratch term log : List ℕ) {r : ℕ} {blank clear term-after log-after : List ℕ} (walks : Walks) (bounds kept : List ℕ) → blank ≡ blanked table → clear ≡ cleared scratch
       → WalksAs its-equations bounds kept walks → RanAs walks (known-arities known) its-equations limit (i .subject) term term-after log log-after r
-      → answered sheet table scratch term log task ≡ outcome r blank clear term-after log-after
+      → answered sheet table scratch term log task ≡ run-outcome r blank clear term-after log-after
   unfolding run-answer found reduction-in
   reduction-answered table scratch term log {r} {term-after = term-after} {log-after} walks bounds kept b c w d =
       answer-of sheet table scratch term log task (i .is-task .0) (i .is-task .1) (some (run limit (i .subject))) (i .is-task .2)

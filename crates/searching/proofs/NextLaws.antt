@@ -13,10 +13,9 @@ use lib.Dec.{ltb}
 use borrow.Author.Tests.{ltb-false}
 use Rattle.format.specs.Limits.{max-symbols, max-equations, first-variable}
 use Rattle.format.specs.Lists.{entry}
-use Rattle.format.specs.Theory.Lists.{entry-length}
 use Rattle.terms.specs.Term.{Term, Terms, var, app}
 use Rattle.terms.specs.Prefix.{prefix}
-use Rattle.terms.specs.Equation.{Equation, Direction, left-right, right-left, direction-number, source, value}
+use Rattle.terms.specs.Equation.{Equation, Direction, source, value}
 use Rattle.terms.specs.Contracts.Stored.{PartAt}
 use Rattle.terms.specs.declared.arguments.Arguments.{Arguments}
 use Rattle.terms.specs.Theory.Position.{size-pos}
@@ -29,10 +28,10 @@ use Rattle.reducing.specs.Match.{Match, no-match, match, match-each, values-of}
 use Rattle.reducing.specs.Run.{Step, try}
 use Rattle.reducing.specs.Test.{line-test}
 use Rattle.reducing.specs.Contracts.Rules.{rule-number}
+use Rattle.reducing.specs.Theory.Rules.{rule-of, rule-below}
 use Rattle.judging.specs.Contracts.Trimmed.{trimmed, trimmed-lines}
 use Rattle.rules.specs.Contracts.Rows.{RuleIs, HasRule, SideIs, bound-count}
 use Rattle.rules.specs.Contracts.Walks.{RuleAt}
-use Rattle.rules.proofs.WalkLaws.{rule-of}
 use Rattle.searching.specs.Contracts.Next.{next-bytes, next-at, Idle, NextIs, NextPut, RulesKept, HasRulesKept}
 
 -- The entry of a rule names the rule itself, or is the next one.
@@ -120,12 +119,6 @@ put-done all p = record {
   rule-itself = λ g a l h. p .rule-itself g (omega arith) (l, h);
   next-one = λ g a h. p .next-one g (omega arith) h;
 }
-
--- The rules of a list of equations are two for each.
-pub rule-below : (es : List Equation) (i : ℕ) {e : Equation} (d : Direction) → entry es i ≡ some e → rule-number i d < 2 * length es
-unfolding direction-number
-rule-below es i left-right x = omega (arith, entry-length es i x)
-rule-below es i right-left x = omega (arith, entry-length es i x)
 
 -- A rule that fails its test wherever it matches cannot step.
 module _ (filling subject : Term) (p : ℕ) (part : Term) (i : ℕ) (e : Equation) (d : Direction) where

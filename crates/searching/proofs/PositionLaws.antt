@@ -19,17 +19,17 @@ use Rattle.reducing.specs.Run.{try, step}
 use Rattle.reducing.specs.Test.{line-test}
 use Rattle.reducing.specs.Contracts.Rules.{rule-number}
 use Rattle.reducing.specs.Theory.First.{NoneAt, step-none, step-first}
+use Rattle.reducing.specs.Contracts.Part.{part-at}
+use Rattle.reducing.specs.Theory.Rules.{rule-of, rule-below}
 use Rattle.comparing.specs.Theory.Cells.{none-ready, zero-bytes}
 use Rattle.judging.specs.declared.trimmed.KeptLines.{KeptLines}
 use Rattle.rules.specs.Contracts.Rows.{bound-count}
 use Rattle.rules.specs.Contracts.Lines.{LinesAt}
 use Rattle.rules.specs.Contracts.Walks.{RuleAt}
 use Rattle.searching.specs.Contracts.Next.{next-at, SearchIs, HasSearch, HasSearchAt}
-use Rattle.applying.specs.Contracts.Trying.{Settled, part-at, Applies, TryIs, HasTry}
+use Rattle.applying.specs.Contracts.Trying.{Settled, Applies, TryIs, HasTry}
 use Rattle.searching.specs.Contracts.Searching.{FirstRule, StepAt}
 use Rattle.comparing.specs.Theory.Stored.{part-stored}
-use Rattle.rules.proofs.WalkLaws.{rule-of}
-use Rattle.searching.proofs.NextLaws.{rule-below}
 
 -- The term starts with this symbol, which is one of the sheet's.
 record SymbolIs (arities : List ℕ) (f : ℕ) (t : Term) : Type 0 where

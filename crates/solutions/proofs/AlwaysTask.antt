@@ -5,13 +5,13 @@ use mathlib.Core.List.{List}
 use Rattle.format.specs.Limits.{no-position, table-bytes}
 use Rattle.format.specs.declared.refusal.Refusal.{Refusal}
 use Rattle.solving.specs.Always.{Answered}
+use Rattle.reducing.specs.Walks.{equation-line}
 use Rattle.deciding.specs.declared.decide.Answer.{Answer}
 use Rattle.deciding.specs.declared.decide.Answer.the-variants.{Yes, No, Refused}
 use Rattle.deciding.specs.Contracts.Decides.{answered-as}
 use Rattle.outcomes.specs.Buffer.{fields, refusal-number, filled, cleared, blanked}
-use Rattle.outcomes.specs.Asked.{equation-line}
 use Rattle.outcomes.specs.Outcome.{table-unsolved, answer-number, always-answered}
-use Rattle.answers.proofs.Outcomes.{table-outcome}
+use Rattle.outcomes.specs.Theory.Outcomes.{table-outcome}
 
 module _ (equation : ℕ) (table scratch : List ℕ) {a : Answered} {r : Answer} (told : answered-as r ≡ a) {n : ℕ} {blank last : List ℕ} (b : blank ≡ filled table-bytes no-position table) (c : last ≡ cleared scratch) where
   pub always-yes : {turns : ℕ} → r ≡ Yes turns → n ≡ fields 1 turns 0 → always-answered equation table scratch a ≡ table-outcome n blank last

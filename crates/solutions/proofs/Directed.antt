@@ -1,7 +1,6 @@
 -- Calls that ask for an equation in a direction: the equation that is found, what such a call earns, and what a walk leaves in scratch.
 use Prim.Native.Nat.{ℕ, zero, suc, _≤_, _<_}
 use mathlib.Core.Path.{_≡_, refl, sym, ap, subst, _∙_}
-use mathlib.Core.Bool.{true}
 use mathlib.Core.Option.{Option, none, some}
 use mathlib.Core.List.{List}
 use lib.ListN.{length, take, drop}
@@ -26,11 +25,11 @@ use Rattle.reading.specs.Theory.Found.{equation-few, equation-asked}
 use Rattle.outcomes.specs.Buffer.{refusal-number, filled, cleared}
 use Rattle.outcomes.specs.Asked.{found, find, asked, Directed, directed-in, direction-asked}
 use Rattle.outcomes.specs.Outcome.{TableOutcome, directed-answer}
+use Rattle.outcomes.specs.Theory.Outcomes.{table-outcome, directed-answered}
+use Rattle.outcomes.specs.Theory.Fill.{cleared-behind}
 use Rattle.solver.specs.Theory.Equation.{some-direction}
 use Rattle.solver.specs.Contracts.Equation.{EquationIs, HasEquation}
 use Rattle.walking.specs.Contracts.Walking.{memory-bytes}
-use Rattle.answers.proofs.Outcomes.{table-outcome}
-use Rattle.answers.proofs.Fill.{cleared-behind}
 use Rattle.scanning.specs.Theory.Arities.{arities-taken}
 
 -- 1. The equation that is found: its bytes stand first in a buffer.
@@ -75,11 +74,8 @@ no-direction (suc zero) h = absurd (omega arith)
 no-direction (suc (suc n)) h = refl
 
 module _ (gives : Directed → TableOutcome) (sheet table scratch : List ℕ) (equation direction : ℕ) where
-  abbrev pub answered : TableOutcome
-  answered = directed-answer gives table scratch (asked true sheet (direction-asked equation direction))
-
   answer-of : (s : Sheet) → read sheet ≡ accepted s → (o : Option Equation) (d : Option Direction) → entry (s .equations) equation ≡ o → direction-of direction ≡ d
-      → answered ≡ directed-answer gives table scratch (found (directed-in o d))
+      → directed-answered gives sheet table scratch equation direction ≡ directed-answer gives table scratch (found (directed-in o d))
   unfolding asked find direction-asked
   answer-of s r o d x y =
       ap (λ x. directed-answer gives table scratch (find (direction-asked equation direction) x)) r
@@ -87,21 +83,21 @@ module _ (gives : Directed → TableOutcome) (sheet table scratch : List ℕ) (e
       ∙ ap (λ d. directed-answer gives table scratch (found (directed-in o d))) y
 
   module _ (known : Known) (a : Accepts sheet known) where
-    pub equation-absent : known .equations ≤ equation → {n : ℕ} → n ≡ refusal-number absent-argument 0 → answered ≡ table-outcome n table scratch
+    pub equation-absent : known .equations ≤ equation → {n : ℕ} → n ≡ refusal-number absent-argument 0 → directed-answered gives sheet table scratch equation direction ≡ table-outcome n table scratch
     unfolding directed-answer found directed-in
     equation-absent h e =
         let (s, r, g) = a in
         answer-of s r none (direction-of direction) (entry-none (s .equations) equation (omega (arith, g .equations-are))) refl ∙ ap (λ n. table-outcome n table scratch) (sym e)
 
     module _ (there : equation < known .equations) where
-      pub direction-absent : 2 ≤ direction → {n : ℕ} → n ≡ refusal-number absent-argument 0 → answered ≡ table-outcome n table scratch
+      pub direction-absent : 2 ≤ direction → {n : ℕ} → n ≡ refusal-number absent-argument 0 → directed-answered gives sheet table scratch equation direction ≡ table-outcome n table scratch
       unfolding directed-answer found directed-in
       direction-absent h e =
           let (q, (s, r, x)) = equation-asked sheet known equation a there in
           answer-of s r (some q) none x (no-direction direction h) ∙ ap (λ n. table-outcome n table scratch) (sym e)
 
       pub equation-answer : direction < 2 → {o : TableOutcome} (bytes arities : List ℕ) → ((q : Equation) → EquationIn sheet equation q → EquationIs bytes arities q)
-          → ((e : Equation) (d : Direction) → EquationIs bytes arities e → direction-of direction ≡ some d → gives (record { equation = e; direction = d }) ≡ o) → answered ≡ o
+          → ((e : Equation) (d : Direction) → EquationIs bytes arities e → direction-of direction ≡ some d → gives (record { equation = e; direction = d }) ≡ o) → directed-answered gives sheet table scratch equation direction ≡ o
       unfolding directed-answer found directed-in
       equation-answer h bytes arities f w =
           let (q, i) = equation-asked sheet known equation a there in

@@ -10,14 +10,14 @@ use Rattle.terms.specs.Equation.{Equation, Direction}
 use Rattle.solving.specs.Line.{records}
 use Rattle.solving.specs.Walk.{Walked, solve}
 use Rattle.solving.specs.Theory.Solve.{solved-line-count}
+use Rattle.reducing.specs.Walks.{equation-line}
 use Rattle.solver.specs.declared.positions.WalkEnd.the-variants.{Solved, Refused}
 use Rattle.solver.specs.declared.positions.WalkResult.{WalkResult as Reported}
 use Rattle.outcomes.specs.Buffer.{field-limit, fields, refusal-number, filled, cleared, blanked}
-use Rattle.outcomes.specs.Asked.{equation-line}
 use Rattle.outcomes.specs.Outcome.{table-unsolved, solve-walked}
+use Rattle.outcomes.specs.Theory.Outcomes.{table-outcome}
 use Rattle.solver.specs.Contracts.Equation.{EquationIs}
 use Rattle.solver.specs.Contracts.Reports.{ReportsEnd, Reports}
-use Rattle.answers.proofs.Outcomes.{table-outcome}
 
 module _ (equation : ℕ) (scratch : List ℕ) {w : Walked} {table after : List ℕ} {told : Reported} (t : Reports w table after told) where
   pub walk-solved : {n : ℕ} {last : List ℕ} → told .ending ≡ Solved → n ≡ fields (told .lines) (told .turns) 0 → last ≡ cleared scratch

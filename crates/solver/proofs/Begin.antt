@@ -36,7 +36,7 @@ use Rattle.stopping.specs.Contracts.Ends.{stop-test, stopping-walk, EndsAt, End
 use Rattle.unifying.specs.Theory.PrefixForm.{form-layout}
 use Rattle.lines.specs.Theory.Placed.{placed-length, placed-back}
 use Rattle.lines.specs.Theory.Line.{opening-means}
-use Rattle.walking.proofs.Walking.{well-formed-length, ended}
+use Rattle.walking.specs.Theory.Walking.{well-formed-length, ended}
 
 -- 1. The opening line.
 module _ {nodes sizes : List ℕ} (laid : InPrefixForm nodes sizes) (s t : ℕ) (i : s < length nodes) (j : t < length nodes) where

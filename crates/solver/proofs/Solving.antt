@@ -5,7 +5,7 @@ use mathlib.Core.Bool.{Bool, false}
 use mathlib.Core.Option.{some}
 use mathlib.Core.List.{List, _++_}
 use lib.ListN.{length, getD, take, drop}
-use lib.Seq.{slice, take-all, take-at, drop-at, length-take-le}
+use lib.Seq.{slice, take-all, take-at, length-take-le}
 use native.Mathlib.Omega.{arith}
 use Rattle.format.specs.Limits.{variable-count, position-count, max-turns}
 use Rattle.terms.specs.Term.{size}
@@ -25,7 +25,6 @@ use Rattle.solver.specs.declared.positions.WalkResult.{WalkResult as Rep
 use Rattle.solver.specs.Contracts.Reports.{Leaves, LeavesWalk}
 use Rattle.solver.specs.Contracts.Equation.{EquationIs, SidesAre, EndsAre}
 use Rattle.solver.specs.declared.solve.Ends.{Ends}
-use Rattle.walking.specs.Contracts.Walking.{memory-bytes}
 use Rattle.solver.specs.Theory.Equation.{equation-whole, equation-measured}
 
 -- "Direction 00 is left > right, 01 is right > left"
@@ -113,10 +112,3 @@ module _ {bytes arities : List ℕ} {e : Equation} (is : EquationIs bytes aritie
         is = is;
         measured = ap (take (length bytes)) first ∙ take-at (equation-sizes e) (drop (length bytes) before) (length bytes) (length-sizes e ∙ sym bytes-count);
       }
-
--- Behind the bytes that the walk works in scratch is as it was.
-pub behind-kept : (scratch front : List ℕ) → memory-bytes ≤ length scratch → length front ≡ length (take memory-bytes scratch) → drop memory-bytes (front ++ drop memory-bytes scratch) ≡ drop memory-bytes scratch
-behind-kept scratch front h l = drop-at front (drop memory-bytes scratch) memory-bytes (l ∙ length-take-le memory-bytes scratch h)
-
-pub walk-room : (scratch : List ℕ) → memory-bytes ≤ length scratch → memory-bytes ≡ length (take memory-bytes scratch)
-walk-room scratch h = sym (length-take-le memory-bytes scratch h)

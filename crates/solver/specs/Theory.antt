@@ -1,2 +1,3 @@
 -- Laws.
 pub mod Equation
+pub mod Memory

@@ -1,6 +1,6 @@
 -- A step that is possible: its match is found again, and the matched part is replaced by the target's instance.
 use Prim.Native.Nat.{ℕ, _<_}
-use mathlib.Core.Path.{_≡_, sym, ap, ap₂, subst, _∙_}
+use mathlib.Core.Path.{_≡_, sym, ap, subst, _∙_}
 use mathlib.Core.Bool.{Bool, true, false, not}
 use mathlib.Core.Logic.{inl, inr}
 use mathlib.Core.Option.{Option, none, some, Option·getD}
@@ -17,52 +17,17 @@ use Rattle.terms.specs.Equation.{Equation, Direction, source, target}
 use Rattle.terms.specs.declared.arguments.Arguments.{Arguments}
 use Rattle.terms.specs.Contracts.Stored.{GroundStored}
 use Rattle.terms.specs.Theory.Prefix.{fits-variables}
-use Rattle.reducing.specs.Match.{Match, no-match, match, values-of, has-variable, have-variable}
-use Rattle.reducing.specs.Run.{Step, try}
-use Rattle.reducing.specs.Test.{line-test}
-use Rattle.reducing.specs.Theory.Step.{stepped, tested, outcome, try-is, try-some}
+use Rattle.reducing.specs.Match.{no-match, match, values-of, has-variable, have-variable}
+use Rattle.reducing.specs.Run.{Step}
 use Rattle.reducing.specs.Theory.Match.{either}
+use Rattle.reducing.specs.Contracts.Part.{part-at}
 use Rattle.matching.specs.Contracts.Matching.{SlotIs, MatchIs, Matched, SidePart}
 use Rattle.replacing.specs.Contracts.Replacing.{ReplacementIs, ReplacedAs}
 use Rattle.replacing.specs.declared.part.Replaced.{Replaced}
 use Rattle.rules.specs.Contracts.Rows.{SideIs}
-use Rattle.applying.specs.Contracts.Trying.{part-at}
+use Rattle.applying.specs.Theory.Parts.{side-part}
 use Rattle.stepping.specs.Contracts.Stepping.{StepIs}
-use Rattle.applying.proofs.MatchLaws.{side-part}
-
--- 1. What a possible step is, in the direction that was tried.
-module _ (filling subject : Term) (p i : ℕ) (e : Equation) (d : Direction) (s : Step) where
-  pub record Possible : Type 0 where
-    pub numbered : s .equation ≡ i
-    pub directed : s .direction ≡ d
-    pub placed : s .position ≡ p
-    pub found : Match
-    pub matches : match (source e d) (part-at subject p) no-match ≡ some found
-    pub gives : s .result ≡ replace subject p (inst (values-of filling found) (target e d))
-
-  same-direction : try filling line-test subject p (part-at subject p) i e d ≡ some s → s .direction ≡ d
-  same-direction h = go (match (source e d) (part-at subject p) no-match) (sym (try-is filling line-test subject p (part-at subject p) i e d) ∙ h)
-    where
-      by-test : (m : Match) (b : Bool) → tested filling subject p i e d m b ≡ some s → s .direction ≡ d
-      by-test m true h = let z : s ≡ stepped filling subject p i e d m = cc in ap (λ x. x .direction) z
-      by-test m false h = let z : _≡_ {A = ℕ} 0 1 = cc in absurd (omega arith)
-
-      go : (o : Option Match) → outcome filling line-test subject p i e d o ≡ some s → s .direction ≡ d
-      go (some m) h = by-test m (line-test e d (values-of filling m)) h
-      go none h = let z : _≡_ {A = ℕ} 0 1 = cc in absurd (omega arith)
-
-  pub step-possible : try filling line-test subject p (part-at subject p) i e d ≡ some s → Possible
-  step-possible h =
-      let (a, b, r) = try-some filling line-test subject p (part-at subject p) i e d s h in
-      let c = same-direction h in
-      record {
-        numbered = a;
-        directed = c;
-        placed = b;
-        found = r .found;
-        matches = subst (λ x. match (source e x) (part-at subject p) no-match ≡ some (r .found)) c (r .matches);
-        gives = r .gives ∙ ap₂ (λ q x. replace subject q (inst (values-of filling (r .found)) (target e x))) b c;
-      }
+use Rattle.stepping.specs.Theory.Steps.{Possible, step-possible}
 
 -- A variable of a term whose variables are below a number is below it.
 mutual
@@ -76,7 +41,7 @@ mutual
   have-below v nil b h = let z : _≡_ {A = ℕ} 0 1 = cc in absurd (omega arith)
   have-below v (cons t ts) b h = elim (either (has-variable v t) (have-variable v ts) h) [ inl x ↦ has-below v t (b .0) x | inr x ↦ have-below v ts (b .1) x ]
 
--- 2. The code matches the rule's source and puts the target's instance.
+-- The code matches the rule's source and puts the target's instance.
 module _ {equations lengths : List ℕ} {rule : ℕ} {arities nodes sizes : List ℕ} {node n i : ℕ} {e : Equation} {d : Direction} {subject : Term} {p : ℕ} {s : Step}
     (is : StepIs equations lengths rule arities nodes sizes node n i e d subject p s) where
   pub possible : Possible (filling arities) subject p i e d s

@@ -20,7 +20,7 @@ use Rattle.lines.specs.Contracts.Room.{lines-bytes}
 use Rattle.lines.specs.Theory.Resting.{count-there, bindings-there}
 use Rattle.lines.specs.Theory.InPlace.{slice-is}
 use Rattle.walking.specs.Contracts.Walking.{AllWellFormed}
-use Rattle.walking.proofs.Walking.{well-formed-length}
+use Rattle.walking.specs.Theory.Walking.{well-formed-length}
 use Rattle.stopping.specs.Contracts.Empty.{EmptyAt, AnyEmpty}
 
 -- 1. One line.

@@ -9,7 +9,7 @@ use native.Mathlib.Omega.{arith}
 use Rattle.format.specs.Limits.{variable-count, max-lines, max-turns}
 use Rattle.format.specs.Lists.{any}
 use Rattle.solving.specs.Line.{Line}
-use Rattle.solving.specs.Walk.{enough, solved, over-limit, opening}
+use Rattle.solving.specs.Walk.{enough, solved, over-limit}
 use Rattle.solving.specs.Turns.{table-after}
 use Rattle.solving.specs.Always.{is-empty, has-empty}
 use Rattle.solving.specs.Theory.Turns.{until-ends, same-table, Unstopped, walk-goes-on, walk-stops}
@@ -22,19 +22,12 @@ use Rattle.walking.specs.declared.walk.Advanced.{Advanced}
 use Rattle.walking.specs.declared.walk.Progress.{Progress}
 use Rattle.walking.specs.declared.walk.Progress.the-variants.{Going, Refused}
 use Rattle.walking.specs.Contracts.Walking.{Walking, left-to-do, GoesOn, Advances, AdvancesAs}
-use Rattle.walking.proofs.Walking.{ended}
+use Rattle.walking.specs.Theory.Walking.{ended}
 use Rattle.stopping.specs.Contracts.Empty.{AnyEmpty}
 use Rattle.stopping.specs.Contracts.Ends.{stop-test, stopping-walk, NoneEmpty, EndsAs, WalkEnds}
+use Rattle.stopping.specs.Theory.Stopping.{none-at-first}
 
--- 1. The first table has no empty line.
-pub none-at-first : (nodes sizes : List ℕ) (w : Walk) → w .turns ≡ 0 → NoneEmpty nodes sizes w
-unfolding table-after opening has-empty is-empty any
-none-at-first nodes sizes w z table c =
-    let x : table-after enough (view-of nodes sizes) over-limit variable-count (w .source) (w .target) 0 ≡ some table = ap (table-after enough (view-of nodes sizes) over-limit variable-count (w .source) (w .target)) (sym z) ∙ c in
-    let y : table ≡ opening variable-count (w .source) (w .target) = cc in
-    ap has-empty y
-
--- 2. The walk under way: nothing has stopped it so far.
+-- The walk under way: nothing has stopped it so far.
 pub record Underway (nodes sizes memory : List ℕ) (stops : Bool) (w v : Walk) : Type 0 where
   pub walking : Walking nodes sizes memory v
   pub none-empty : stops ≡ true → NoneEmpty nodes sizes v

@@ -6,7 +6,7 @@ use mathlib.Core.List.{List, [], _∷_, _++_, map}
 use native.Mathlib.Omega.{arith}
 use native.Mathlib.Decide.{ℕ-discrete}
 use native.Mathlib.Nat.{min-le-right}
-use lib.ListN.{length, getD, take, drop, length-map, length-take, length-drop}
+use lib.ListN.{length, getD, take, drop, length-take, length-drop}
 use lib.Seq.{take-suc, getD-drop}
 use Rattle.format.specs.Limits.{max-equations, max-lines, record-bytes}
 use Rattle.format.specs.declared.refusal.Refusal.{Refusal}
@@ -22,12 +22,11 @@ use Rattle.solver.specs.declared.positions.WalkResult.{WalkResult as Reported}
 use Rattle.solver.specs.Contracts.Reports.{LeavesEnd, Leaves}
 use Rattle.reducing.specs.Test.{EverySolves}
 use Rattle.reducing.specs.Contracts.Rules.{rule-number}
+use Rattle.reducing.specs.Theory.Rules.{RuleOf, rule-of, rule-low, rule-parts}
 use Rattle.rules.specs.Contracts.Rows.{RuleIs, RowsAre, HasRuleIn}
-use Rattle.rules.proofs.RowLaws.{row-start}
-use Rattle.rules.proofs.KeepLaws.{leaves-refused, sides-there}
-use Rattle.rules.proofs.WalkLaws.{RuleOf, rule-of, rule-low, rule-in}
-use Rattle.running.proofs.CourseLaws.{rule-parts}
 use Rattle.listing.specs.Listing.{table-kind, printed, two-bytes, table-frames, line-frame}
+use Rattle.rules.specs.Theory.Rows.{row-start, rule-in}
+use Rattle.rules.specs.Theory.Kept.{leaves-refused, sides-there}
 use Rattle.printing.specs.Contracts.Appended.{Appended}
 use Rattle.printing.specs.Theory.Printed.{printed-append, length-printed-one}
 use Rattle.printing.specs.Theory.Appended.{appended-none, appended-join, appended-text}
@@ -39,6 +38,7 @@ use Rattle.cursor.specs.Contracts.Stands.{LinesThere}
 use Rattle.cursor.specs.Theory.Rest.{rule-frames-are}
 use Rattle.tables.specs.Contracts.Table.{TableGiven, LinesGiven}
 use Rattle.tables.proofs.RecordLaws.{LineAt, line-at, record-there}
+use Rattle.tables.specs.Theory.Tables.{frames-count}
 
 -- What the walk of a rule ensures.
 abbrev LeavesRule : (equations lengths : List ℕ) (rule : ℕ) (memory : List ℕ) → Reported → Type 0
@@ -170,15 +170,6 @@ module _ {equations lengths : List ℕ} {rule k : ℕ} {scratch arities : List �
         → Appended before at (printed (line-frame e (line θ els) ∷ [])) after bytes)
         → Appended before at (printed (getD (rule-frames 0 es rule) (suc k) [] ∷ [])) after bytes
     line-printed p = appended-text (ap (λ f. printed (f ∷ [])) (sym frame-is)) (p (of-line .equation) (it .bindings) (it .elements) line-record)
-
--- A frame for the table, and one for each line.
-pub frames-count : {es : List Equation} {rule lines : ℕ} {scratch : List ℕ} → LinesThere es rule lines scratch → length (rule-frames 0 es rule) ≡ suc lines
-unfolding table-frames
-frames-count {es} {rule} l =
-    let o = rule-of es rule (l .low) in
-    let (ls, turns, x, y, z) = l .there (o .number) (o .equation) (o .direction) (o .numbered) (o .is) in
-    let fs = ap (rule-frames 0 es) (o .is) ∙ (rule-frames-are es (o .number) (o .direction) (o .numbered) ∙ ap (table-frames (o .number) (o .equation) (o .direction)) x) in
-    ap length fs ∙ omega (arith, length-map ls (line-frame (o .equation)))
 
 -- 3. The lines from `first` to line `k` are printed.
 module _ (equations lengths : List ℕ) (rule first lines : ℕ) (scratch before : List ℕ) where

@@ -19,8 +19,8 @@ use Rattle.judging.specs.declared.trimmed.Kept.{Kept}
 use Rattle.judging.specs.declared.trimmed.Kept.the-variants.{Full, End}
 use Rattle.judging.specs.Contracts.Trimmed.{RecordsAre, HasRecords, KeptAs}
 use Rattle.rules.specs.Contracts.Rows.{RuleIs, HasRuleIn}
-use Rattle.rules.proofs.KeepLaws.{leaves-refused, records-there}
-use Rattle.judged.proofs.JudgeLaws.{front-fits, front-kept}
+use Rattle.rules.specs.Theory.Kept.{leaves-refused, records-there}
+use Rattle.rules.specs.Theory.Front.{front-fits, front-kept}
 use Rattle.judgements.specs.Contracts.JudgeTask.{ValuesIn, HasValues}
 use Rattle.tasks.specs.Contracts.Task.{JudgementAt}
 

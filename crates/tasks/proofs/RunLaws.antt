@@ -14,11 +14,12 @@ use Rattle.terms.specs.Equation.{Equation}
 use Rattle.sheet.specs.Sheet.{run}
 use Rattle.reducing.specs.Run.{Step, ending-number}
 use Rattle.outcomes.specs.Outcome.{log-of}
+use Rattle.outcomes.specs.Theory.Outcomes.{length-log}
 use Rattle.running.specs.declared.course.Course.{Course}
 use Rattle.running.specs.Contracts.Course.{the-run, last-of}
-use Rattle.running.proofs.CourseLaws.{length-log}
-use Rattle.reductions.specs.Contracts.RunTerm.{LinesReady, RunCourse}
+use Rattle.reductions.specs.Contracts.RunTerm.{RunCourse}
 use Rattle.listing.specs.Listing.{printed, run-kind, step-frame, run-frames, task-frames}
+use Rattle.rules.specs.Contracts.Walks.{LinesReady}
 use Rattle.printing.specs.Contracts.Appended.{Appended}
 use Rattle.printing.specs.Theory.Printed.{printed-append}
 use Rattle.printing.specs.Theory.Appended.{appended-join, appended-text}

@@ -22,12 +22,13 @@ use Rattle.reading.specs.declared.seek.TaskFound.{TaskFound}
 use Rattle.reading.specs.declared.seek.TaskHead.the-variants.{Run, Judgement, Comparison}
 use Rattle.reading.specs.Contracts.Seek.{Accepts, TaskIn, TaskAt, Spans, task-terms}
 use Rattle.reading.specs.Theory.Found.{is-run, is-judgement, is-comparison}
-use Rattle.searching.proofs.NextLaws.{rule-below}
 use Rattle.rulewise.proofs.RulewiseLaws.{entry-solves}
 use Rattle.reducing.specs.Test.{holding-line, given-values}
-use Rattle.reductions.specs.Contracts.RunTerm.{LinesReady, RunTermIs, HasRunTerm}
+use Rattle.reducing.specs.Theory.Rules.{rule-below}
+use Rattle.reductions.specs.Contracts.RunTerm.{RunTermIs, HasRunTerm}
 use Rattle.comparisons.specs.Contracts.Comparison.{PairIn}
 use Rattle.listing.specs.Listing.{printed, judgement-frame, comparison-frame, holding, task-frames}
+use Rattle.rules.specs.Contracts.Walks.{LinesReady}
 use Rattle.printing.specs.Contracts.Appended.{Appended}
 use Rattle.printing.specs.Theory.Appended.{appended-text}
 use Rattle.cursor.specs.Contracts.Stands.{Ready}

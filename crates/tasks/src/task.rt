@@ -26,9 +26,10 @@ ghost use Rattle.sheet.specs.Sheet.{Task, Sheet, run};
 ghost use Rattle.scanning.specs.Contracts.Scan.{known-arities};
 ghost use Rattle.reducing.specs.Test.{EverySolves, holding-line, given-values};
 ghost use Rattle.listing.specs.Listing.{printed, judgement-frame};
+ghost use Rattle.rules.specs.Contracts.Walks.{LinesReady};
 ghost use Rattle.printing.specs.Contracts.Appended.{Appended};
 ghost use Rattle.frames.specs.Contracts.Room.{judgement-room, task-room};
-ghost use Rattle.reductions.specs.Contracts.RunTerm.{LinesReady, RunTermIs, HasRunTerm};
+ghost use Rattle.reductions.specs.Contracts.RunTerm.{RunTermIs, HasRunTerm};
 ghost use Rattle.cursor.specs.Contracts.Stands.{Ready};
 ghost use Rattle.tasks.specs.Contracts.Task.{TaskGiven, HasTask, JudgementAt, HasJudgementAt};
 

@@ -1,5 +1,5 @@
 -- The choices of an inequality: the bytes of their lines, how many there are, and how long.
-use Prim.Native.Nat.{ℕ, zero, suc, _+_, _*_, _≤_, _<_}
+use Prim.Native.Nat.{ℕ, zero, suc, _+_, _≤_, _<_}
 use mathlib.Core.Path.{_≡_, refl, ap, ap₂, _∙_}
 use mathlib.Core.List.{List, [], _∷_, _++_, map, append-assoc, append-nil}
 use lib.ListN.{length, length-append, length-map}
@@ -31,17 +31,6 @@ children-bytes bs pre post n (cs ∷ css) h =
     ap₂ _++_
     (child-bytes bs pre post cs ∙ ap (λ k. front-bytes bs (length pre + k + length post) pre ++ (marks cs ++ back-bytes (length pre + k + length post) post (length pre))) (h .0))
     (children-bytes bs pre post n css (h .1))
-
--- 2. How many choices there are, and how long.
-pub argument-long : (ss : List ℕ) (q : ℕ) → AllLong 1 (argument-choices ss q)
-unfolding argument-choices
-argument-long [] q = tt
-argument-long (s ∷ ss) q = (refl, (refl, argument-long ss q))
-
-pub argument-count : (ss : List ℕ) (q : ℕ) → length (argument-choices ss q) ≡ 2 * length ss
-unfolding argument-choices
-argument-count [] q = refl
-argument-count (s ∷ ss) q = omega (arith, argument-count ss q)
 
 pub exceeds-long : (p : ℕ) (ts : List ℕ) → length (exceeds-each p ts) ≡ length ts
 unfolding exceeds-each
@@ -83,7 +72,7 @@ lesser-right zero (suc n) h = absurd (omega arith)
 lesser-right (suc m) zero h = refl
 lesser-right (suc m) (suc n) h = ap suc (lesser-right m n (omega arith))
 
--- 3. The choices by the order of the symbols.
+-- 2. The choices by the order of the symbols.
 module _ (p q f g : ℕ) (ss ts : List ℕ) where
   pub choices-less : f < g → choices p q f g ss ts ≡ argument-choices ss q
   unfolding choices precedence-choices same-symbol-choices

@@ -25,7 +25,8 @@ use Rattle.unifying.specs.Theory.PrefixForm.{row-unique}
 use Rattle.lines.specs.Theory.Resting.{length-marks, length-resting, count-there, set-reduced}
 use Rattle.lines.specs.Theory.Placed.{placed-behind, placed-length}
 use Rattle.lines.specs.Theory.InPlace.{lines-append}
-use Rattle.treating.proofs.ChoiceLines.{child-bytes, children-bytes, argument-long, exceeds-long, lexicographic-long, lexicographic-count, lesser-le, choices-less, choices-more, choices-same}
+use Rattle.treating.proofs.ChoiceLines.{child-bytes, children-bytes, exceeds-long, lexicographic-long, lexicographic-count, lesser-le, choices-less, choices-more, choices-same}
+use Rattle.treating.specs.Theory.Choices.{argument-long}
 
 -- 1. How many choices come last.
 pub last-more : (f g m n : ℕ) → g < f → CountsLastChoices f g m n 1

@@ -1,15 +1,13 @@
 -- What an inequality asks for, by what stands at the positions reached.
 use Prim.Native.Nat.{ℕ, _-_, _≤_, _<_}
-use mathlib.Core.Path.{_≡_, refl, sym, ap, _∙_}
+use mathlib.Core.Path.{_≡_, refl, sym, _∙_}
 use mathlib.Core.Bool.{Bool, true, false}
-use mathlib.Core.Option.{Option, none, some}
-use mathlib.Core.List.{List, [], _∷_, map}
+use mathlib.Core.List.{List, [], _∷_}
 use lib.ListN.{length, getD}
-use native.Mathlib.Omega.{arith}
 use Rattle.format.specs.Limits.{first-variable}
 use Rattle.terms.specs.Position.{var-node, app-node}
-use Rattle.solving.specs.Line.{Bindings, Element, equal, greater, Line, line}
-use Rattle.solving.specs.Walk.{enough, reach, occurs, choices, Treatment, fully-reduced, unified, becomes, unify, treat-greater, treat}
+use Rattle.solving.specs.Line.{greater, line}
+use Rattle.solving.specs.Walk.{enough, reach, occurs, Treatment, fully-reduced, becomes, treat-greater, treat}
 use Rattle.solving.specs.Contracts.Within.{Within}
 use Rattle.lines.specs.declared.element.Relation.the-variants.{Equal, Greater}
 use Rattle.lines.specs.declared.element.Element.{Element as Held}
@@ -20,7 +18,7 @@ use Rattle.lines.specs.Theory.Element.{says-equal, says-greater}
 use Rattle.treating.specs.declared.treat.Treatment.the-variants.{Reduced, DropLine, DropElement, Unify, Split}
 use Rattle.unifying.specs.Contracts.PrefixForm.{view-of, arguments-of}
 use Rattle.unifying.specs.Contracts.Bindings.{bindings-of}
-use Rattle.treating.specs.Contracts.Treatment.{BothSymbols, Treated}
+use Rattle.treating.specs.Contracts.Treatment.{Treated}
 use Rattle.unifying.specs.Theory.PrefixForm.{symbol-there, variable-there}
 
 module _ (nodes sizes bs : List ℕ) (p q s : ℕ) (at-p : s ≡ reach enough (view-of nodes sizes) (bindings-of bs) p) where
@@ -43,11 +41,6 @@ module _ (nodes sizes bs : List ℕ) (p q s : ℕ) (at-p : s ≡ reach enough (v
     unfolding treat treat-greater
     right-variable f w ps d c o e = rw (sym at-p, sym at-q, d, c, e, treat-greater)
 
-    pub both-symbols : (f g : ℕ) (ps qs : List ℕ) → view-of nodes sizes s ≡ app-node f ps → view-of nodes sizes t ≡ app-node g qs
-        → treat enough (view-of nodes sizes) (bindings-of bs) (greater p q) ≡ becomes (map (line (bindings-of bs)) (choices p q f g ps qs))
-    unfolding treat treat-greater
-    both-symbols f g ps qs d e = rw (sym at-p, sym at-q, d, e, treat-greater)
-
     module _ (i : s < length nodes) (h : getD nodes s 0 < first-variable) (j : t < length nodes) where
       module _ (k : first-variable ≤ getD nodes t 0) (w : ℕ) (x : w ≡ getD nodes t 0 - first-variable) where
         pub right-drops : true ≡ occurs enough (view-of nodes sizes) (enough .occurs-depth) (bindings-of bs) w p → Treated nodes sizes bs (greater p q) DropElement
@@ -59,17 +52,6 @@ module _ (nodes sizes bs : List ℕ) (p q s : ℕ) (at-p : s ≡ reach enough (v
       pub splits : getD nodes t 0 < first-variable → Treated nodes sizes bs (greater p q) (Split (record { left = p; right = q }) (record { left = s; right = t }))
       splits k = record { asks = record { element = refl; left-reached = at-p; right-reached = at-q; left-within = i; right-within = j; left-symbol = h; right-symbol = k } }
 
--- What the choices are.
-pub split-becomes : {nodes sizes bs : List ℕ} {e : Element} {sides terms : Sides} → BothSymbols nodes sizes bs e sides terms
-    → treat enough (view-of nodes sizes) (bindings-of bs) e
-    ≡ becomes (map (line (bindings-of bs)) (choices (sides .left) (sides .right) (getD nodes (terms .left) 0) (getD nodes (terms .right) 0) (arguments-of sizes (terms .left)) (arguments-of sizes (terms .right))))
-split-becomes {nodes} {sizes} {bs} {e} {sides} {terms} b =
-    let s = terms .left in
-    let t = terms .right in
-    ap (treat enough (view-of nodes sizes) (bindings-of bs)) (b .element)
-    ∙ both-symbols nodes sizes bs (sides .left) (sides .right) s (b .left-reached) t (b .right-reached) (getD nodes s 0) (getD nodes t 0) (arguments-of sizes s) (arguments-of sizes t)
-    (symbol-there nodes sizes s (b .left-within) (b .left-symbol)) (symbol-there nodes sizes t (b .right-within) (b .right-symbol))
-
 -- What an element asks for, by its relation.
 module _ (e : Held) (p q : ℕ) (d : Sides) (x : d ≡ record { left = p; right = q }) where
   pub asks-unify : (nodes sizes bs : List ℕ) → e .relation ≡ Equal p q → Treated nodes sizes bs (meaning e) (Unify d)
@@ -80,31 +62,3 @@ module _ (e : Held) (p q : ℕ) (d : Sides) (x : d ≡ record { left = p; right 
 
   pub greater-within : (n : ℕ) → e .relation ≡ Greater p q → Within n (meaning e) → (d .left < n) × (d .right < n)
   greater-within n y w = let h : Within n (greater p q) = rw (says-greater e p q y) at w in rw x h
-
--- No equality is fully reduced.
-pub unified-not : (o : Option Bindings) → unified o ≡ fully-reduced → ⊥
-unfolding unified
-unified-not none d = let z : _≡_ {A = ℕ} 0 1 = cc in absurd (omega arith)
-unified-not (some θ) d = let z : _≡_ {A = ℕ} 0 1 = cc in absurd (omega arith)
-
-module _ (nodes sizes bs : List ℕ) (e : Element) (p q : ℕ) (d : e ≡ equal p q) where
-  unified-none : unify enough (view-of nodes sizes) (enough .unify-depth) (bindings-of bs) p q ≡ none → treat enough (view-of nodes sizes) (bindings-of bs) e ≡ becomes []
-  unfolding treat unified
-  unified-none x = ap (treat enough (view-of nodes sizes) (bindings-of bs)) d ∙ ap unified x
-
-  unified-some : (θ : Bindings) → unify enough (view-of nodes sizes) (enough .unify-depth) (bindings-of bs) p q ≡ some θ → treat enough (view-of nodes sizes) (bindings-of bs) e ≡ becomes (line θ [] ∷ [])
-  unfolding treat unified
-  unified-some θ x = ap (treat enough (view-of nodes sizes) (bindings-of bs)) d ∙ ap unified x
-
--- An element that is not fully reduced becomes some lines.
-pub asks-becomes : (nodes sizes bs : List ℕ) (e : Element) (t : Found) → Treated nodes sizes bs e t → (t ≡ Reduced → ⊥) → (ms : List Line) × (treat enough (view-of nodes sizes) (bindings-of bs) e ≡ becomes ms)
-asks-becomes nodes sizes bs e Reduced a n = absurd (n refl)
-asks-becomes nodes sizes bs e DropLine a n = ([], a .asks)
-asks-becomes nodes sizes bs e DropElement a n = (line (bindings-of bs) [] ∷ [], a .asks)
-asks-becomes nodes sizes bs e (Unify sides) a n = unifies (sides .left) (sides .right) (unify enough (view-of nodes sizes) (enough .unify-depth) (bindings-of bs) (sides .left) (sides .right)) (a .asks) refl
-  where
-    unifies : (p q : ℕ) (o : Option Bindings) → e ≡ equal p q → unify enough (view-of nodes sizes) (enough .unify-depth) (bindings-of bs) p q ≡ o
-        → (ms : List Line) × (treat enough (view-of nodes sizes) (bindings-of bs) e ≡ becomes ms)
-    unifies p q none d x = ([], unified-none nodes sizes bs e p q d x)
-    unifies p q (some θ) d x = (line θ [] ∷ [], unified-some nodes sizes bs e p q d θ x)
-asks-becomes nodes sizes bs e (Split sides terms) a n = (_, split-becomes (a .asks))

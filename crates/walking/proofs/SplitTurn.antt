@@ -28,10 +28,10 @@ use Rattle.treating.specs.Contracts.Splitting.{AllLong, LastChoices, HasChoices
 use Rattle.walking.specs.Contracts.Walking.{AllWellFormed, Treating, TreatingCount, GoesOn, Earns}
 use Rattle.unifying.specs.Theory.PrefixForm.{arguments-there}
 use Rattle.unifying.specs.Theory.Bindings.{readable-slots}
-use Rattle.treating.proofs.Treatment.{split-becomes}
+use Rattle.treating.specs.Theory.Choices.{argument-long, argument-count}
+use Rattle.treating.specs.Theory.Treatment.{split-becomes}
 use Rattle.walking.proofs.Turn.{around}
 use Rattle.walking.proofs.Walking.{first-there, well-formed-short, refused-elements, refused-lines, turned}
-use Rattle.treating.proofs.ChoiceLines.{argument-long, argument-count}
 use Rattle.walking.proofs.Children.{first-treated, children-lines, element-within, length-split, Fitting, children-well-formed, fitting-append, fitting-all, crowded-first}
 use Rattle.walking.proofs.Treating.{after-turn, few-elements}
 

@@ -36,9 +36,9 @@ use Rattle.treating.specs.declared.treat.Treatment.the-variants.{Reduced, DropL
 use Rattle.walking.specs.declared.walk.Walk.{Walk}
 use Rattle.treating.specs.Contracts.Treatment.{Treated}
 use Rattle.treating.specs.Contracts.Children.{child}
+use Rattle.treating.specs.Theory.Treatment.{unified-not, asks-becomes}
 use Rattle.walking.specs.Contracts.WellFormed.{KnownReduced, WellFormed}
 use Rattle.walking.specs.Contracts.Walking.{Finishing, Treating, TreatingLine, TreatingCount, GoesOn, Earns}
-use Rattle.treating.proofs.Treatment.{unified-not, asks-becomes}
 use Rattle.walking.proofs.Turn.{around}
 use Rattle.walking.proofs.Walking.{first-there, first-bindings, refused-turns, turned, finished-on}
 use Rattle.walking.proofs.Children.{first-treated, children-lines, element-within, length-split, child-well-formed, rebound-well-formed}

@@ -50,11 +50,6 @@ module _ (view : ℕ → Node) where
   finished-append [] gs h k = k
   finished-append (f ∷ fs) gs h k = (h .0, finished-append fs gs (h .1) k)
 
-  pub turn-none : (fs : List Line) → AllFinished view fs → turn enough view fs ≡ none
-  unfolding turn
-  turn-none [] h = refl
-  turn-none (f ∷ fs) h = rw (h .0 .nothing-left, turn-none fs (h .1), turn)
-
   pub turn-some : (fs : List Line) (l : Line) (ls new : List Line) → AllFinished view fs → treat-line enough view l ≡ some new → turn enough view (fs ++ (l ∷ ls)) ≡ some (fs ++ (new ++ ls))
   unfolding turn
   turn-some [] l ls new h x = rw (x, turn)

@@ -2,7 +2,7 @@
 use Prim.Native.Nat.{ℕ, suc, _+_, _-_, _*_, _≤_, _<_}
 use mathlib.Core.Path.{_≡_, refl, sym, ap, _∙_}
 use mathlib.Core.Bool.{Bool, true, false, _||_}
-use mathlib.Core.Option.{none, some}
+use mathlib.Core.Option.{some}
 use mathlib.Core.List.{List, [], _∷_, _++_, map, map-append, append-assoc, append-nil}
 use lib.ListN.{length, take, drop, length-append, length-map}
 use lib.Seq.{slice, take-append-le, take-take, drop-at, take-at, drop-drop, length-take-le}
@@ -23,15 +23,16 @@ use Rattle.unifying.specs.Contracts.Bindings.{bindings-of}
 use Rattle.lines.specs.Contracts.Resting.{RestingLine, line-of, resting-bytes}
 use Rattle.lines.specs.Contracts.Layout.{line-bytes, placed}
 use Rattle.lines.specs.Contracts.Room.{lines-bytes}
-use Rattle.walking.specs.Contracts.WellFormed.{KnownReduced, WellFormed}
-use Rattle.walking.specs.Contracts.Walking.{AllWellFormed, HoldsTable, table-reached, Walking, GoesOn, Earns}
+use Rattle.walking.specs.Contracts.WellFormed.{KnownReduced}
+use Rattle.walking.specs.Contracts.Walking.{AllWellFormed, HoldsTable, table-reached, GoesOn, Earns}
 use Rattle.solving.specs.Theory.Turns.{until-too-long, until-over, after-turn, same-table}
 use Rattle.solving.specs.Theory.Records.{length-record-of}
 use Rattle.unifying.specs.Theory.Bindings.{length-bindings, readable-slots}
 use Rattle.lines.specs.Theory.Placed.{placed-length, placed-back, drop-placed}
 use Rattle.lines.specs.Theory.InPlace.{slice-is, lines-append}
-use Rattle.lines.specs.Theory.Resting.{bindings-there, length-resting}
-use Rattle.walking.proofs.Turn.{Settled, leftmost-none, finished-append, turn-none, turn-some, short-append, finished-short, crowded-middle, over-elements, over-lines, within-limits}
+use Rattle.lines.specs.Theory.Resting.{bindings-there}
+use Rattle.walking.proofs.Turn.{Settled, leftmost-none, finished-append, turn-some, short-append, finished-short, crowded-middle, over-elements, over-lines, within-limits}
+use Rattle.walking.specs.Theory.Walking.{well-formed-length}
 
 -- 1. Parts of a buffer.
 pub placed-front : (k at : ℕ) (part buffer : List ℕ) → k ≤ at → at ≤ length buffer → take k (placed at part buffer) ≡ take k buffer
@@ -39,10 +40,6 @@ unfolding placed
 placed-front k at part buffer h l =
     let e = length-take-le at buffer l in
     take-append-le k (take at buffer) (part ++ drop (at + length part) buffer) (omega arith) ∙ take-take k at buffer h
-
--- 2. The stack of unfinished lines.
-pub well-formed-length : {nodes sizes : List ℕ} (l : RestingLine) → WellFormed nodes sizes l → length (resting-bytes l) ≡ line-bytes
-well-formed-length l s = length-resting l (readable-slots (s .readable)) (s .few)
 
 pub length-lines : (nodes sizes : List ℕ) (ls : List RestingLine) → AllWellFormed nodes sizes ls → length (lines-bytes ls) ≡ length ls * line-bytes
 unfolding lines-bytes
@@ -125,7 +122,7 @@ only-middle has xs l ys zs h =
     let (a, b) = no-line-had has xs l zs h in
     any-append has xs (ys ++ zs) ∙ (rw a (any-append has ys zs) ∙ (ap (any has ys ||_) b ∙ or-false (any has ys)))
 
--- 4. The walk goes on from the new table, or is refused.
+-- 2. The walk goes on from the new table, or is refused.
 module _ (nodes sizes memory : List ℕ) (w : Walk) (finished : List Line) (first : RestingLine) (others : List RestingLine) (m : HoldsTable nodes sizes memory (w .done) (w .top) finished (first ∷ others))
     (comes : table-reached nodes sizes w ≡ some (finished ++ map line-of (first ∷ others))) where
   abbrev view : ℕ → Node
@@ -211,7 +208,7 @@ module _ (nodes sizes memory : List ℕ) (w : Walk) (finished : List Line) (firs
             only-new = turned-new;
           }
 
--- 5. The line is finished.
+-- 3. The line is finished.
 pub settled : (nodes sizes bs : List ℕ) (es : List Element) → KnownReduced nodes sizes bs es → Settled (view-of nodes sizes) (bindings-of bs) es
 settled nodes sizes bs [] h = tt
 settled nodes sizes bs (e ∷ es) h = (h .0, settled nodes sizes bs es (h .1))
@@ -278,22 +275,3 @@ module _ (nodes sizes memory : List ℕ) (w : Walk) (finished : List Line) (firs
         only-new = λ has before. let z : w .top + 1 - (w .top + 1) ≡ 0 = omega arith in
             ap (any has) same-lines ∙ (before _ comes ∙ ap (λ n. any has (map line-of (take n others))) (sym z));
       }
-
--- 6. Where no line is left the walk has ended, and what it ended with stands in the memory.
-pub record EndedWith (nodes sizes memory : List ℕ) (w : Walk) (table : List Line) : Type 0 where
-  pub comes : table-reached nodes sizes w ≡ some table
-  pub no-turn : turn enough (view-of nodes sizes) table ≡ none
-  pub count-is : length table ≡ w .done
-  pub records-are : take (w .done * record-bytes) memory ≡ records table
-
-pub ended : (nodes sizes memory : List ℕ) (w : Walk) (k : Walking nodes sizes memory w) → max-lines ≤ w .top → EndedWith nodes sizes memory w (k .finished)
-ended nodes sizes memory w k h = go (k .unfinished) refl
-  where
-    go : (ls : List RestingLine) → k .unfinished ≡ ls → EndedWith nodes sizes memory w (k .finished)
-    go [] e = record {
-      comes = k .comes ∙ ap some (ap (λ l. k .finished ++ map line-of l) e ∙ append-nil (k .finished));
-      no-turn = turn-none (view-of nodes sizes) (k .finished) (k .holds .all-finished);
-      count-is = k .holds .done-is;
-      records-are = k .holds .records-are;
-    }
-    go (l ∷ ls) e = absurd (omega (arith, k .holds .top-is, ap length e))

@@ -4,16 +4,15 @@ use mathlib.Core.Path.{_≡_}
 use mathlib.Core.Bool.{Bool, true, false}
 use mathlib.Core.Option.{none, some}
 use mathlib.Core.List.{List}
-use lib.ListN.{getD}
 use Rattle.format.specs.Limits.{position-count}
-use Rattle.terms.specs.Term.{Term, var, size}
-use Rattle.terms.specs.Position.{subterms}
+use Rattle.terms.specs.Term.{Term, size}
 use Rattle.terms.specs.Equation.{Equation, Direction, source}
 use Rattle.terms.specs.Contracts.Stored.{SubjectIs}
 use Rattle.solving.specs.Line.{Line}
 use Rattle.reducing.specs.Match.{Match, no-match, match, values-of}
 use Rattle.reducing.specs.Run.{Step, try}
 use Rattle.reducing.specs.Test.{line-test}
+use Rattle.reducing.specs.Contracts.Part.{part-at}
 use Rattle.comparing.specs.Contracts.Cells.{SettledCells}
 use Rattle.matching.specs.Contracts.Matching.{MatchIs}
 use Rattle.judging.specs.declared.trimmed.KeptLines.{KeptLines}
@@ -24,10 +23,6 @@ use Rattle.rules.specs.Contracts.Lines.{RuleLines, LinesAt}
 pub record Settled (nodes lengths ready cells : List ℕ) : Type 0 where
   pub values : List ℕ
   pub are : SettledCells nodes lengths values ready cells
-
--- The part of the subject at position `p`.
-abbrev pub part-at : Term → ℕ → Term
-part-at subject p = getD (subterms subject) p (var 0)
 
 -- The rule can step at position `p`, or cannot.
 pub record Applies (filling subject : Term) (p i : ℕ) (e : Equation) (d : Direction) (r : Bool) : Type 0 where

@@ -28,7 +28,7 @@ use Rattle.comparing.specs.Contracts.Nodes.{ValueOf, GroundAt, RowDenotes, more
 use Rattle.comparing.specs.Theory.Nodes.{ground-denotes}
 use Rattle.comparing.specs.Theory.Stored.{TermStored, TermsStored, stored-denotes, stored-row-subterm, ground-row-denotes}
 use Rattle.solver.specs.Theory.Equation.{sides, sides-spelled}
-use Rattle.comparing.proofs.Resolved.{resolved-variable}
+use Rattle.comparing.specs.Theory.Resolved.{resolved-variable}
 use Rattle.judging.specs.Contracts.Holding.{InstanceAt, BindingTestable, BindingsTestable, ElementsTestable, LinesTestable}
 use Rattle.rules.specs.Contracts.Lines.{VariableAt, HaveVariable, AllHaveVariable, ProperLines}
 

@@ -17,13 +17,14 @@ use Rattle.sheet.specs.Contracts.Valid.{ValidTask}
 use Rattle.sheet.specs.Theory.Accepted.{accepted-valid}
 use Rattle.reducing.specs.Test.{reference-run, EverySolves}
 use Rattle.reducing.specs.Theory.Reference.{run-is-reference-run, run-descending}
+use Rattle.reducing.specs.Walks.{WalkRefusal, first-refusal}
 use Rattle.outcomes.specs.Buffer.{refusal-byte}
-use Rattle.outcomes.specs.Asked.{found, find, asked, Reduction, reduction-in, reduction-task, WalkRefusal, first-refusal}
+use Rattle.outcomes.specs.Asked.{found, find, asked, Reduction, reduction-in, reduction-task}
 use Rattle.outcomes.specs.Outcome.{run-fits, run-done, run-walked, run-answer, run-call}
 use Rattle.outcomes.specs.Theory.Number.{fields-byte, refused-byte, refused-not-zero}
 use Rattle.calls.specs.Demands.{RunNamed, RunDemand, RunsDemanded, RunsAreReferenceRuns, RunServes, ServedOrHost, RunRefusedByHost}
 use Rattle.calls.specs.Theory.Walks.{accepted-limits}
-use Rattle.outcomes.specs.Theory.Walks.{none-refused, every-solves}
+use Rattle.reducing.specs.Theory.Walks.{none-refused, every-solves}
 
 abbrev pub the-reduction : {sheet : List ℕ} {task : ℕ} → RunNamed sheet task → Reduction
 the-reduction n = record { filling = filling (n .content .arities); equations = n .content .equations; limit = n .limit; subject = n .subject }

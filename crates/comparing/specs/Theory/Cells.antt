@@ -4,8 +4,9 @@ use mathlib.Core.Path.{_≡_, refl, sym, ap, _∙_}
 use mathlib.Core.Logic.{_⊎_, inl, inr}
 use mathlib.Core.List.{List, [], _∷_}
 use native.Mathlib.Omega.{arith}
-use native.Mathlib.Decide.{decLt}
-use lib.ListN.{length, getD, replicate}
+use native.Mathlib.Decide.{decLt, ℕ-discrete}
+use lib.ListN.{length, getD, replicate, set, length-set}
+use lib.Seq.{getD-set-same, getD-set-other}
 use Rattle.format.specs.Limits.{position-count, first-variable, variable-count, node-count, row-cells, cell-count}
 use Rattle.format.specs.Byte.{class-of}
 use Rattle.format.specs.Theory.Byte.{class-variable}
@@ -97,3 +98,48 @@ zero-bytes (suc n) (suc i) = zero-bytes n i
 pub symbols-zero : (n : ℕ) → AllSymbols (replicate n 0)
 unfolding AllSymbols
 symbols-zero n i = omega (arith, zero-bytes n i)
+
+pub cleared-none : (cells : List ℕ) (from : ℕ) → Cleared cells from from cells
+cleared-none cells from = record { same-length = refl; inside = λ k h l. absurd (omega arith); below = λ k h. refl; above = λ k h. refl }
+
+pub cleared-more : {before after : List ℕ} {from at : ℕ} → Cleared before from at after → from ≤ at → at < length before → Cleared before from (at + 1) (set after at 0)
+cleared-more {before} {after} {from} {at} c h l = record {
+  same-length = length-set after at 0 ∙ c .same-length;
+  inside = λ k a b. elim (ℕ-discrete k at) [
+    | yes e ↦ rw e (getD-set-same after at 0 0 (omega (arith, c .same-length)))
+    | no e ↦ getD-set-other after at k 0 0 e ∙ c .inside k a (omega arith)
+  ];
+  below = λ k a. getD-set-other after at k 0 0 (λ e. omega arith) ∙ c .below k a;
+  above = λ k a. getD-set-other after at k 0 0 (λ e. omega arith) ∙ c .above k (omega arith);
+}
+
+module _ {nodes lengths values ready cells : List ℕ} (x : SettledCells nodes lengths values ready cells) where
+  -- A cell that is not 0 says what is settled.
+  pub cell-settles : {i j : ℕ} {s t : Term} → 0 < getD ready i 0 → position-count ≤ j → 0 < getD cells (i * row-cells + j) 0 → TermAt nodes lengths values i s
+      → TermAt nodes lengths values j t → Settles (getD cells (i * row-cells + j) 0) s t
+  cell-settles {i} {j} {s} {t} o l h a b = elim (x .settled i j s t o l a b) [ inl e ↦ absurd (omega arith) | inr e ↦ e ]
+
+  pub cell-put : {i j w : ℕ} → i < node-count → j < node-count → ((s t : Term) → TermAt nodes lengths values i s → TermAt nodes lengths values j t → Settles w s t)
+      → SettledCells nodes lengths values ready (set cells (i * row-cells + j) w)
+  cell-put {i} {j} {w} h k c = record {
+    nodes-length = x .nodes-length;
+    sizes-length = x .sizes-length;
+    values-length = x .values-length;
+    ready-length = x .ready-length;
+    cells-length = length-set cells (i * row-cells + j) w ∙ x .cells-length;
+    symbols = x .symbols;
+    settled = settled;
+  }
+    where
+      settled : (p q : ℕ) (s t : Term) → 0 < getD ready p 0 → position-count ≤ q → TermAt nodes lengths values p s → TermAt nodes lengths values q t
+          → (getD (set cells (i * row-cells + j) w) (p * row-cells + q) 0 ≡ 0) ⊎ Settles (getD (set cells (i * row-cells + j) w) (p * row-cells + q) 0) s t
+      settled p q s t o l a b = elim (ℕ-discrete (p * row-cells + q) (i * row-cells + j)) [
+        | yes e ↦
+            let u = within a in
+            let v = within b in
+            let d : p ≡ i = omega arith in
+            let f : q ≡ j = omega arith in
+            let z : i * row-cells + j < length cells = omega (arith, x .cells-length) in
+            inr (rw (e, getD-set-same cells (i * row-cells + j) w 0 z) (c s t (rw d at a) (rw f at b)))
+        | no e ↦ rw (getD-set-other cells (i * row-cells + j) (p * row-cells + q) w 0 e) (x .settled p q s t o l a b)
+      ]

@@ -18,7 +18,7 @@ use Rattle.solving.specs.Walk.{solved, solve}
 use Rattle.reducing.specs.Test.{EverySolves}
 use Rattle.reducing.specs.Contracts.Rules.{rule-number}
 use Rattle.rules.specs.Contracts.Rows.{RowsAre, bound-count}
-use Rattle.reductions.specs.Contracts.RunTerm.{LinesReady}
+use Rattle.rules.specs.Contracts.Walks.{LinesReady}
 use Rattle.cursor.specs.declared.place.Place.{Place}
 use Rattle.cursor.specs.declared.place.Listed.{Listed}
 use Rattle.cursor.specs.declared.place.Place.the-variants.{Start, Table, Line as LinePlace, Task, End}

@@ -16,7 +16,7 @@ use Rattle.sheet.specs.Reading.{refused-at, accepted, read}
 use Rattle.solving.specs.Walk.{solve}
 use Rattle.reducing.specs.Contracts.Rules.{rule-number}
 use Rattle.reducing.specs.Test.{line-run}
-use Rattle.outcomes.specs.Asked.{WalkRefusal, first-refusal}
+use Rattle.reducing.specs.Walks.{WalkRefusal, first-refusal}
 use Rattle.listing.specs.Listing.{printed, two-bytes, total-kind, table-frames, equation-frames, task-frames, steps-taken, sheet-frames, walked-frames, refusal-frame, frames, listing}
 use Rattle.cursor.specs.declared.place.Place.{Place}
 use Rattle.cursor.specs.declared.place.Place.the-variants.{Start, Table, Line, Task as TaskPlace, End}

@@ -14,9 +14,9 @@ use Rattle.solving.specs.Line.{Line}
 use Rattle.solving.specs.Walk.{solved, solve}
 use Rattle.reducing.specs.Test.{given-values}
 use Rattle.reducing.specs.Contracts.Rules.{rule-number}
+use Rattle.reducing.specs.Walks.{equation-line, first-refusal}
 use Rattle.judging.specs.declared.trimmed.KeptLines.{KeptLines}
 use Rattle.loading.specs.Contracts.Loading.{Loaded}
-use Rattle.outcomes.specs.Asked.{equation-line, first-refusal}
 use Rattle.judged.specs.declared.judge.Judged.{Judged}
 use Rattle.judged.specs.declared.judge.Judged.the-variants.{Refused, End}
 use Rattle.rules.specs.Contracts.Rows.{RuleIs}

@@ -18,8 +18,8 @@ use Rattle.solving.specs.Line.{Line}
 use Rattle.solving.specs.Walk.{solved, solve}
 use Rattle.reducing.specs.Test.{holding-line}
 use Rattle.reducing.specs.Contracts.Rules.{rule-number}
+use Rattle.reducing.specs.Walks.{equation-line}
 use Rattle.outcomes.specs.Buffer.{refusal-number}
-use Rattle.outcomes.specs.Asked.{equation-line}
 use Rattle.outcomes.specs.Outcome.{judge-fields}
 use Rattle.judged.specs.declared.judge.Judged.{Judged}
 use Rattle.judged.specs.declared.judge.Judged.the-variants.{Refused, End}

@@ -7,6 +7,7 @@ use lib.Seq.{slice, slice-empty, paste, paste-zero, paste-suc, length-paste, len
 use native.Mathlib.Nat.{add-zero, zero-add, suc-add}
 use native.Mathlib.Numerals.{add-one}
 use native.Mathlib.Omega.{arith}
+use Rattle.format.specs.Theory.Parts.{part-slice}
 use Rattle.lines.specs.Contracts.Layout.{line-bytes, placed}
 use Rattle.lines.specs.Contracts.Room.{Gap}
 
@@ -193,3 +194,7 @@ drop-placed k at part buffer l h =
     ∙ (ap (drop (length part + j)) (placed-back at part buffer l)
     ∙ (drop-append-add part (drop (at + length part) buffer) j
     ∙ (drop-drop j (at + length part) buffer ∙ ap (λ n. drop n buffer) (sym d)))))
+
+module _ (at : ℕ) (part buffer : List ℕ) (room : at + length part ≤ length buffer) where
+  pub slice-placed : slice at (at + length part) (placed at part buffer) ≡ part
+  slice-placed = part-slice at (placed at part buffer) part (drop (at + length part) buffer) (placed-back at part buffer (omega arith)) (omega (arith, placed-length at part buffer room))

@@ -1,6 +1,6 @@
 -- What a step is: an equation of the list matches a part of the subject by values that pass the test, and the part is replaced.
 use Prim.Native.Nat.{ℕ, suc, _+_, _<_}
-use mathlib.Core.Path.{_≡_, refl, subst}
+use mathlib.Core.Path.{_≡_, refl, subst, ap, _∙_}
 use mathlib.Core.Bool.{Bool, true, false}
 use mathlib.Core.Logic.{_⊎_, inl, inr}
 use mathlib.Core.Option.{Option, none, some}
@@ -14,6 +14,8 @@ use Rattle.terms.specs.Equation.{Equation, Direction, left-right, right-left, s
 use Rattle.terms.specs.Theory.Position.{length-subterms}
 use Rattle.reducing.specs.Match.{Match, no-match, match, values-of}
 use Rattle.reducing.specs.Run.{Step, try, try-equations, try-positions, step}
+use Rattle.reducing.specs.Test.{line-test}
+use Rattle.reducing.specs.Contracts.Part.{part-at}
 
 -- The first answer of two.
 abbrev pub or-else : Option Step → Option Step → Option Step
@@ -130,3 +132,7 @@ module _ (filling : Term) (test : Equation → Direction → Values → Bool) wh
         let (i, l, a, e, b, r) = try-positions-some 0 (subterms subject) h in
         let z : i ≡ s .position = omega arith in
         record { chosen = e; numbered = b; inside = omega (arith, length-subterms subject); rewrites = subst (λ q. Rewrites e subject (getD (subterms subject) q (var 0)) s) z r }
+
+module _ (filling subject : Term) (p i : ℕ) (e : Equation) (d : Direction) where
+  pub none-matches : match (source e d) (part-at subject p) no-match ≡ none → try filling line-test subject p (part-at subject p) i e d ≡ none
+  none-matches x = try-is filling line-test subject p (part-at subject p) i e d ∙ ap (outcome filling line-test subject p i e d) x

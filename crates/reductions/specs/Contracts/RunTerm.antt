@@ -1,7 +1,7 @@
 -- The run of a task's term: what it starts from, and what it gives.
 use Prim.Native.Nat.{ℕ, _≤_}
 use mathlib.Core.Path.{_≡_}
-use mathlib.Core.Bool.{Bool, true, false}
+use mathlib.Core.Bool.{Bool}
 use mathlib.Core.List.{List}
 use lib.ListN.{length}
 use Rattle.format.specs.Limits.{max-task-nodes, max-steps}
@@ -14,18 +14,12 @@ use Rattle.scanning.specs.Contracts.Scan.{known-arities}
 use Rattle.scanning.specs.Contracts.Known.{Roomy}
 use Rattle.loading.specs.Contracts.Loading.{TermsIn}
 use Rattle.reducing.specs.Run.{ending-number}
-use Rattle.reducing.specs.Test.{EverySolves}
 use Rattle.outcomes.specs.Buffer.{fields}
 use Rattle.outcomes.specs.Outcome.{log-of}
 use Rattle.rules.specs.Contracts.Rows.{RowsAre, bound-count}
-use Rattle.rules.specs.Contracts.Walks.{RulesAt}
+use Rattle.rules.specs.Contracts.Walks.{LinesReady}
 use Rattle.running.specs.declared.course.Course.{Course}
 use Rattle.running.specs.Contracts.Course.{the-run, last-of}
-
--- All rules solve; where their lines fit the table together they are kept there.
-abbrev pub LinesReady : Bool → (bounds table : List ℕ) → List Equation → Type 0
-LinesReady true bounds table es = RulesAt bounds table es
-LinesReady false bounds table es = EverySolves es
 
 -- The term of a run, and the equations in their rows.
 module _ (sheet : List ℕ) (known : Known) (from end : ℕ) (equations lengths bounds : List ℕ) where

@@ -3,6 +3,7 @@ use Prim.Native.Nat.{ℕ, suc, _+_, _≤_, _<_}
 use mathlib.Core.Path.{_≡_}
 use mathlib.Core.Option.{none, some}
 use mathlib.Core.List.{List}
+use mathlib.Core.Bool.{Bool, true, false}
 use lib.ListN.{length, getD, drop}
 use Rattle.format.specs.Limits.{table-bytes}
 use Rattle.format.specs.Lists.{entry}
@@ -12,8 +13,8 @@ use Rattle.solving.specs.Walk.{refused, solve, Solves}
 use Rattle.lines.specs.Contracts.Layout.{placed}
 use Rattle.reducing.specs.Test.{EverySolves}
 use Rattle.reducing.specs.Contracts.Rules.{rule-number}
+use Rattle.reducing.specs.Walks.{equation-line, first-refusal}
 use Rattle.judging.specs.Contracts.Trimmed.{trimmed-lines}
-use Rattle.outcomes.specs.Asked.{equation-line, first-refusal}
 use Rattle.rules.specs.declared.keep.RuleKept.{RuleKept}
 use Rattle.rules.specs.declared.keep.RuleKept.the-variants.{Refused, Full, End}
 use Rattle.rules.specs.declared.walks.Walks.{Walks}
@@ -41,3 +42,8 @@ abbrev pub WalksAs : List Equation → (bounds table : List ℕ) → Walks → T
 WalksAs es bounds table (Unsolved why number) = first-refusal 0 es ≡ some (record { refusal = why; line = equation-line number })
 WalksAs es bounds table TooMany = (first-refusal 0 es ≡ none) × EverySolves es
 WalksAs es bounds table Kept = (first-refusal 0 es ≡ none) × EverySolves es × RulesAt bounds table es
+
+-- All rules solve; where their lines fit the table together they are kept there.
+abbrev pub LinesReady : Bool → (bounds table : List ℕ) → List Equation → Type 0
+LinesReady true bounds table es = RulesAt bounds table es
+LinesReady false bounds table es = EverySolves es

@@ -15,10 +15,10 @@ use Rattle.solving.specs.Walk.{Solves}
 use Rattle.reducing.specs.Match.{no-match, match}
 use Rattle.reducing.specs.Run.{Step, try}
 use Rattle.reducing.specs.Test.{line-test, EverySolves}
+use Rattle.reducing.specs.Contracts.Part.{part-at}
 use Rattle.judging.specs.declared.trimmed.KeptLines.{KeptLines}
 use Rattle.rules.specs.Contracts.Rows.{RuleIs, RowsAre, SideIs}
 use Rattle.rules.specs.Contracts.Lines.{RuleLines, LinesAt}
-use Rattle.applying.specs.Contracts.Trying.{part-at}
 
 -- Before node `r` the side matches no part of the subject.
 pub record MatchesFrom (s subject : Term) (end r : ℕ) : Type 0 where

@@ -6,10 +6,10 @@ use mathlib.Core.List.{List}
 use Rattle.terms.specs.Term.{Term}
 use Rattle.terms.specs.Equation.{Equation}
 use Rattle.sheet.specs.Sheet.{run}
+use Rattle.reducing.specs.Walks.{equation-line}
 use Rattle.scanning.specs.declared.known.Known.{Known}
 use Rattle.reading.specs.Contracts.Seek.{Accepts, TaskIn, Spans, task-terms}
 use Rattle.outcomes.specs.Buffer.{refusal-number}
-use Rattle.outcomes.specs.Asked.{equation-line}
 use Rattle.rules.specs.Contracts.Walks.{WalksAs}
 use Rattle.rules.specs.declared.walks.Walks.{Walks}
 use Rattle.rules.specs.declared.walks.Walks.the-variants.{Refused, Full, Kept}

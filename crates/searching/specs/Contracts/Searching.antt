@@ -11,9 +11,9 @@ use Rattle.terms.specs.Equation.{Equation, Direction}
 use Rattle.reducing.specs.Run.{Step, try, step}
 use Rattle.reducing.specs.Test.{line-test}
 use Rattle.reducing.specs.Contracts.Rules.{rule-number}
+use Rattle.reducing.specs.Contracts.Part.{part-at}
 use Rattle.searching.specs.declared.positions.Found.{Found}
 use Rattle.searching.specs.declared.positions.Found.the-variants.{Nothing, Step as StepFound}
-use Rattle.applying.specs.Contracts.Trying.{part-at}
 
 -- The first rule that can step at a node; `rules` if there is none.
 pub record FirstRule (arities : List ℕ) (es : List Equation) (subject : Term) (rules node r : ℕ) : Type 0 where

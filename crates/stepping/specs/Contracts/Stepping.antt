@@ -10,8 +10,8 @@ use Rattle.terms.specs.Equation.{Equation, Direction}
 use Rattle.terms.specs.Contracts.Stored.{SubjectIs}
 use Rattle.reducing.specs.Run.{Step, try}
 use Rattle.reducing.specs.Test.{line-test}
+use Rattle.reducing.specs.Contracts.Part.{part-at}
 use Rattle.rules.specs.Contracts.Rows.{RuleIs}
-use Rattle.applying.specs.Contracts.Trying.{part-at}
 
 -- A step that is possible: the rule at the node of position `p` of a subject of `n` nodes.
 module _ (equations lengths : List ℕ) (rule : ℕ) (arities nodes sizes : List ℕ) (node n : ℕ) where

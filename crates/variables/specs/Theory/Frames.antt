@@ -16,7 +16,7 @@ use Rattle.sheet.specs.Reading.{Reading, refused-at, accepted}
 use Rattle.solving.specs.Line.{Bindings, Line, line}
 use Rattle.solving.specs.Walk.{Walked, solved, refused, solve-with}
 use Rattle.reducing.specs.Test.{given-values}
-use Rattle.outcomes.specs.Asked.{WalkRefusal, equation-line, first-refusal-with}
+use Rattle.reducing.specs.Walks.{WalkRefusal, equation-line, first-refusal-with}
 use Rattle.listing.specs.Listing.{two-bytes, binding-count, binding-terms, element-terms, line-frame, table-frames, run-frames, judgement-frame, table-kind, line-kind, total-kind, equation-frames-with, holding-with, task-frames-with, steps-taken-with, sheet-frames-with, walked-frames-with, frames-with}
 use Rattle.variables.specs.Theory.Padded.{padded, padded-line, padded-table, padded-walk}
 use Rattle.variables.specs.Theory.Few.{Few}

@@ -4,11 +4,12 @@ use borrow.Author.Needs.{needs}
 use Rattle.terms.specs.Equation.{source}
 use Rattle.terms.specs.Filling.{filling}
 use Rattle.reducing.specs.Match.{no-match, match}
-use Rattle.applying.specs.Contracts.Trying.{part-at}
-use Rattle.applying.proofs.MatchLaws.{side-part, matched-none, matched-some}
+use Rattle.reducing.specs.Contracts.Part.{part-at}
+use Rattle.applying.proofs.MatchLaws.{matched-none, matched-some}
 use Rattle.applying.proofs.TryLaws.{applies-told, applies-not}
 use Rattle.applying.proofs.applies.applies.Statement.{statement}
 use Rattle.applying.proofs.applies.applies.Tie as tie
+use Rattle.applying.specs.Theory.Parts.{side-part}
 
 sides-of-requires : tie.Need-sides-of-requires
 sides-of-requires c κs = let has = c .before .before .before .before .before .before .pre .0 in record { equations = _; arities = _; number = _; equation = _; direction = _; is = has .is .rule-is }

@@ -5,7 +5,7 @@ use mathlib.Core.Path.{_≡_, subst}
 use borrow.Author.Needs.{needs}
 use Rattle.format.specs.Limits.{position-count}
 use Rattle.comparing.specs.Contracts.Cells.{Cleared}
-use Rattle.comparing.proofs.Ready.{cleared-none, cleared-more}
+use Rattle.comparing.specs.Theory.Cells.{cleared-none, cleared-more}
 use Rattle.applying.proofs.applies.forget_rows.Statement.{statement}
 use Rattle.applying.proofs.applies.forget_rows.Tie as tie
 

@@ -4,10 +4,11 @@ use borrow.Author.Needs.{needs}
 use Rattle.terms.specs.Equation.{value}
 use Rattle.terms.specs.Filling.{filling}
 use Rattle.reducing.specs.Match.{values-of}
-use Rattle.rules.proofs.RowLaws.{rule-row}
-use Rattle.applying.proofs.FrontLaws.{subject-kept, settled-next, lines-are, lines-tell, equations-room, lengths-room, nodes-fronted, sizes-fronted}
+use Rattle.rules.specs.Theory.Rows.{rule-row}
+use Rattle.applying.proofs.FrontLaws.{subject-kept, settled-next, lines-are, lines-tell}
 use Rattle.applying.proofs.applies.line_holds.Statement.{statement}
 use Rattle.applying.proofs.applies.line_holds.Tie as tie
+use Rattle.applying.specs.Theory.Front.{equations-room, lengths-room, nodes-fronted, sizes-fronted}
 
 mul-row : tie.Need-mul-row
 mul-row c = let is = c .before .before .before .before .before .before .pre .0 .is .rule-is in omega (arith, rule-row is, is .row .inside, is .row .equations-length)

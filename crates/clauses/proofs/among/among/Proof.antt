@@ -2,10 +2,10 @@
 use Prim.Native.Nat.{_-_}
 use mathlib.Core.Bool.{Bool, true}
 use native.Mathlib.Omega.{arith}
-use Rattle.comparing.proofs.Rows.{first-argument}
 use Rattle.clauses.specs.Contracts.Among.{HasRowAndTerm, TellsAmong}
 use Rattle.clauses.proofs.Members.{none-among, first-among, later-among, first-and, others-and}
 use borrow.Author.Needs.{needs}
+use Rattle.comparing.specs.Theory.Rows.{first-argument}
 use Rattle.clauses.proofs.among.among.Statement.{statement}
 use Rattle.clauses.proofs.among.among.Tie as tie
 

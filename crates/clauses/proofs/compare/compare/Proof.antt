@@ -2,8 +2,7 @@
 use native.Mathlib.Omega.{arith}
 use borrow.Author.Needs.{needs}
 use Rattle.comparing.specs.Theory.Nodes.{within}
-use Rattle.comparing.specs.Theory.Cells.{made-ready-settled}
-use Rattle.comparing.proofs.Settled.{cell-put}
+use Rattle.comparing.specs.Theory.Cells.{made-ready-settled, cell-put}
 use Rattle.clauses.proofs.Keeping.{decision-settles, decision-kept}
 use Rattle.clauses.proofs.compare.compare.Statement.{statement}
 use Rattle.clauses.proofs.compare.compare.Tie as tie

@@ -3,10 +3,10 @@ use Prim.Native.Nat.{_-_, _≤_}
 use mathlib.Core.Path.{_≡_}
 use native.Mathlib.Omega.{arith}
 use Rattle.comparing.specs.Contracts.Cells.{Cleared}
-use Rattle.comparing.proofs.Ready.{cleared-none, cleared-more}
 use borrow.Author.Needs.{needs}
 use Rattle.comparing.proofs.cells.clear.Statement.{statement}
 use Rattle.comparing.proofs.cells.clear.Tie as tie
+use Rattle.comparing.specs.Theory.Cells.{cleared-none, cleared-more}
 
 abbrev Inv-loop : tie.InvT-loop
 Inv-loop bytes₀ from end at₀ bytes at = (from ≤ at) × (at ≤ end) × Cleared bytes₀ from at bytes

@@ -1,7 +1,7 @@
 -- `resolve` meets its contract, for a symbol and for a variable.
 use mathlib.Core.Path.{sym, ap, _∙_}
 use lib.ListN.{getD}
-use Rattle.comparing.proofs.Resolved.{resolved-symbol, resolved-variable}
+use Rattle.comparing.specs.Theory.Resolved.{resolved-symbol, resolved-variable}
 use borrow.Author.Needs.{needs}
 use Rattle.comparing.proofs.nodes.resolve.Statement.{statement}
 use Rattle.comparing.proofs.nodes.resolve.Tie as tie

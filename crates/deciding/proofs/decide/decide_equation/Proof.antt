@@ -3,7 +3,8 @@ use mathlib.Core.Path.{refl, sym, _∙_}
 use native.Mathlib.Omega.{arith}
 use borrow.Author.Needs.{needs}
 use Rattle.solver.specs.Theory.Equation.{some-direction}
-use Rattle.solver.proofs.Solving.{bytes-few, bytes-measurable, sizes-room, walk-room, sides-are, behind-kept, sizes-some, sides-laid, ends-within}
+use Rattle.solver.proofs.Solving.{bytes-few, bytes-measurable, sizes-room, sides-are, sizes-some, sides-laid, ends-within}
+use Rattle.solver.specs.Theory.Memory.{walk-room, behind-kept}
 use Rattle.deciding.proofs.Deciding.{always-decided}
 use Rattle.deciding.proofs.decide.decide_equation.Statement.{statement}
 use Rattle.deciding.proofs.decide.decide_equation.Tie as tie

@@ -5,10 +5,10 @@ use native.Mathlib.Omega.{arith}
 use Rattle.format.specs.Limits.{position-count}
 use Rattle.terms.specs.Equation.{value}
 use Rattle.reducing.specs.Test.{given-values}
-use Rattle.rules.proofs.RowLaws.{rule-row}
-use Rattle.applying.proofs.FrontLaws.{equations-room, lengths-room, nodes-fronted, sizes-fronted}
 use Rattle.judged.proofs.ValueLaws.{has-values, judge-settled, judge-lines-are}
 use borrow.Author.Needs.{needs}
+use Rattle.rules.specs.Theory.Rows.{rule-row}
+use Rattle.applying.specs.Theory.Front.{equations-room, lengths-room, nodes-fronted, sizes-fronted}
 use Rattle.judged.proofs.judge.judge_lines.Statement.{statement}
 use Rattle.judged.proofs.judge.judge_lines.Tie as tie
 

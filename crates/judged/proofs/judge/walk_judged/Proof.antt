@@ -5,8 +5,8 @@ use mathlib.Core.Logic.{⊎-elim}
 use mathlib.Core.List.{List}
 use native.Mathlib.Omega.{arith}
 use Rattle.judged.proofs.JudgeLaws.{Judging, judging-start, judging-done, judging-refused, judging-records, judging-passed, judging-kept, never-full}
-use Rattle.rules.proofs.WalkLaws.{rule-there}
 use borrow.Author.Needs.{needs}
+use Rattle.rules.specs.Theory.Rows.{rule-there}
 use Rattle.judged.proofs.judge.walk_judged.Statement.{statement}
 use Rattle.judged.proofs.judge.walk_judged.Tie as tie
 

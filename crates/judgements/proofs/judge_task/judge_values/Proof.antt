@@ -5,9 +5,10 @@ use Rattle.scanning.specs.Contracts.Scan.{known-arities}
 use Rattle.comparing.specs.Theory.Cells.{symbols-zero}
 use Rattle.format.specs.Theory.Behind.{cells-there, cells-behind}
 use borrow.Author.Needs.{needs}
-use Rattle.judgements.proofs.JudgeTaskLaws.{values-room, values-symbols, values-taken, values-judged, values-hold}
+use Rattle.judgements.proofs.JudgeTaskLaws.{values-room, values-symbols, values-taken, values-judged}
 use Rattle.judgements.proofs.judge_task.judge_values.Statement.{statement}
 use Rattle.judgements.proofs.judge_task.judge_values.Tie as tie
+use Rattle.judgements.specs.Theory.Holding.{values-hold}
 
 array-share-prefix-arities : tie.Need-array-share-prefix-arities
 array-share-prefix-arities c = values-room (c .before .before .before .before .before .before .pre .0 .are)

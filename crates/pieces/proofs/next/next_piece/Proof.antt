@@ -1,6 +1,6 @@
 -- `next_piece` goes on from the cursor's place.
 use borrow.Author.Needs.{needs}
-use Rattle.places.proofs.PlaceLaws.{table-stands, line-stands, task-stands, from-the-table, from-the-line, at-place, stands-at}
+use Rattle.places.specs.Theory.Places.{table-stands, line-stands, task-stands, from-the-table, from-the-line, at-place, stands-at}
 use Rattle.pieces.proofs.next.next_piece.Statement.{statement}
 use Rattle.pieces.proofs.next.next_piece.Tie as tie
 

@@ -1,7 +1,7 @@
 -- `from_table` prints the first frame of a table, or goes on to the tasks.
 use native.Mathlib.Omega.{arith}
 use borrow.Author.Needs.{needs}
-use Rattle.rules.proofs.WalkLaws.{rule-there}
+use Rattle.rules.specs.Theory.Rows.{rule-there}
 use Rattle.places.proofs.PlaceLaws.{few-equations, equations-counted, its-rows, below, table-low, tables-done, table-done}
 use Rattle.places.proofs.step.from_table.Statement.{statement}
 use Rattle.places.proofs.step.from_table.Tie as tie

@@ -1,9 +1,10 @@
 -- `keep_rule` walks a rule, and keeps the lines of its table.
 use mathlib.Core.Path.{refl}
 use borrow.Author.Needs.{needs}
-use Rattle.rules.proofs.KeepLaws.{leaves-refused, records-there, full-kept, lines-kept}
+use Rattle.rules.proofs.KeepLaws.{lines-kept}
 use Rattle.rules.proofs.keep.keep_rule.Statement.{statement}
 use Rattle.rules.proofs.keep.keep_rule.Tie as tie
+use Rattle.rules.specs.Theory.Kept.{leaves-refused, records-there, full-kept}
 
 keep-lines-requires : tie.Need-keep-lines-requires
 keep-lines-requires c κs =

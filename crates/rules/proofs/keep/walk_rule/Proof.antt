@@ -4,20 +4,21 @@ use native.Mathlib.Omega.{arith}
 use lib.ListN.{drop}
 use borrow.Author.Needs.{needs}
 use Rattle.walking.specs.Contracts.Walking.{memory-bytes}
-use Rattle.solver.proofs.Solving.{behind-kept, walk-room}
-use Rattle.rules.proofs.RowLaws.{rule-low, second-low, row-end, row-room}
-use Rattle.rules.proofs.KeepLaws.{rule-direction, end-in-equations, end-in-lengths, sides-there, leaves-longer}
+use Rattle.solver.specs.Theory.Memory.{behind-kept, walk-room}
+use Rattle.rules.proofs.KeepLaws.{rule-direction, leaves-longer}
 use Rattle.rules.proofs.keep.walk_rule.Statement.{statement}
 use Rattle.rules.proofs.keep.walk_rule.Tie as tie
+use Rattle.rules.specs.Theory.Rows.{row-low, second-low, row-end, row-room}
+use Rattle.rules.specs.Theory.Kept.{end-in-equations, end-in-lengths, sides-there}
 
 mul-row : tie.Need-mul-row
-mul-row c = let is = c .before .before .before .pre .0 .is in omega (arith, rule-low is, is .row .lengths-length)
+mul-row c = let is = c .before .before .before .pre .0 .is in omega (arith, row-low is, is .row .lengths-length)
 
 shared-slice-read-wide : tie.Need-shared-slice-read-wide
-shared-slice-read-wide c = omega (arith, rule-low (c .before .before .before .before .pre .0 .is))
+shared-slice-read-wide c = omega (arith, row-low (c .before .before .before .before .pre .0 .is))
 
 add-right : tie.Need-add-right
-add-right c = let is = c .before .before .before .before .before .pre .0 .is in omega (arith, rule-low is, is .row .lengths-length, c .wide .ensures .1)
+add-right c = let is = c .before .before .before .before .before .pre .0 .is in omega (arith, row-low is, is .row .lengths-length, c .wide .ensures .1)
 
 shared-slice-read-wide-2 : tie.Need-shared-slice-read-wide-2
 shared-slice-read-wide-2 c = second-low (c .before .before .before .before .before .before .pre .0 .is) (c .before .wide .ensures .0)

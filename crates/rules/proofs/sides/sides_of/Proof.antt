@@ -1,18 +1,19 @@
 -- `sides_of` reads where the sides of a rule stand off the sizes in its row.
 use native.Mathlib.Omega.{arith}
 use borrow.Author.Needs.{needs}
-use Rattle.rules.proofs.RowLaws.{rule-low, second-low, row-end, row-room, even-sides, odd-sides}
+use Rattle.rules.proofs.RowLaws.{even-sides, odd-sides}
 use Rattle.rules.proofs.sides.sides_of.Statement.{statement}
 use Rattle.rules.proofs.sides.sides_of.Tie as tie
+use Rattle.rules.specs.Theory.Rows.{row-low, second-low, row-end, row-room}
 
 mul-row : tie.Need-mul-row
-mul-row c = let is = c .before .pre .is in omega (arith, rule-low is, is .row .lengths-length)
+mul-row c = let is = c .before .pre .is in omega (arith, row-low is, is .row .lengths-length)
 
 shared-slice-read-wide : tie.Need-shared-slice-read-wide
-shared-slice-read-wide c = omega (arith, rule-low (c .before .before .pre .is))
+shared-slice-read-wide c = omega (arith, row-low (c .before .before .pre .is))
 
 add-right : tie.Need-add-right
-add-right c = let is = c .before .before .before .pre .is in omega (arith, rule-low is, is .row .lengths-length, c .wide .ensures .1)
+add-right c = let is = c .before .before .before .pre .is in omega (arith, row-low is, is .row .lengths-length, c .wide .ensures .1)
 
 shared-slice-read-wide-2 : tie.Need-shared-slice-read-wide-2
 shared-slice-read-wide-2 c = second-low (c .before .before .before .before .pre .is) (c .before .wide .ensures .0)

@@ -4,9 +4,10 @@ use mathlib.Core.Path.{_∙_}
 use mathlib.Core.Logic.{⊎-elim}
 use native.Mathlib.Omega.{arith}
 use borrow.Author.Needs.{needs}
-use Rattle.rules.proofs.WalkLaws.{Walking, Turn, walking-start, rule-there, walk-refused, refused-behind, turn-full, turn-kept, turn-unkept, all-solve, all-kept}
+use Rattle.rules.proofs.WalkLaws.{Walking, Turn, walking-start, walk-refused, refused-behind, turn-full, turn-kept, turn-unkept, all-solve, all-kept}
 use Rattle.rules.proofs.walks.keep_rules.Statement.{statement}
 use Rattle.rules.proofs.walks.keep_rules.Tie as tie
+use Rattle.rules.specs.Theory.Rows.{rule-there}
 
 abbrev Inv-loop : tie.InvT-loop
 Inv-loop equations lengths count bounds₀ table₀ scratch₀ rules fits₀ start₀ rule₀ bounds table scratch fits start rule = Walking equations lengths count table₀ scratch₀ bounds table scratch fits start rule

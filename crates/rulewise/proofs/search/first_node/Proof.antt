@@ -7,7 +7,7 @@ use denote.Enum.Declared.{tagOf}
 use Rattle.format.specs.Limits.{cell-count}
 use Rattle.rules.proofs.keep.RuleKept.{the-type}
 use Rattle.terms.specs.Filling.{filling}
-use Rattle.applying.proofs.TryLaws.{none-matches}
+use Rattle.reducing.specs.Theory.Step.{none-matches}
 use Rattle.rulewise.proofs.RulewiseLaws.{none-for, source-there, kept-ends, kept-at-front, front-behind, scratch-after-walk, scratch-after-cells}
 use Rattle.rulewise.proofs.search.first_node.Statement.{statement}
 use Rattle.rulewise.proofs.search.first_node.Tie as tie

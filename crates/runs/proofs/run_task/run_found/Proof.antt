@@ -4,8 +4,8 @@ use native.Mathlib.Omega.{arith}
 use Rattle.format.specs.Limits.{scratch-bytes}
 use Rattle.scanning.specs.Contracts.Scan.{known-arities}
 use Rattle.runs.proofs.RunTaskLaws.{its-equations, its-equations-counted, its-run, limit-low, scratch-behind, reduction-answered}
-use Rattle.answers.proofs.Fill.{cleared-behind, blanked-behind}
 use borrow.Author.Needs.{needs}
+use Rattle.outcomes.specs.Theory.Fill.{cleared-behind, blanked-behind}
 use Rattle.runs.proofs.run_task.run_found.Statement.{statement}
 use Rattle.runs.proofs.run_task.run_found.Tie as tie
 

@@ -7,7 +7,7 @@ use borrow.Author.Needs.{needs}
 use Rattle.format.specs.declared.refusal.Refusal.{Refusal}
 use Rattle.scanning.specs.Contracts.Scan.{known-arities}
 use Rattle.rules.specs.declared.walks.Walks.the-variants.{Refused}
-use Rattle.reductions.specs.Contracts.RunTerm.{LinesReady}
+use Rattle.rules.specs.Contracts.Walks.{LinesReady}
 use Rattle.runs.proofs.RunTaskLaws.{number-low, walks-ready, refused-as, ran-as}
 use Rattle.runs.proofs.run_task.run_walked.Statement.{statement}
 use Rattle.runs.proofs.run_task.run_walked.Tie as tie

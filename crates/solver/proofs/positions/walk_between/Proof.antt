@@ -3,7 +3,7 @@ use mathlib.Core.Path.{sym, ap, _∙_}
 use lib.ListN.{length}
 use lib.Seq.{take-at, length-take-le}
 use borrow.Author.Needs.{needs}
-use Rattle.stopping.proofs.Stopping.{none-at-first}
+use Rattle.stopping.specs.Theory.Stopping.{none-at-first}
 use Rattle.solver.proofs.Begin.{ends-between}
 use Rattle.solver.proofs.Collected.{front-fits}
 use Rattle.solver.proofs.positions.walk_between.Statement.{statement}

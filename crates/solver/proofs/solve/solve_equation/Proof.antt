@@ -6,9 +6,10 @@ use borrow.Author.Needs.{needs}
 use Rattle.walking.specs.Contracts.Walking.{memory-bytes}
 use Rattle.solver.specs.Theory.Equation.{some-direction}
 use Rattle.solver.proofs.Begin.{few-lines, solved-tells, refused-tells, not-solved}
-use Rattle.solver.proofs.Solving.{bytes-few, bytes-measurable, sizes-room, walk-room, sides-are, behind-kept}
+use Rattle.solver.proofs.Solving.{bytes-few, bytes-measurable, sizes-room, sides-are}
 use Rattle.solver.proofs.solve.solve_equation.Statement.{statement}
 use Rattle.solver.proofs.solve.solve_equation.Tie as tie
+use Rattle.solver.specs.Theory.Memory.{walk-room, behind-kept}
 
 measure-requires : tie.Need-measure-requires
 measure-requires c κs = bytes-measurable (c .before .before .before .before .before .pre .0 .0 .is) _ refl

@@ -2,7 +2,7 @@
 use mathlib.Core.Path.{refl}
 use borrow.Author.Needs.{needs}
 use Rattle.terms.specs.Equation.{source, target}
-use Rattle.applying.specs.Contracts.Trying.{part-at}
+use Rattle.reducing.specs.Contracts.Part.{part-at}
 use Rattle.stepping.proofs.StepLaws.{source-part, matches-again, replacement, step-replaced}
 use Rattle.stepping.proofs.step.take_step.Statement.{statement}
 use Rattle.stepping.proofs.step.take_step.Tie as tie

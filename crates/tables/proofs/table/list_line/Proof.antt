@@ -1,14 +1,14 @@
 -- `list_line` prints a line of a table.
 use native.Mathlib.Omega.{arith}
-use Rattle.rules.proofs.RowLaws.{rule-low, second-low}
-use Rattle.rules.proofs.KeepLaws.{end-in-equations, end-in-lengths}
 use Rattle.tables.proofs.TableLaws.{its-rule, record-room, line-has, line-printed}
 use borrow.Author.Needs.{needs}
+use Rattle.rules.specs.Theory.Rows.{row-low, second-low}
+use Rattle.rules.specs.Theory.Kept.{end-in-equations, end-in-lengths}
 use Rattle.tables.proofs.table.list_line.Statement.{statement}
 use Rattle.tables.proofs.table.list_line.Tie as tie
 
 shared-slice-read-wide : tie.Need-shared-slice-read-wide
-shared-slice-read-wide c = let h = c .before .before .before .before .before .pre .0 in omega (arith, rule-low (its-rule (h .rows) (h .records-there) (h .low)))
+shared-slice-read-wide c = let h = c .before .before .before .before .before .pre .0 in omega (arith, row-low (its-rule (h .rows) (h .records-there) (h .low)))
 
 shared-slice-read-wide-2 : tie.Need-shared-slice-read-wide-2
 shared-slice-read-wide-2 c = let h = c .before .before .before .before .before .before .before .pre .0 in second-low (its-rule (h .rows) (h .records-there) (h .low)) (c .before .wide .ensures .0)

@@ -7,10 +7,11 @@ use mathlib.Core.Logic.{inl, inr}
 use mathlib.Core.Bool.{true, false}
 use native.Mathlib.Omega.{arith}
 use Rattle.comparing.specs.Theory.Nodes.{within}
-use Rattle.comparing.proofs.Rows.{first-argument, reaching-none, reaching-first}
+use Rattle.comparing.proofs.Rows.{reaching-none, reaching-first}
 use Rattle.comparing.proofs.Passed.{behind-first-too}
 use Rattle.comparing.proofs.Loops.{Reaching, reaching-start, reaching-again, reaching-passed, row-inside}
 use Rattle.comparing.proofs.comparison.+argument_reaches+compare_arguments+compare_symbols+exceeds+exceeds_arguments+first_difference.Proof.Measures.{argument-reaches-at, argument-reaches-calls}
+use Rattle.comparing.specs.Theory.Rows.{first-argument}
 
 abbrev pub argument-reaches-Inv-loop : argument-reaches-lts.InvT-loop
 argument-reaches-Inv-loop nodes sizes values ready₀ cells₀ j g end at₀ ready cells at = Reaching nodes sizes values (record { from = at₀; end = end }) j ready cells (record { from = at; end = end })

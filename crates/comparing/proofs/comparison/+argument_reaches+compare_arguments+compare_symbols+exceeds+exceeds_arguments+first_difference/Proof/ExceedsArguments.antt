@@ -6,11 +6,12 @@ use mathlib.Core.Logic.{inl, inr}
 use mathlib.Core.Bool.{true, false}
 use native.Mathlib.Omega.{arith}
 use Rattle.comparing.specs.Theory.Nodes.{within}
-use Rattle.comparing.proofs.Rows.{first-argument, all-none, all-not}
+use Rattle.comparing.proofs.Rows.{all-none, all-not}
 use Rattle.comparing.proofs.Passed.{behind-first-too}
 use Rattle.comparing.proofs.Loops.{row-inside, Exceeding, exceeding-start, exceeding-again, exceeding-passed}
 use Rattle.comparing.proofs.comparison.+argument_reaches+compare_arguments+compare_symbols+exceeds+exceeds_arguments+first_difference.Lts-exceeds_arguments as exceeds-arguments-lts
 use Rattle.comparing.proofs.comparison.+argument_reaches+compare_arguments+compare_symbols+exceeds+exceeds_arguments+first_difference.Proof.Measures.{exceeds-arguments-at, argument-reaches-calls}
+use Rattle.comparing.specs.Theory.Rows.{first-argument}
 
 abbrev pub exceeds-arguments-Inv-loop : exceeds-arguments-lts.InvT-loop
 exceeds-arguments-Inv-loop nodes sizes values ready₀ cells₀ i f end at₀ ready cells at = Exceeding nodes sizes values i (record { from = at₀; end = end }) ready cells (record { from = at; end = end })

@@ -1,7 +1,7 @@
 -- The measures of the functions of the cycle, and what each may ask of its callees: eight times the summed size of the terms compared, and more the earlier
 -- a function stands in the chain of those that hand the same terms on.
 use Prim.Native.Nat.{ℕ, _+_, _*_, _<_}
-use Rattle.comparing.proofs.Weight.{term-weight, row-weight}
+use Rattle.comparing.specs.Theory.Weight.{term-weight, row-weight}
 use borrow.Fn.Kinds.{In}
 use borrow.Fn.PlainCycle.{Measures, is, falls, and}
 use Rattle.comparing.proofs.comparison.argument_reaches.Reads as argument-reaches

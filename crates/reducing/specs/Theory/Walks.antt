@@ -9,9 +9,9 @@ use Rattle.format.specs.Lists.{entry}
 use Rattle.format.specs.declared.refusal.Refusal.{Refusal}
 use Rattle.terms.specs.Equation.{Equation, Direction, left-right, right-left, direction-number}
 use Rattle.solving.specs.Walk.{Walked, solved, refused, solve, Solves}
 use Rattle.reducing.specs.Test.{EverySolves}
 use Rattle.reducing.specs.Contracts.Rules.{rule-number}
-use Rattle.outcomes.specs.Asked.{equation-line, WalkRefusal, first-refusal}
+use Rattle.reducing.specs.Walks.{equation-line, WalkRefusal, first-refusal}
 
 -- The rules before number `rule` solve.
 abbrev pub SolvedBefore : List Equation → ℕ → Type 0

@@ -1,0 +1,3 @@
+-- Laws.
+pub mod Choices
+pub mod Treatment

@@ -1,0 +1,3 @@
+-- Laws.
+pub mod Turn
+pub mod Walking
