@@ -4,6 +4,7 @@ use mathlib.Core.Bool.{Bool, true, false}
 use mathlib.Core.List.{List, [], _∷_}
 use lib.Dec.{ltb}
 use Rattle.format.specs.Limits.{variable-count}
+use Rattle.format.specs.Lists.{Every}
 use Rattle.terms.specs.Term.{Term, Terms, var, nth, Values, inst}
 use Rattle.terms.specs.Equation.{Equation, Direction, source, target, value}
 use Rattle.ordering.specs.Theory.Decide.{exceeds?}
@@ -59,9 +60,11 @@ unfolding run reference-test
 reference-run filling = run filling reference-test
 
 -- "where every direction solves"
+abbrev pub BothSolve : Equation → Type 0
+BothSolve e = (d : Direction) → Solves e d
+
 abbrev pub EverySolves : List Equation → Type 0
-EverySolves [] = Unit {0}
-EverySolves (e ∷ es) = ((d : Direction) → Solves e d) × EverySolves es
+EverySolves = Every BothSolve
 
 -- The values of a judgement: those of the frame, from variable 80 upward.
 unfoldable pub given-values : Terms → Values

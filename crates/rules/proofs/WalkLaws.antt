@@ -21,18 +21,13 @@ use Rattle.reducing.specs.Test.{EverySolves}
 use Rattle.reducing.specs.Contracts.Rules.{rule-number}
 use Rattle.reducing.specs.Walks.{equation-line, first-refusal}
 use Rattle.reducing.specs.Theory.Walks.{SolvedBefore, refused-first, solved-all, none-refused}
-use Rattle.reducing.specs.Theory.Rules.{RuleOf, rule-low, rule-of}
+use Rattle.reducing.specs.Theory.Rules.{RuleOf, rule-low, rule-of, rule-parts}
 use Rattle.judging.specs.Contracts.Trimmed.{trimmed-lines}
 use Rattle.rules.specs.declared.keep.RuleKept.{RuleKept}
 use Rattle.rules.specs.declared.keep.RuleKept.the-variants.{Refused, Full, End}
 use Rattle.rules.specs.Contracts.Rows.{RowsAre, RuleIs, HasRows, bound-count}
 use Rattle.rules.specs.Contracts.Walks.{RuleKeptAs, RuleAt, RulesAt}
 use Rattle.rules.specs.Theory.Rows.{rule-in, this-rule}
-
-rule-half : (i : ℕ) (d : Direction) {rule : ℕ} → rule ≡ rule-number i d → rule / 2 ≡ i
-unfolding direction-number
-rule-half i left-right h = omega arith
-rule-half i right-left h = omega arith
 
 -- 1. A part that is put into the table: what stands before it and behind it stays.
 module _ (at : ℕ) (part buffer : List ℕ) (room : at + length part ≤ length buffer) where
@@ -120,7 +115,7 @@ module _ {equations lengths : List ℕ} {count : ℕ} {table₀ scratch₀ bound
       → first-refusal 0 es ≡ some (record { refusal = why; line = equation-line (rule / 2) })
   walk-refused {why} y arities es r c =
       let o = rule-of es rule (omega (arith, t .low)) in
-      let half : 0 + o .number ≡ rule / 2 = omega (arith, rule-half (o .number) (o .direction) (o .is)) in
+      let half : 0 + o .number ≡ rule / 2 = omega (arith, rule-parts rule (o .number) (o .direction) (o .is) .0) in
       refused-first 0 es (o .number) (o .direction) (o .equation) (o .numbered) (kept-as y r (o .number) (o .equation) (o .direction) (o .numbered) (o .is) .0)
       (λ j f d x l. t .walking .so-far arities es r c .solve j f d x (omega (arith, o .is)))
       ∙ ap (λ n. some (record { refusal = why; line = equation-line n })) half

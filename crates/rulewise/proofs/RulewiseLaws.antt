@@ -1,5 +1,5 @@
 -- The search rule by rule: the first node at which a side matches, the first at which a rule can step, and the first step of all.
-use Prim.Native.Nat.{ℕ, zero, suc, _+_, _-_, _≤_, _<_}
+use Prim.Native.Nat.{ℕ, _+_, _-_, _≤_, _<_}
 use mathlib.Core.Path.{_≡_, refl, sym, ap, ap₂, subst, _∙_}
 use mathlib.Core.Bool.{Bool, true, false}
 use mathlib.Core.Option.{Option, none, some}
@@ -10,17 +10,16 @@ use lib.ListN.{length, getD, drop, replicate, length-replicate}
 use lib.Seq.{slice}
 use Rattle.format.specs.Limits.{table-bytes, scratch-bytes, variable-count, position-count, node-count, cell-count}
 use Rattle.format.specs.Lists.{entry}
-use Rattle.format.specs.Theory.Lists.{entry-length}
+use Rattle.format.specs.Theory.Lists.{entry-length, every-entry}
 use Rattle.format.specs.Theory.Behind.{behind-more, cells-behind}
 use Rattle.terms.specs.Term.{Term, size, sizes}
 use Rattle.terms.specs.Filling.{filling}
 use Rattle.terms.specs.Equation.{Equation, Direction, source}
 use Rattle.terms.specs.declared.arguments.Arguments.{Arguments}
 use Rattle.terms.specs.Contracts.Stored.{SubjectIs}
-use Rattle.solving.specs.Walk.{Solves}
 use Rattle.reducing.specs.Match.{Match, no-match, match}
 use Rattle.reducing.specs.Run.{Step, try, step}
-use Rattle.reducing.specs.Test.{line-test, EverySolves}
+use Rattle.reducing.specs.Test.{line-test, BothSolve}
 use Rattle.reducing.specs.Contracts.Rules.{rule-number}
 use Rattle.reducing.specs.Theory.First.{step-none, step-first}
 use Rattle.reducing.specs.Contracts.Part.{part-at}
@@ -261,19 +260,13 @@ module _ (equations lengths : List ℕ) (rules : ℕ) (nodes₀ sizes₀ : List 
     };
   }
 
-pub entry-solves : (es : List Equation) (i : ℕ) (e : Equation) (d : Direction) → EverySolves es → entry es i ≡ some e → Solves e d
-unfolding entry
-entry-solves [] i e d s x = let z : _≡_ {A = ℕ} 0 1 = cc in absurd (omega arith)
-entry-solves (q ∷ qs) zero e d s x = let w : q ≡ e = cc in subst (λ f. Solves f d) w (s .0 d)
-entry-solves (q ∷ qs) (suc i) e d s x = entry-solves qs i e d (s .1) x
-
 module _ {equations lengths : List ℕ} {rules : ℕ} {nodes₀ sizes₀ : List ℕ} {n : ℕ} {table₀ scratch₀ table nodes sizes scratch : List ℕ} {best found rule : ℕ}
     (k : Finding equations lengths rules nodes₀ sizes₀ n table₀ scratch₀ table nodes sizes scratch best found rule) where
   try-rule : {arities : List ℕ} {es : List Equation} {subject : Term} → AllSolve equations lengths rules nodes₀ sizes₀ n arities es subject → (i : ℕ) (e : Equation) (d : Direction)
       → entry es i ≡ some e → rule ≡ rule-number i d → UnkeptTry equations lengths rule nodes sizes best arities i e d subject
   try-rule {arities} {es} {subject} a i e d x y = record {
     rule-is = rule-in (a .rows) x y;
-    solves = entry-solves es i e d (a .solve) x;
+    solves = every-entry BothSolve es i (a .solve) x d;
     subject-is = k .same arities subject (a .subject-is);
     low = k .low;
     inside = omega (arith, k .within, a .size-is);

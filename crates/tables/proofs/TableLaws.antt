@@ -1,5 +1,5 @@
 -- A rule's walk, and what its table prints.
-use Prim.Native.Nat.{ℕ, zero, suc, _+_, _-_, _*_, _/_, _%_, _≤_, _<_}
+use Prim.Native.Nat.{ℕ, suc, _+_, _-_, _*_, _/_, _%_, _≤_, _<_}
 use mathlib.Core.Path.{_≡_, refl, sym, ap, ap₂, subst, _∙_}
 use mathlib.Core.Option.{some}
 use mathlib.Core.List.{List, [], _∷_, _++_, map}
@@ -11,16 +11,17 @@ use lib.Seq.{take-suc, getD-drop}
 use Rattle.format.specs.Limits.{max-equations, max-lines, record-bytes}
 use Rattle.format.specs.declared.refusal.Refusal.{Refusal}
 use Rattle.format.specs.Lists.{entry}
+use Rattle.format.specs.Theory.Lists.{every-entry}
 use Rattle.terms.specs.Equation.{Equation, Direction}
 use Rattle.terms.specs.Contracts.Limits.{positions}
 use Rattle.solving.specs.Line.{Bindings, Element, Line, line, records}
 use Rattle.solving.specs.Theory.Records.{length-records}
-use Rattle.solving.specs.Walk.{solved, solve, Solves}
+use Rattle.solving.specs.Walk.{solved, solve}
 use Rattle.solving.specs.Theory.Solve.{solved-lines}
 use Rattle.solver.specs.declared.positions.WalkEnd.the-variants.{Solved, Refused}
 use Rattle.solver.specs.declared.positions.WalkResult.{WalkResult as Reported}
 use Rattle.solver.specs.Contracts.Reports.{LeavesEnd, Leaves}
-use Rattle.reducing.specs.Test.{EverySolves}
+use Rattle.reducing.specs.Test.{EverySolves, BothSolve}
 use Rattle.reducing.specs.Contracts.Rules.{rule-number}
 use Rattle.reducing.specs.Theory.Rules.{RuleOf, rule-of, rule-low, rule-parts}
 use Rattle.rules.specs.Contracts.Rows.{RuleIs, RowsAre, HasRuleIn}
@@ -43,12 +44,6 @@ use Rattle.tables.specs.Theory.Tables.{frames-count}
 -- What the walk of a rule ensures.
 abbrev LeavesRule : (equations lengths : List ℕ) (rule : ℕ) (memory : List ℕ) → Reported → Type 0
 LeavesRule equations lengths rule memory told = (arities : List ℕ) (i : ℕ) (e : Equation) (d : Direction) → RuleIs equations lengths arities rule i e d → Leaves (solve e d) memory told
-
-every-entry-solves : (es : List Equation) → EverySolves es → (i : ℕ) {e : Equation} → entry es i ≡ some e → (d : Direction) → Solves e d
-unfolding entry
-every-entry-solves [] s i x d = let z : _≡_ {A = ℕ} 0 1 = cc in absurd (omega arith)
-every-entry-solves (q ∷ es) s zero {e} x d = let w : q ≡ e = cc in subst (λ q. Solves q d) w (s .0 d)
-every-entry-solves (q ∷ es) s (suc i) x d = every-entry-solves es (s .1) i x d
 
 -- 1. The first frame of a table.
 module _ {equations lengths : List ℕ} {rule : ℕ} (has : HasRuleIn equations lengths rule) (memory : List ℕ) (told : Reported) (leaves : LeavesRule equations lengths rule memory told) where
@@ -73,7 +68,7 @@ module _ {equations lengths : List ℕ} {rule : ℕ} (memory : List ℕ) (told :
   pub never-refused : {why : Refusal} → EverySolves es → told .ending ≡ Refused why → ⊥
   never-refused {why} s e =
       let o = this in
-      let a = every-entry-solves es s (o .number) (o .numbered) (o .direction) in
+      let a = every-entry BothSolve es (o .number) s (o .numbered) (o .direction) in
       let b = leaves-refused (leaves-it (o .number) (o .equation) (o .direction) (o .numbered) (o .is)) e in
       let w = a .walked in
       let z : _≡_ {A = ℕ} 0 1 = cc in

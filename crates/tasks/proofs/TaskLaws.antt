@@ -22,8 +22,7 @@ use Rattle.reading.specs.declared.seek.TaskFound.{TaskFound}
 use Rattle.reading.specs.declared.seek.TaskHead.the-variants.{Run, Judgement, Comparison}
 use Rattle.reading.specs.Contracts.Seek.{Accepts, TaskIn, TaskAt, Spans, task-terms}
 use Rattle.reading.specs.Theory.Found.{is-run, is-judgement, is-comparison}
-use Rattle.rulewise.proofs.RulewiseLaws.{entry-solves}
-use Rattle.reducing.specs.Test.{holding-line, given-values}
+use Rattle.reducing.specs.Test.{holding-line, given-values, BothSolve}
 use Rattle.reducing.specs.Theory.Rules.{rule-below}
 use Rattle.reductions.specs.Contracts.RunTerm.{RunTermIs, HasRunTerm}
 use Rattle.comparisons.specs.Contracts.Comparison.{PairIn}
@@ -121,7 +120,7 @@ module _ {sheet : List ℕ} {known : Known} {equations lengths bounds : List ℕ
             is,
             record {
               rule-is = record { row = ready .rows .row k e is; number = omega arith };
-              solves = entry-solves (s .equations) k e o (ready .every) is;
+              solves = every-entry BothSolve (s .equations) k (ready .every) is o;
               terms-in = record { spans = terms-of y; ground = subst (λ a. Grounds a ts) (sym its-arities) ground; few-nodes = few; few-symbols = few-symbols };
               one-each = one-each;
               roomy = ready .knows .roomy;

@@ -8,8 +8,9 @@ use lib.ListN.{length, length-append}
 use lib.Seq.{take-append-seam}
 use borrow.Author.Tests.{lt-ltb}
 use native.Mathlib.Omega.{arith}
-use Rattle.format.specs.Lists.{any}
+use Rattle.format.specs.Lists.{any, Every}
 use Rattle.format.specs.Limits.{variable-count, max-elements}
+use Rattle.format.specs.Theory.Lists.{every-left, every-right, every-append}
 use Rattle.solving.specs.Line.{Bindings, Element, Line, line}
 use Rattle.solving.specs.Walk.{enough, becomes, treat, treat-line, crowded}
 use Rattle.solving.specs.Theory.Reach.{enough-suffices}
@@ -24,7 +25,6 @@ use Rattle.treating.specs.Contracts.Children.{child}
 use Rattle.treating.specs.Contracts.Splitting.{AllLong}
 use Rattle.unifying.specs.Theory.PrefixForm.{form-layout}
 use Rattle.walking.proofs.Turn.{around, leftmost-some}
-use Rattle.walking.proofs.Walking.{settled}
 
 -- 1. What they say.
 pub first-treated : (nodes sizes : List ℕ) (l : RestingLine) (pre : List Element) (e : Element) (post : List Element) (ms : List Line) → l .elements ≡ pre ++ (e ∷ post)
@@ -32,7 +32,7 @@ pub first-treated : (nodes sizes : List ℕ) (l : RestingLine) (pre : List Eleme
     → treat-line enough (view-of nodes sizes) (line-of l) ≡ some (map (around pre post) ms)
 unfolding line-of treat-line
 first-treated nodes sizes l pre e post ms s r t =
-    rw s (leftmost-some (view-of nodes sizes) (bindings-of (l .bindings)) pre e post ms (settled nodes sizes (l .bindings) pre r) t)
+    rw s (leftmost-some (view-of nodes sizes) (bindings-of (l .bindings)) pre e post ms r t)
 
 pub children-lines : (bs : List ℕ) (pre post : List Element) (css : List (List Element))
     → map line-of (map (child bs pre post) css) ≡ map (around pre post) (map (line (bindings-of bs)) css)
@@ -40,28 +40,15 @@ unfolding line-of around
 children-lines bs pre post [] = refl
 children-lines bs pre post (cs ∷ css) = ap (line (bindings-of bs) (pre ++ (cs ++ post)) ∷_) (children-lines bs pre post css)
 
--- 2. They are well-formed.
-within-left : (n : ℕ) (es fs : List Element) → AllWithin n (es ++ fs) → AllWithin n es
-within-left n [] fs h = tt
-within-left n (e ∷ es) fs h = (h .0, within-left n es fs (h .1))
-
-within-right : (n : ℕ) (es fs : List Element) → AllWithin n (es ++ fs) → AllWithin n fs
-within-right n [] fs h = h
-within-right n (e ∷ es) fs h = within-right n es fs (h .1)
-
-within-both : (n : ℕ) (es fs : List Element) → AllWithin n es → AllWithin n fs → AllWithin n (es ++ fs)
-within-both n [] fs h k = k
-within-both n (e ∷ es) fs h k = (h .0, within-both n es fs (h .1) k)
-
 module _ {nodes sizes : List ℕ} (l : RestingLine) (s : WellFormed nodes sizes l) (pre : List Element) (e : Element) (post : List Element) (split : l .elements ≡ pre ++ (e ∷ post)) where
   pre-within : AllWithin (length nodes) pre
-  pre-within = within-left (length nodes) pre (e ∷ post) (rw split at (s .within))
+  pre-within = every-left (Within (length nodes)) pre (e ∷ post) (rw split at (s .within))
 
   post-within : AllWithin (length nodes) post
-  post-within = within-right (length nodes) pre (e ∷ post) (rw split at (s .within)) .1
+  post-within = every-right (Within (length nodes)) pre (e ∷ post) (rw split at (s .within)) .1
 
   pub element-within : Within (length nodes) e
-  element-within = within-right (length nodes) pre (e ∷ post) (rw split at (s .within)) .0
+  element-within = every-right (Within (length nodes)) pre (e ∷ post) (rw split at (s .within)) .0
 
   pub length-split : length (l .elements) ≡ length pre + (1 + length post)
   length-split = ap length split ∙ omega (arith, length-append pre (e ∷ post))
@@ -74,7 +61,7 @@ module _ {nodes sizes : List ℕ} (l : RestingLine) (s : WellFormed nodes sizes 
       let b = length-append pre (cs ++ post) in
       record {
         readable = s .readable;
-        within = within-both (length nodes) pre (cs ++ post) pre-within (within-both (length nodes) cs post w post-within);
+        within = every-append (Within (length nodes)) pre (cs ++ post) pre-within (every-append (Within (length nodes)) cs post w post-within);
         few = omega arith;
         known = omega arith;
         reduced-known = rw (take-append-seam pre (cs ++ post)) r;
@@ -85,7 +72,7 @@ module _ {nodes sizes : List ℕ} (l : RestingLine) (s : WellFormed nodes sizes 
   rebound-well-formed bs r =
       record {
         readable = r;
-        within = within-both (length nodes) pre post pre-within post-within;
+        within = every-append (Within (length nodes)) pre post pre-within post-within;
         few = omega (arith, length-append pre post, length-split, s .few);
         known = omega arith;
         reduced-known = tt;
@@ -93,8 +80,7 @@ module _ {nodes sizes : List ℕ} (l : RestingLine) (s : WellFormed nodes sizes 
 
   -- The choices that the treatment of an inequality gives.
   abbrev pub Fitting : List (List Element) → Type 0
-  Fitting [] = Unit {0}
-  Fitting (cs ∷ css) = (length pre + (length cs + length post) ≤ max-elements) × Fitting css
+  Fitting = Every (λ cs. length pre + (length cs + length post) ≤ max-elements)
 
   lines-well-formed : KnownReduced nodes sizes (l .bindings) pre → (css : List (List Element)) → ProperTable (view-of nodes sizes) variable-count (length nodes) (map (line (bindings-of (l .bindings))) css) → Fitting css
       → AllWellFormed nodes sizes (map (child (l .bindings) pre post) css)

@@ -1,5 +1,5 @@
 -- The first unfinished line is filled in, and looked through for the leftmost element that is not fully reduced.
-use Prim.Native.Nat.{ℕ, zero, suc, _+_, _*_, _≤_, _<_}
+use Prim.Native.Nat.{ℕ, suc, _+_, _*_, _≤_, _<_}
 use mathlib.Core.Path.{_≡_, refl, sym, ap, ap₂, subst, _∙_}
 use mathlib.Core.Logic.{_⊎_, inl, inr}
 use mathlib.Core.Option.{some}
@@ -10,10 +10,13 @@ use native.Mathlib.Decide.{decLt, ℕ-discrete}
 use native.Mathlib.Numerals.{add-one}
 use native.Mathlib.Omega.{arith}
 use Rattle.format.specs.Limits.{variable-count, max-elements, max-lines, max-turns}
+use Rattle.format.specs.Theory.Lists.{every-append, every-at}
 use Rattle.solving.specs.Line.{Element, greater, Line}
-use Rattle.solving.specs.Contracts.Within.{Within, AllWithin}
-use Rattle.unifying.specs.Contracts.Bindings.{Readable}
+use Rattle.solving.specs.Contracts.Within.{Within}
+use Rattle.solving.specs.Walk.{treat, enough, fully-reduced}
+use Rattle.unifying.specs.Contracts.Bindings.{Readable, bindings-of}
 use Rattle.unifying.specs.Theory.Bindings.{readable-slots}
+use Rattle.unifying.specs.Contracts.PrefixForm.{view-of}
 use Rattle.lines.specs.declared.element.Element.{Element as Held}
 use Rattle.lines.specs.declared.line.Line.{Line as LineValue}
 use Rattle.lines.specs.Contracts.Layout.{count-place, first-element, reduced-place, line-bytes}
@@ -35,15 +38,6 @@ below-limit {n = n} l e = go (decLt n max-turns)
     go : Dec (n < max-turns) → n < max-turns
     go (yes h) = h
     go (no h) = absurd (e (omega arith))
-
-reduced-append : (nodes sizes bs : List ℕ) (es fs : List Element) → KnownReduced nodes sizes bs es → KnownReduced nodes sizes bs fs → KnownReduced nodes sizes bs (es ++ fs)
-reduced-append nodes sizes bs [] fs h k = k
-reduced-append nodes sizes bs (e ∷ es) fs h k = (h .0, reduced-append nodes sizes bs es fs (h .1) k)
-
-within-at : (n : ℕ) (es : List Element) (i : ℕ) (d : Element) → AllWithin n es → i < length es → Within n (getD es i d)
-within-at n [] i d w h = absurd (omega arith)
-within-at n (e ∷ es) zero d w h = w .0
-within-at n (e ∷ es) (suc i) d w h = within-at n es i d (w .1) (omega arith)
 
 -- 1. The first unfinished line.
 pub record Open (nodes sizes memory : List ℕ) (w : Walk) : Type 0 where
@@ -170,7 +164,7 @@ module _ {nodes sizes memory : List ℕ} {place : ℕ} {line : LineValue} {i : �
   pub searching-within : (s : RestingLine) → WellFormed nodes sizes s → slice place (place + line-bytes) memory ≡ resting-bytes s → Carries line s → Within (length nodes) (meaning (getD (line .elements) i unfilled))
   searching-within s d e h =
       let (a, b, c) = f .so-far s d e h in
-      rw (looked-at h b below) (within-at (length nodes) (s .elements) i (greater 0 0) (d .within) (omega (arith, h .count-is)))
+      rw (looked-at h b below) (every-at (Within (length nodes)) (s .elements) i (greater 0 0) (d .within) (omega (arith, h .count-is)))
 
   pub searching-next : (t : Treatment) → Treated nodes sizes (line .bindings) (meaning (getD (line .elements) i unfilled)) t → t ≡ Reduced → Searching nodes sizes memory place line (i + 1)
   searching-next t y z = record {
@@ -179,7 +173,7 @@ module _ {nodes sizes memory : List ℕ} {place : ℕ} {line : LineValue} {i : �
         let m : i < length (s .elements) = omega (arith, h .count-is) in
         let x = getD (s .elements) i (greater 0 0) in
         let u : Treated nodes sizes (s .bindings) x Reduced = rw (sym (looked-at h b below), sym (h .bindings-are), sym z) y in
-        (omega arith, omega arith, rw (add-one i, take-suc (s .elements) i (greater 0 0) m) (reduced-append nodes sizes (s .bindings) (take i (s .elements)) (x ∷ []) c (u .asks, tt)));
+        (omega arith, omega arith, rw (add-one i, take-suc (s .elements) i (greater 0 0) m) (every-append (λ e. treat enough (view-of nodes sizes) (bindings-of (s .bindings)) e ≡ fully-reduced) (take i (s .elements)) (x ∷ []) c (u .asks, tt)));
   }
 
 -- 4. One is not fully reduced, or all are.

@@ -1,5 +1,5 @@
 -- The turns of the walk, by what the element asks for.
-use Prim.Native.Nat.{ℕ, zero, suc, _+_, _*_, _≤_, _<_}
+use Prim.Native.Nat.{ℕ, _+_, _*_, _≤_, _<_}
 use mathlib.Core.Path.{_≡_, refl, sym, ap, ap₂, subst, _∙_}
 use mathlib.Core.Option.{Option, none, some}
 use mathlib.Core.List.{List, [], _∷_, _++_, append-nil}
@@ -10,6 +10,7 @@ use native.Mathlib.Nat.{min-le-left}
 use native.Mathlib.Omega.{arith}
 use Rattle.format.specs.Limits.{variable-count, max-elements, max-lines, max-turns, no-position, record-bytes}
 use Rattle.format.specs.declared.refusal.Refusal.the-variants.{TooManyTurns as too-many-turns}
+use Rattle.format.specs.Theory.Lists.{every-drop}
 use Rattle.solving.specs.Line.{Bindings, Element, equal, greater, line as line-with, record-of}
 use Rattle.solving.specs.Walk.{enough, becomes, unified, unify, treat, treat-line}
 use Rattle.solving.specs.Contracts.Written.{Inequalities}
@@ -164,11 +165,6 @@ module _ {nodes sizes memory : List ℕ} {w : Walk} {l : LineValue} {at : ℕ} {
   markable-within n (equal p q ∷ es) k u = (omega (arith, u .0 .0), markable-within n es k (u .1))
   markable-within n (greater p q ∷ es) k u = markable-within n es k (u .1)
 
-  within-drop : (n i : ℕ) (es : List Element) → AllWithin n es → AllWithin n (drop i es)
-  within-drop n zero es u = u
-  within-drop n (suc i) [] u = tt
-  within-drop n (suc i) (e ∷ es) u = within-drop n i es (u .1)
-
   at-inside : at < length (g .first .elements)
   at-inside = omega (arith, g .at-is, length-split (g .first) (well-formed-first g) (g .pre) (g .element) (g .post) (g .split))
 
@@ -180,7 +176,7 @@ module _ {nodes sizes memory : List ℕ} {w : Walk} {l : LineValue} {at : ℕ} {
     whole = treating-place g;
     slots = readable-slots (well-formed-first g .readable);
     few = well-formed-first g .few;
-    markable = markable-within (length nodes) (drop (at + 1) (g .first .elements)) (omega (arith, g .laid .few)) (within-drop (length nodes) (at + 1) (g .first .elements) (well-formed-first g .within));
+    markable = markable-within (length nodes) (drop (at + 1) (g .first .elements)) (omega (arith, g .laid .few)) (every-drop (Within (length nodes)) (at + 1) (g .first .elements) (well-formed-first g .within));
     known = g .not-passed;
     inside = at-inside;
   }

@@ -6,7 +6,7 @@ use mathlib.Core.Option.{none, some}
 use mathlib.Core.List.{List, [], _∷_, _++_, map}
 use lib.ListN.{length}
 use borrow.Author.Tests.{lt-ltb, le-ltb}
-use Rattle.format.specs.Lists.{any}
+use Rattle.format.specs.Lists.{any, Every}
 use Rattle.format.specs.Theory.Lists.{any-append}
 use Rattle.format.specs.Limits.{max-lines}
 use Rattle.format.specs.declared.refusal.Refusal.the-variants.{TooManyElements as too-many-elements, TooManyLines as too-many-lines}
@@ -21,8 +21,7 @@ around pre post (line θ cs) = line θ (pre ++ (cs ++ post))
 
 module _ (view : ℕ → Node) (θ : Bindings) where
   abbrev pub Settled : List Element → Type 0
-  Settled [] = Unit {0}
-  Settled (e ∷ es) = (treat enough view θ e ≡ fully-reduced) × Settled es
+  Settled = Every (λ e. treat enough view θ e ≡ fully-reduced)
 
   pub leftmost-none : (es : List Element) → Settled es → treat-leftmost enough view θ es ≡ none
   unfolding treat-leftmost
@@ -46,10 +45,6 @@ module _ (view : ℕ → Node) (θ : Bindings) where
   leftmost-some (d ∷ pre) e post ms h x = rw (h .0, leftmost-some pre e post ms (h .1) x, treat-leftmost) (ap some (front-around d pre post ms))
 
 module _ (view : ℕ → Node) where
-  pub finished-append : (fs gs : List Line) → AllFinished view fs → AllFinished view gs → AllFinished view (fs ++ gs)
-  finished-append [] gs h k = k
-  finished-append (f ∷ fs) gs h k = (h .0, finished-append fs gs (h .1) k)
-
   pub turn-some : (fs : List Line) (l : Line) (ls new : List Line) → AllFinished view fs → treat-line enough view l ≡ some new → turn enough view (fs ++ (l ∷ ls)) ≡ some (fs ++ (new ++ ls))
   unfolding turn
   turn-some [] l ls new h x = rw (x, turn)

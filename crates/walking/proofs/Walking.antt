@@ -9,11 +9,11 @@ use lib.Seq.{slice, take-append-le, take-take, drop-at, take-at, drop-drop, leng
 use borrow.Author.Tests.{le-ltb}
 use native.Mathlib.Omega.{arith}
 use Rattle.format.specs.Lists.{any}
-use Rattle.format.specs.Theory.Lists.{any-append}
+use Rattle.format.specs.Theory.Lists.{any-append, every-append}
 use Rattle.format.specs.Limits.{variable-count, max-elements, max-lines, max-turns, record-bytes}
 use Rattle.format.specs.declared.refusal.Refusal.{Refusal}
 use Rattle.format.specs.declared.refusal.Refusal.the-variants.{TooManyTurns as too-many-turns, TooManyElements as too-many-elements, TooManyLines as too-many-lines}
-use Rattle.solving.specs.Line.{Element, Line, record-of, records}
+use Rattle.solving.specs.Line.{Line, record-of, records}
 use Rattle.terms.specs.Position.{Node}
 use Rattle.solving.specs.Walk.{enough, treat-line, turn, crowded, over-limit}
 use Rattle.solving.specs.Turns.{table-after}
@@ -23,15 +23,15 @@ use Rattle.unifying.specs.Contracts.Bindings.{bindings-of}
 use Rattle.lines.specs.Contracts.Resting.{RestingLine, line-of, resting-bytes}
 use Rattle.lines.specs.Contracts.Layout.{line-bytes, placed}
 use Rattle.lines.specs.Contracts.Room.{lines-bytes}
-use Rattle.walking.specs.Contracts.WellFormed.{KnownReduced}
-use Rattle.walking.specs.Contracts.Walking.{AllWellFormed, HoldsTable, table-reached, GoesOn, Earns}
+use Rattle.walking.specs.Contracts.WellFormed.{KnownReduced, WellFormed}
+use Rattle.walking.specs.Contracts.Walking.{AllWellFormed, HoldsTable, table-reached, GoesOn, Earns, FinishedLine}
 use Rattle.solving.specs.Theory.Turns.{until-too-long, until-over, after-turn, same-table}
 use Rattle.solving.specs.Theory.Records.{length-record-of}
 use Rattle.unifying.specs.Theory.Bindings.{length-bindings, readable-slots}
 use Rattle.lines.specs.Theory.Placed.{placed-length, placed-back, drop-placed}
 use Rattle.lines.specs.Theory.InPlace.{slice-is, lines-append}
 use Rattle.lines.specs.Theory.Resting.{bindings-there}
-use Rattle.walking.proofs.Turn.{Settled, leftmost-none, finished-append, turn-some, short-append, finished-short, crowded-middle, over-elements, over-lines, within-limits}
+use Rattle.walking.proofs.Turn.{leftmost-none, turn-some, short-append, finished-short, crowded-middle, over-elements, over-lines, within-limits}
 use Rattle.walking.specs.Theory.Walking.{well-formed-length}
 
 -- 1. Parts of a buffer.
@@ -45,10 +45,6 @@ pub length-lines : (nodes sizes : List ℕ) (ls : List RestingLine) → AllWellF
 unfolding lines-bytes
 length-lines nodes sizes [] h = refl
 length-lines nodes sizes (l ∷ ls) h = length-append (resting-bytes l) (lines-bytes ls) ∙ omega (arith, well-formed-length l (h .0), length-lines nodes sizes ls (h .1))
-
-pub well-formed-append : (nodes sizes : List ℕ) (xs ys : List RestingLine) → AllWellFormed nodes sizes xs → AllWellFormed nodes sizes ys → AllWellFormed nodes sizes (xs ++ ys)
-well-formed-append nodes sizes [] ys h k = k
-well-formed-append nodes sizes (l ∷ xs) ys h k = (h .0, well-formed-append nodes sizes xs ys (h .1) k)
 
 pub well-formed-short : (nodes sizes : List ℕ) (ls : List RestingLine) → AllWellFormed nodes sizes ls → any crowded (map line-of ls) ≡ false
 unfolding any line-of crowded
@@ -100,7 +96,7 @@ module _ {nodes sizes memory : List ℕ} {done top : ℕ} {finished : List Line}
         top-is = omega (arith, m .top-is, length-append children others);
         ordered = o;
         all-finished = m .all-finished;
-        all-well-formed = well-formed-append nodes sizes children others s (m .all-well-formed .1);
+        all-well-formed = every-append (WellFormed nodes sizes) children others s (m .all-well-formed .1);
       }
 
 -- What no line had before, only the new ones can have.
@@ -208,11 +204,6 @@ module _ (nodes sizes memory : List ℕ) (w : Walk) (finished : List Line) (firs
             only-new = turned-new;
           }
 
--- 3. The line is finished.
-pub settled : (nodes sizes bs : List ℕ) (es : List Element) → KnownReduced nodes sizes bs es → Settled (view-of nodes sizes) (bindings-of bs) es
-settled nodes sizes bs [] h = tt
-settled nodes sizes bs (e ∷ es) h = (h .0, settled nodes sizes bs es (h .1))
-
 records-one-more : (fs : List Line) (l : Line) → records (fs ++ (l ∷ [])) ≡ records fs ++ record-of l
 unfolding records
 records-one-more [] l = append-nil (record-of l)
@@ -259,9 +250,9 @@ module _ (nodes sizes memory : List ℕ) (w : Walk) (finished : List Line) (firs
             done-is = length-append finished (line-of first ∷ []) ∙ omega (arith, m .done-is);
             top-is = omega (arith, m .top-is);
             ordered = omega (arith, m .ordered);
-            all-finished = finished-append (view-of nodes sizes) finished (line-of first ∷ []) (m .all-finished) (
+            all-finished = every-append (FinishedLine (view-of nodes sizes)) finished (line-of first ∷ []) (m .all-finished) (
               record {
-                nothing-left = leftmost-none (view-of nodes sizes) (bindings-of (first .bindings)) (first .elements) (settled nodes sizes (first .bindings) (first .elements) r);
+                nothing-left = leftmost-none (view-of nodes sizes) (bindings-of (first .bindings)) (first .elements) r;
                 short = le-ltb max-elements (length (first .elements)) (s .few);
               },
               tt,

@@ -4,13 +4,26 @@ use mathlib.Core.Path.{_≡_, refl}
 use mathlib.Core.Bool.{Bool, true, false, _&&_, _||_}
 use mathlib.Core.Option.{none, some}
 use mathlib.Core.List.{List, [], _∷_, _++_, map}
-use lib.ListN.{length, getD}
+use lib.ListN.{length, getD, drop}
 use native.Mathlib.Omega.{arith}
 use Rattle.format.specs.Lists.{any, all, entry, Every}
 
 pub every-append : {A : Type 0} (P : A → Type 0) (xs ys : List A) → Every P xs → Every P ys → Every P (xs ++ ys)
 every-append P [] ys h k = k
 every-append P (x ∷ xs) ys h k = (h .0, every-append P xs ys (h .1) k)
+
+pub every-left : {A : Type 0} (P : A → Type 0) (xs ys : List A) → Every P (xs ++ ys) → Every P xs
+every-left P [] ys h = tt
+every-left P (x ∷ xs) ys h = (h .0, every-left P xs ys (h .1))
+
+pub every-right : {A : Type 0} (P : A → Type 0) (xs ys : List A) → Every P (xs ++ ys) → Every P ys
+every-right P [] ys h = h
+every-right P (x ∷ xs) ys h = every-right P xs ys (h .1)
+
+pub every-drop : {A : Type 0} (P : A → Type 0) (i : ℕ) (xs : List A) → Every P xs → Every P (drop i xs)
+every-drop P zero xs h = h
+every-drop P (suc i) [] h = tt
+every-drop P (suc i) (x ∷ xs) h = every-drop P i xs (h .1)
 
 pub every-map : {A : Type 0} {P Q : A → Type 0} → ((x : A) → P x → Q x) → (xs : List A) → Every P xs → Every Q xs
 every-map k [] h = tt

@@ -7,6 +7,7 @@ use mathlib.Core.List.{List, [], _∷_, map}
 use lib.ListN.{length, getD}
 use lib.Seq.{slice}
 use Rattle.format.specs.Limits.{position-count, variable-count, max-elements}
+use Rattle.format.specs.Lists.{Every}
 use Rattle.terms.specs.Term.{Term, Values}
 use Rattle.solving.specs.Line.{Bindings, Element, equal, greater, Line, line, binding-byte, element-bytes}
 use Rattle.comparing.specs.Contracts.Nodes.{TermAt, resolved}
@@ -46,15 +47,13 @@ module _ (nodes lengths values : List ℕ) (ρ : Values) (value : ℕ → Term) 
   ElementTestable (greater p q) = InstanceAt p × InstanceAt q × ((position-count ≤ resolved nodes values p) ⊎ (position-count ≤ resolved nodes values q)) × BothGround (value p) (value q)
 
   abbrev pub ElementsTestable : List Element → Type 0
-  ElementsTestable [] = Unit {0}
-  ElementsTestable (e ∷ es) = ElementTestable e × ElementsTestable es
+  ElementsTestable = Every ElementTestable
 
   abbrev pub LineTestable : Line → Type 0
   LineTestable (line θ es) = (length θ ≡ variable-count) × (length es ≤ max-elements) × BindingsTestable 0 θ × ElementsTestable es
 
   abbrev pub LinesTestable : List Line → Type 0
-  LinesTestable [] = Unit {0}
-  LinesTestable (l ∷ ls) = LineTestable l × LinesTestable ls
+  LinesTestable = Every LineTestable
 
   -- These bindings start at `at`; these elements stand from `from` to `end`; this line, these lines.
   pub record BindingsAre (table : List ℕ) (at : ℕ) (θ : Bindings) : Type 0 where

@@ -5,6 +5,7 @@ use mathlib.Core.Option.{some}
 use mathlib.Core.List.{List, [], _∷_}
 use lib.ListN.{length}
 use Rattle.format.specs.Limits.{variable-count, max-elements}
+use Rattle.format.specs.Lists.{Every}
 use Rattle.solving.specs.Line.{Bindings, lookup, Element, equal, greater, Line, line}
 use Rattle.solving.specs.Contracts.Within.{AllWithin}
 
@@ -13,8 +14,7 @@ Inequality (equal p q) = ⊥
 Inequality (greater p q) = Unit {0}
 
 abbrev pub Inequalities : List Element → Type 0
-Inequalities [] = Unit {0}
-Inequalities (e ∷ es) = Inequality e × Inequalities es
+Inequalities = Every Inequality
 
 -- A line to be written, where there are `n` positions.
 pub record WrittenLine (n : ℕ) (θ : Bindings) (es : List Element) : Type 0 where

@@ -6,6 +6,8 @@ use mathlib.Core.List.{List, [], _∷_, _++_, map}
 use lib.ListN.{length, replicate, length-append, length-map, length-replicate}
 use native.Mathlib.Omega.{arith}
 use Rattle.format.specs.Limits.{variable-count, max-elements, max-lines, record-bytes, table-bytes, no-position}
+use Rattle.format.specs.Lists.{Every}
+use Rattle.format.specs.Theory.Lists.{every-append}
 use Rattle.solving.specs.Line.{Bindings, lookup, Element, equal, greater, Line, line, binding-byte, element-bytes, record-of, records}
 use Rattle.solving.specs.Contracts.Within.{AllWithin}
 use Rattle.solving.specs.Contracts.Written.{WrittenLine, WrittenLines}
@@ -34,14 +36,9 @@ records-fit n table w l = omega (arith, length-records n table w)
 
 -- Each is a byte, where there are at most 256 positions.
 abbrev pub AllBelow : ℕ → List ℕ → Type 0
-AllBelow n [] = Unit {0}
-AllBelow n (b ∷ bs) = (b < n) × AllBelow n bs
+AllBelow n = Every (λ b. b < n)
 
 module _ (n : ℕ) where
-  below-append : (a b : List ℕ) → AllBelow n a → AllBelow n b → AllBelow n (a ++ b)
-  below-append [] b h k = k
-  below-append (x ∷ a) b h k = (h .0, below-append a b (h .1) k)
-
   below-replicate : (k b : ℕ) → b < n → AllBelow n (replicate k b)
   below-replicate zero b h = tt
   below-replicate (suc k) b h = (h, below-replicate k b h)
@@ -62,11 +59,11 @@ module _ {n : ℕ} (small : n ≤ 256) where
   pub record-is-bytes : (θ : Bindings) (es : List Element) → WrittenLine n θ es → AllBelow 256 (record-of (line θ es))
   unfolding record-of
   record-is-bytes θ es w =
-      below-append 256 (map binding-byte θ ++ length es ∷ element-bytes es) (replicate (2 * (max-elements - length es)) no-position)
-      (below-append 256 (map binding-byte θ) (length es ∷ element-bytes es) (bindings-bytes θ (w .bound-within)) (omega (arith, w .few-elements), elements-bytes es (w .elements-within)))
+      every-append (λ b. b < 256) (map binding-byte θ ++ length es ∷ element-bytes es) (replicate (2 * (max-elements - length es)) no-position)
+      (every-append (λ b. b < 256) (map binding-byte θ) (length es ∷ element-bytes es) (bindings-bytes θ (w .bound-within)) (omega (arith, w .few-elements), elements-bytes es (w .elements-within)))
       (below-replicate 256 (2 * (max-elements - length es)) no-position (omega arith))
 
   pub records-are-bytes : (table : List Line) → WrittenLines n table → AllBelow 256 (records table)
   unfolding records
   records-are-bytes [] w = tt
-  records-are-bytes (line θ es ∷ ls) w = below-append 256 (record-of (line θ es)) (records ls) (record-is-bytes θ es (w .0)) (records-are-bytes ls (w .1))
+  records-are-bytes (line θ es ∷ ls) w = every-append (λ b. b < 256) (record-of (line θ es)) (records ls) (record-is-bytes θ es (w .0)) (records-are-bytes ls (w .1))

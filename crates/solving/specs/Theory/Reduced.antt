@@ -5,6 +5,7 @@ use mathlib.Core.Bool.{Bool, true, false}
 use mathlib.Core.Option.{Option, none, some, Option·map}
 use mathlib.Core.List.{List, [], _∷_, _++_, map}
 use native.Mathlib.Omega.{arith}
+use Rattle.format.specs.Lists.{Every}
 use Rattle.terms.specs.Position.{Node, var-node, app-node}
 use Rattle.terms.specs.Theory.View.{Layout}
 use Rattle.solving.specs.Line.{Bindings, Element, equal, greater, Line, line}
@@ -15,8 +16,7 @@ use Rattle.solving.specs.Contracts.Bindings.{Proper}
 use Rattle.solving.specs.Theory.Table.{ProperTable}
 
 abbrev pub AllReduced : (ℕ → Node) → Bindings → List Element → Type 0
-AllReduced view θ [] = Unit {0}
-AllReduced view θ (e ∷ es) = Reduced view θ e × AllReduced view θ es
+AllReduced view θ = Every (Reduced view θ)
 
 -- "A line is finished when all its elements are fully reduced."
 abbrev pub Finished : (ℕ → Node) → List Line → Type 0

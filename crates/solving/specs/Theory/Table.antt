@@ -6,6 +6,7 @@ use mathlib.Core.Option.{Option, none, some, Option·map}
 use mathlib.Core.List.{List, [], _∷_, _++_, map}
 use native.Mathlib.Decide.{ℕ-discrete, decLt}
 use native.Mathlib.Omega.{arith}
+use Rattle.format.specs.Theory.Lists.{every-append}
 use Rattle.terms.specs.Position.{Node, var-node, app-node}
 use Rattle.terms.specs.Theory.View.{In, head, tail, Layout}
 use Rattle.solving.specs.Line.{Bindings, Element, equal, greater, Line, line}
@@ -23,10 +24,6 @@ module _ (view : ℕ → Node) (vars n : ℕ) where
   ProperTable [] = Unit {0}
   ProperTable (l ∷ ls) = ProperLine l × ProperTable ls
 
-  within-append : (es fs : List Element) → AllWithin n es → AllWithin n fs → AllWithin n (es ++ fs)
-  within-append [] fs h k = k
-  within-append (e ∷ es) fs h k = (h .0, within-append es fs (h .1) k)
-
   proper-in-front : (e : Element) → Within n e → (ls : List Line) → ProperTable ls → ProperTable (map (in-front e) ls)
   unfolding in-front
   proper-in-front e x [] h = tt
@@ -35,7 +32,7 @@ module _ (view : ℕ → Node) (vars n : ℕ) where
   proper-behind : (fs : List Element) → AllWithin n fs → (ls : List Line) → ProperTable ls → ProperTable (map (behind fs) ls)
   unfolding behind
   proper-behind fs x [] h = tt
-  proper-behind fs x (line θ es ∷ ls) h = ((h .0 .0, within-append es fs (h .0 .1) x), proper-behind fs x ls (h .1))
+  proper-behind fs x (line θ es ∷ ls) h = ((h .0 .0, every-append (Within n) es fs (h .0 .1) x), proper-behind fs x ls (h .1))
 
   proper-append : (a b : List Line) → ProperTable a → ProperTable b → ProperTable (a ++ b)
   proper-append [] b h k = k

@@ -7,6 +7,7 @@ use mathlib.Core.Option.{Option, none, some, Option·map}
 use mathlib.Core.List.{List, [], _∷_, _++_, map}
 use lib.ListN.{length}
 use native.Mathlib.Omega.{arith}
+use Rattle.format.specs.Lists.{Every}
 use Rattle.terms.specs.Position.{Node, var-node, app-node}
 use Rattle.terms.specs.Theory.View.{In, Layout}
 use Rattle.solving.specs.Line.{Bindings, Element, equal, greater, Line, line}
@@ -33,8 +34,7 @@ module _ {fuel : Fuel} {view : ℕ → Node} {vars n : ℕ} (lay : Layout view v
     Lower b (line θ′ fs) = ((θ′ ≡ θ) × (sum fs < b)) ⊎ (unbound-count θ′ < unbound-count θ)
 
     abbrev AllLower : ℕ → List Line → Type 0
-    AllLower b [] = Unit {0}
-    AllLower b (l ∷ ls) = Lower b l × AllLower b ls
+    AllLower b = Every (Lower b)
 
     lower-lines : (b : ℕ) (ess : List (List Element)) → Light width (pr .height) b ess → AllLower (suc b) (map (line θ) ess)
     unfolding sum

@@ -6,6 +6,8 @@ use lib.ListN.{length}
 use native.Mathlib.Decide.{ℕ-discrete, decLt}
 use native.Mathlib.Omega.{arith}
 use native.Mathlib.Nat.{mul-le-mul-right, pow-succ', one-le-pow, pow-le-pow-right}
+use Rattle.format.specs.Lists.{Every}
+use Rattle.format.specs.Theory.Lists.{every-append, every-map}
 use Rattle.terms.specs.Theory.View.{In, head, tail}
 use Rattle.solving.specs.Line.{Element, equal, greater}
 use Rattle.solving.specs.Walk.{argument-choices, exceeds-each, lexicographic-choices, precedence-choices, same-symbol-choices, choices}
@@ -40,16 +42,10 @@ module _ (width : ℕ) where
 
     -- Each of a list of choices weighs at most `b`.
     abbrev pub Light : ℕ → List (List Element) → Type 0
-    Light b [] = Unit {0}
-    Light b (fs ∷ ess) = (weigh fs ≤ b) × Light b ess
+    Light b = Every (λ fs. weigh fs ≤ b)
 
     light-more : (b c : ℕ) → b ≤ c → (ess : List (List Element)) → Light b ess → Light c ess
-    light-more b c l [] h = tt
-    light-more b c l (fs ∷ ess) h = (omega arith, light-more b c l ess (h .1))
-
-    light-append : (b : ℕ) (x y : List (List Element)) → Light b x → Light b y → Light b (x ++ y)
-    light-append b [] y h k = k
-    light-append b (fs ∷ x) y h k = (h .0, light-append b x y (h .1) k)
+    light-more b c l = every-map (λ fs h. let m : weigh fs ≤ b = h in omega arith)
 
     light-map : (b c : ℕ) (e : Element) → power (weight e) + b ≤ c → (ess : List (List Element)) → Light b ess → Light c (map (e ∷_) ess)
     unfolding weigh
@@ -97,5 +93,5 @@ module _ (width : ℕ) where
           let b = (width + 1) * power w in
           let x = precedence-choices (decLt g f) p qs in
           let y = same-symbol-choices (ℕ-discrete f g) p ps qs in
-          light-append b (argument-choices ps q ++ x) y (light-append b (argument-choices ps q) x (light-more (power w) b (omega arith) (argument-choices ps q) (light-arguments ps h)) (light-precedence (decLt g f) qs l k))
+          every-append (λ fs. weigh fs ≤ b) (argument-choices ps q ++ x) y (every-append (λ fs. weigh fs ≤ b) (argument-choices ps q) x (light-more (power w) b (omega arith) (argument-choices ps q) (light-arguments ps h)) (light-precedence (decLt g f) qs l k))
           (light-same (ℕ-discrete f g) ps qs l h k)

@@ -2,9 +2,10 @@
 use Prim.Native.Nat.{ℕ, zero, suc, _+_, _*_, _≤_, _<_}
 use mathlib.Core.Path.{_≡_}
 use mathlib.Core.Bool.{Bool, true, false}
-use mathlib.Core.List.{List, [], _∷_, _++_, map}
+use mathlib.Core.List.{List, _∷_, _++_, map}
 use lib.ListN.{length, getD}
 use Rattle.format.specs.Limits.{variable-count, max-elements}
+use Rattle.format.specs.Lists.{Every}
 use Rattle.solving.specs.Line.{Element}
 use Rattle.solving.specs.Walk.{argument-choices, choices}
 use Rattle.unifying.specs.Contracts.PrefixForm.{Row, arguments-of}
@@ -23,8 +24,7 @@ lesser (suc m) (suc n) = suc (lesser m n)
 
 -- Lists of `n` elements.
 abbrev pub AllLong : ℕ → List (List Element) → Type 0
-AllLong n [] = Unit {0}
-AllLong n (cs ∷ css) = (length cs ≡ n) × AllLong n css
+AllLong n = Every (λ cs. length cs ≡ n)
 
 -- "then, if f > g, all s > tj; if f = g, for each k the L3 list in argument order": the choices behind those of the arguments, how many they are, and how long.
 pub record LastChoices (p q f g : ℕ) (ss ts : List ℕ) (last : ℕ) : Type 0 where

@@ -3,11 +3,11 @@ use Prim.Native.Nat.{ℕ, _+_, _-_, _*_, _≤_, _<_}
 use mathlib.Core.Path.{_≡_}
 use mathlib.Core.Bool.{Bool, false}
 use mathlib.Core.Option.{Option, none, some}
-use mathlib.Core.List.{List, [], _∷_, _++_, map}
+use mathlib.Core.List.{List, _∷_, _++_, map}
 use lib.ListN.{length, take, drop}
 use Rattle.format.specs.Limits.{variable-count, max-lines, max-turns, record-bytes}
 use Rattle.format.specs.declared.refusal.Refusal.{Refusal}
-use Rattle.format.specs.Lists.{any}
+use Rattle.format.specs.Lists.{any, Every}
 use Rattle.solving.specs.Line.{Element, Line, records}
 use Rattle.terms.specs.Position.{Node}
 use Rattle.solving.specs.Walk.{enough, treat-line, crowded, refused, over-limit, walk-until}
@@ -31,8 +31,7 @@ abbrev pub memory-bytes : ℕ
 memory-bytes = max-lines * line-bytes
 
 abbrev pub AllWellFormed : (nodes sizes : List ℕ) → List RestingLine → Type 0
-AllWellFormed nodes sizes [] = Unit {0}
-AllWellFormed nodes sizes (l ∷ ls) = WellFormed nodes sizes l × AllWellFormed nodes sizes ls
+AllWellFormed nodes sizes = Every (WellFormed nodes sizes)
 
 -- Finished lines, none longer than allowed.
 module _ (view : ℕ → Node) where
@@ -41,8 +40,7 @@ module _ (view : ℕ → Node) where
     pub short : crowded l ≡ false
 
   abbrev pub AllFinished : List Line → Type 0
-  AllFinished [] = Unit {0}
-  AllFinished (l ∷ ls) = FinishedLine l × AllFinished ls
+  AllFinished = Every FinishedLine
 
 -- Finished lines stand as records from the front, the others from their place to the end.
 pub record HoldsTable (nodes sizes memory : List ℕ) (done top : ℕ) (finished : List Line) (unfinished : List RestingLine) : Type 0 where
