@@ -1,10 +1,6 @@
 // Solve: the lines and the turns of one direction of an equation, and its table.
-use answers::number::refusal_number;
-use format::limits::Limits;
-use format::refusal::Refusal;
-use reading::read::SheetStatus;
-use reading::read::read_sheet;
-use solutions::solve::solve_named;
+use crate::direction::directed_call;
+use solutions::direction::Call;
 ghost use mathlib.Core.Path.{_≡_};
 ghost use Rattle.outcomes.specs.Outcome.{solve-call};
 
@@ -20,23 +16,5 @@ pub extern "C" fn neblinaro_solve(
     ensures { λ r. ⌜ solve-call (now (sheet .entry)) equation direction (now (table .entry)) (now (scratch .entry)) ≡ record { returned = r; table = now (table .exit); scratch = now (scratch .exit) } ⌝ }
     ensures unchanged { λ _. ⌜ now (sheet .exit) ≡ now (sheet .entry) ⌝ }
 {
-    if table.len() < Limits::TABLE {
-        return refusal_number(Refusal::ShortBuffer, 0);
-    }
-    if scratch.len() < Limits::SCRATCH {
-        return refusal_number(Refusal::ShortBuffer, 0);
-    }
-    let read = read_sheet(sheet);
-    let status = read.status;
-    match status {
-        SheetStatus::Accepted => solve_named(
-            sheet,
-            read.known,
-            equation,
-            direction,
-            table,
-            scratch,
-        ),
-        SheetStatus::Refused(why, line) => refusal_number(why, line),
-    }
+    directed_call(Call::Solve, sheet, equation, direction, table, scratch)
 }

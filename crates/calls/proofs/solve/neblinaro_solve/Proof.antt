@@ -1,63 +1,14 @@
 -- `neblinaro_solve` returns the defined outcome for every sheet, equation, direction, table and scratch, leaves table and scratch as defined, and the sheet as it is.
-use mathlib.Core.Path.{refl, _∙_}
+use mathlib.Core.Path.{refl}
 use borrow.Author.Needs.{needs}
-use Rattle.outcomes.specs.Outcome.{solve-directed, solve-call}
-use Rattle.calls.proofs.Checked.{refused-line, sheet-accepted}
-use Rattle.calls.proofs.DirectedCall.{table-short, scratch-short, buffers-long, sheet-refused}
+use Rattle.outcomes.specs.Outcome.{solve-call}
+use Rattle.solutions.specs.Contracts.Direction.{call-directed}
 use Rattle.calls.proofs.solve.neblinaro_solve.Statement.{statement}
 use Rattle.calls.proofs.solve.neblinaro_solve.Tie as tie
 
 returns : tie.Need-returns
-unfolding solve-call
-returns c =
-    let start = c .before .before .before .before .before in
-    let gives = solve-directed (start .args .equation) (start .args .table .now) (start .args .scratch .now) in
-    (table-short gives (start .args .sheet .now) (start .args .table .now) (start .args .scratch .now) (start .args .equation) (start .args .direction) (c .before .if1 .taken) (c .refusal-number .ensures), refl)
-
-returns-2 : tie.Need-returns-2
-unfolding solve-call
-returns-2 c =
-    let start = c .before .before .before .before .before .before in
-    let gives = solve-directed (start .args .equation) (start .args .table .now) (start .args .scratch .now) in
-    (scratch-short gives (start .args .sheet .now) (start .args .table .now) (start .args .scratch .now) (start .args .equation) (start .args .direction) (c .before .before .if1 .left) (c .before .if2 .taken) (c .refusal-number2 .ensures), refl)
-
-solve-named-requires : tie.Need-solve-named-requires
-solve-named-requires c κs = (sheet-accepted _ _ _ (c .before .before .before .before .read-sheet .ensures) (c .before .before .enum-told .given .1), (c .before .before .before .before .before .before .if1 .left, c .before .before .before .before .before .if2 .left))
-
-refusal-number-requires-3 : tie.Need-refusal-number-requires-3
-refusal-number-requires-3 c κs = refused-line _ _ _ (c .before .before .before .read-sheet .ensures) (c .before .status .given .1)
-
-returns-3 : tie.Need-returns-3
-unfolding solve-call
-returns-3 c =
-    let at-solve-named = c .before .before .before .before in
-    let at-if-2 = at-solve-named .before .before .before .before .before .before in
-    let at-if = at-if-2 .before in
-    let start = c .before .before .before .before .before .before .before .before .before .before .before .before .before .before .before in
-    let gives = solve-directed (start .args .equation) (start .args .table .now) (start .args .scratch .now) in
-    (buffers-long gives (start .args .sheet .now) (start .args .table .now) (start .args .scratch .now) (start .args .equation) (start .args .direction) (at-if .if1 .left) (at-if-2 .if2 .left) ∙ at-solve-named .solve-named .ensures, refl)
-
-returns-4 : tie.Need-returns-4
-unfolding solve-call
-returns-4 c =
-    let start = c .before .before .before .before .before .before .before .before .before .before in
-    let gives = solve-directed (start .args .equation) (start .args .table .now) (start .args .scratch .now) in
-    (sheet-refused gives (start .args .sheet .now) (start .args .table .now) (start .args .scratch .now) (start .args .equation) (start .args .direction) (c .before .before .before .before .before .before .if1 .left) (c .before .before .before .before .before .if2 .left) _ _ (c .before .before .before .before .read-sheet .ensures) (c .before .before .status .given .1) (c .refusal-number3 .ensures), refl)
+unfolding solve-call call-directed
+returns c = (c .before .before .before .before .directed-call .ensures, refl)
 
 pub neblinaro-solve-spec : {M : Type 1} → statement M
-neblinaro-solve-spec =
-    tie.close
-    (tie.spec
-    (λ c κs. search needs)
-    returns
-    (λ c κs. search needs)
-    returns-2
-    (λ c κs. search needs)
-    (λ c. search needs)
-    solve-named-requires
-    (λ c. search needs)
-    refusal-number-requires-3
-    (λ c. search needs)
-    (λ c. search needs)
-    returns-3
-    returns-4)
+neblinaro-solve-spec = tie.close (tie.spec (λ c κs. search needs) (λ c. search needs) (λ c. search needs) returns)

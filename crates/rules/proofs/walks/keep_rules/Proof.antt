@@ -23,36 +23,35 @@ keep-rule-requires c κs =
     let k = c .before .before .before .loop .inv in
     ((rule-there (c .before .before .before .before .before .before .before .before .before .pre .0 .0) (c .before .before .loop-test .taken), omega (arith, k .scratch-length, c .before .before .before .before .before .before .before .before .before .pre .1 .1)), (k .within, omega (arith, k .table-length, c .before .before .before .before .before .before .before .before .before .pre .1 .0)))
 
-returns : tie.Need-returns Inv-loop μ-loop
-returns c =
-    let entry = c .before .before .before .before .before .before .before .before .before .before .before .before .before .before .before .before .before in
-    let answer = c .before .before .before .before .before .before .before .keep-rule in
-    let t : Turn _ _ _ _ _ _ _ _ _ _ _ (answer .result) (answer .last .1 .1 .1 .0) (answer .last .1 .1 .1 .1 .1 .0) = record {
+-- What is known behind the walk of a rule.
+turn-at :
+    (c : tie.After-keep-rule Inv-loop μ-loop) → let entry = c .before .before .before .before .before .before .before .before .before .before in
+    let loop = c .before .before .before .before .loop in
+    let answer = c .keep-rule in
+    Turn (entry .args .equations .now) (entry .args .lengths .now) (entry .args .count) (entry .args .table .now) (entry .args .scratch .now) (loop .bounds) (loop .table) (loop .scratch) (loop .fits) (loop .start) (loop .rule) (answer .result) (answer .last .1 .1 .1 .0) (answer .last .1 .1 .1 .1 .1 .0)
+turn-at c =
+    let entry = c .before .before .before .before .before .before .before .before .before .before in
+    let answer = c .keep-rule in
+    record {
       has = entry .pre .0 .0;
-      low = c .before .before .before .before .before .before .before .before .before .before .loop-test .taken;
+      low = c .before .before .before .loop-test .taken;
       room = entry .pre .1 .0;
-      walking = c .before .before .before .before .before .before .before .before .before .before .before .loop .inv;
+      walking = c .before .before .before .before .loop .inv;
       answer = answer .ensures .0;
       same-table = answer .kept .1 .1 .1 .0;
       same-scratch = answer .kept .1 .1 .1 .1 .1 .0;
       scratch-rest = answer .ensures .1;
-    } in
-    (walk-refused t (c .before .why .given .1), (refused-behind t (c .before .why .given .1), answer .ensures .1 ∙ c .before .before .before .before .before .before .before .before .before .before .before .loop .inv .scratch-behind))
+    }
+
+returns : tie.Need-returns Inv-loop μ-loop
+returns c =
+    let at-keep-rule = c .before .before .before .before .before .before .before in
+    let t = turn-at at-keep-rule in
+    (walk-refused t (c .before .why .given .1), (refused-behind t (c .before .why .given .1), at-keep-rule .keep-rule .ensures .1 ∙ at-keep-rule .before .before .before .before .loop .inv .scratch-behind))
 
 loop-again : tie.Need-loop-again Inv-loop μ-loop
 loop-again c =
-    let entry = c .before .before .before .before .before .before .before .before .before .before .before .before .before .before .before in
-    let answer = c .before .before .before .before .before .keep-rule in
-    let t : Turn _ _ _ _ _ _ _ _ _ _ _ (answer .result) (answer .last .1 .1 .1 .0) (answer .last .1 .1 .1 .1 .1 .0) = record {
-      has = entry .pre .0 .0;
-      low = c .before .before .before .before .before .before .before .before .loop-test .taken;
-      room = entry .pre .1 .0;
-      walking = c .before .before .before .before .before .before .before .before .before .loop .inv;
-      answer = answer .ensures .0;
-      same-table = answer .kept .1 .1 .1 .0;
-      same-scratch = answer .kept .1 .1 .1 .1 .1 .0;
-      scratch-rest = answer .ensures .1;
-    } in
+    let t = turn-at (c .before .before .before .before .before) in
     ⊎-elim (λ w. turn-full t (w .1 .given .1) (w .2) (w .3))
     (⊎-elim (λ w. turn-kept t (w .1 .given .1) (w .4) (w .5)) (λ w. turn-unkept t (w .1 .given .1) (w .4) (w .3 .left) (w .5)))
     (c .match .came)

@@ -1,8 +1,8 @@
 -- `push_choices` meets its contract: the lines of the arguments' choices, and behind them those of the last ones.
 use Prim.Native.Nat.{_+_, _*_}
-use mathlib.Core.Path.{refl, _∙_}
+use mathlib.Core.Path.{_≡_, refl, _∙_}
 use native.Mathlib.Omega.{arith}
-use lib.ListN.{set, length-set}
+use lib.ListN.{length, set, length-set}
 use Rattle.lines.specs.Contracts.Layout.{first-element, reduced-place}
 use Rattle.treating.proofs.Splitting.{positive, room-for, line-long, arguments-fit, only-arguments, room-fits, exceeding-fits, one-more-fits, pushed-more, lexicographic-fits, pushed-same}
 use borrow.Author.Needs.{needs}
@@ -49,7 +49,6 @@ make-room-requires c κs =
     let start = c .before .before .before .before .before .before .before .before .before .before .before .before in
     let choices = start .args .choices in
     let line₁ = set (start .args .line .now) reduced-place (choices .at) in
-    let place = 2 * choices .at + first-element in
     room-fits (start .pre .facts) line₁ refl (positive (c .before .if1 .left))
 
 fill-exceeding-requires : tie.Need-fill-exceeding-requires
@@ -57,9 +56,17 @@ fill-exceeding-requires c κs =
     let at-if = c .before .before .before .before .before in
     let start = at-if .before .before .before .before .before .before .before .before .before .before .before in
     let choices = start .args .choices in
-    let line₁ = set (start .args .line .now) reduced-place (choices .at) in
     let place = 2 * choices .at + first-element in
     exceeding-fits (start .pre .facts) (c .before .before .before .make-room .last .0) place (c .before .before .before .make-room .kept .0 ∙ (length-set (start .args .line .now) reduced-place (choices .at) ∙ line-long (start .pre .facts))) refl (positive (at-if .if1 .left))
+
+-- The line keeps its length.
+line-kept :
+    (c : tie.After-fill-exceeding) → let start = c .before .before .before .before .before .before .before .before .before .before .before .before .before .before .before .before .before in
+    length (c .fill-exceeding .last .1 .0) ≡ length (start .args .line .now)
+line-kept c =
+    let at-make-room = c .before .before .before .before in
+    let start = at-make-room .before .before .before .before .before .before .before .before .before .before .before .before .before in
+    c .fill-exceeding .kept .1 .0 ∙ (at-make-room .make-room .kept .0 ∙ length-set (start .args .line .now) reduced-place (start .args .choices .at))
 
 store-requires : tie.Need-store-requires
 store-requires c κs =
@@ -71,17 +78,10 @@ store-requires c κs =
     let choices = start .args .choices in
     let line₁ = set (start .args .line .now) reduced-place (choices .at) in
     let place = 2 * choices .at + first-element in
-    (one-more-fits (start .pre .facts) line₁ (at-make-room .make-room .last .0) (at-fill-exceeding .fill-exceeding .last .1 .0) (start .args .memory .now) (at-push-arguments .push-arguments .last .1 .1 .1 .1 .1 .0) (start .args .to) place (at-push-arguments .push-arguments .result) refl refl (positive (at-if .if1 .left)) (start .pre .room) (at-push-arguments .push-arguments .ensures) (at-make-room .make-room .ensures) (at-fill-exceeding .fill-exceeding .ensures), at-fill-exceeding .fill-exceeding .kept .1 .0 ∙ (at-make-room .make-room .kept .0 ∙ (length-set (start .args .line .now) reduced-place (choices .at) ∙ line-long (start .pre .facts))))
+    (one-more-fits (start .pre .facts) line₁ (at-make-room .make-room .last .0) (at-fill-exceeding .fill-exceeding .last .1 .0) (start .args .memory .now) (at-push-arguments .push-arguments .last .1 .1 .1 .1 .1 .0) (start .args .to) place (at-push-arguments .push-arguments .result) refl refl (positive (at-if .if1 .left)) (start .pre .room) (at-push-arguments .push-arguments .ensures) (at-make-room .make-room .ensures) (at-fill-exceeding .fill-exceeding .ensures), line-kept at-fill-exceeding ∙ line-long (start .pre .facts))
 
 same-length-3 : tie.Need-same-length-3
-same-length-3 c =
-    let at-fill-exceeding = c .before .before .before .before .before .before .before .before .before in
-    let at-make-room = at-fill-exceeding .before .before .before .before in
-    let start = at-make-room .before .before .before .before .before .before .before .before .before .before .before .before .before in
-    let choices = start .args .choices in
-    let line₁ = set (start .args .line .now) reduced-place (choices .at) in
-    let place = 2 * choices .at + first-element in
-    at-fill-exceeding .fill-exceeding .kept .1 .0 ∙ (at-make-room .make-room .kept .0 ∙ length-set (start .args .line .now) reduced-place (choices .at))
+same-length-3 c = line-kept (c .before .before .before .before .before .before .before .before .before)
 
 same-length-4 : tie.Need-same-length-4
 same-length-4 c = search needs
@@ -109,17 +109,10 @@ push-lexicographic-requires c κs =
     let choices = start .args .choices in
     let line₁ = set (start .args .line .now) reduced-place (choices .at) in
     let place = 2 * choices .at + first-element in
-    lexicographic-fits (start .pre .facts) line₁ (at-make-room .make-room .last .0) (at-fill-exceeding .fill-exceeding .last .1 .0) (start .args .memory .now) (at-push-arguments .push-arguments .last .1 .1 .1 .1 .1 .0) (start .args .to) place (at-push-arguments .push-arguments .result) refl refl (positive (at-if .if1 .left)) (start .pre .room) (at-push-arguments .push-arguments .ensures) (at-make-room .make-room .ensures) (at-fill-exceeding .fill-exceeding .ensures) (c .before .before .if2 .left) (at-fill-exceeding .fill-exceeding .kept .1 .0 ∙ (at-make-room .make-room .kept .0 ∙ (length-set (start .args .line .now) reduced-place (choices .at) ∙ line-long (start .pre .facts))))
+    lexicographic-fits (start .pre .facts) line₁ (at-make-room .make-room .last .0) (at-fill-exceeding .fill-exceeding .last .1 .0) (start .args .memory .now) (at-push-arguments .push-arguments .last .1 .1 .1 .1 .1 .0) (start .args .to) place (at-push-arguments .push-arguments .result) refl refl (positive (at-if .if1 .left)) (start .pre .room) (at-push-arguments .push-arguments .ensures) (at-make-room .make-room .ensures) (at-fill-exceeding .fill-exceeding .ensures) (c .before .before .if2 .left) (line-kept at-fill-exceeding ∙ line-long (start .pre .facts))
 
 same-length-5 : tie.Need-same-length-5
-same-length-5 c =
-    let at-fill-exceeding = c .before .before .before .before .before .before .before .before .before in
-    let at-make-room = at-fill-exceeding .before .before .before .before in
-    let start = at-make-room .before .before .before .before .before .before .before .before .before .before .before .before .before in
-    let choices = start .args .choices in
-    let line₁ = set (start .args .line .now) reduced-place (choices .at) in
-    let place = 2 * choices .at + first-element in
-    at-fill-exceeding .fill-exceeding .kept .1 .0 ∙ (at-make-room .make-room .kept .0 ∙ length-set (start .args .line .now) reduced-place (choices .at))
+same-length-5 c = line-kept (c .before .before .before .before .before .before .before .before .before)
 
 same-length-6 : tie.Need-same-length-6
 same-length-6 c = search needs

@@ -2,7 +2,8 @@
 -- a function stands in the chain of those that hand the same terms on.
 use Prim.Native.Nat.{ℕ, _+_, _*_, _<_}
 use Rattle.comparing.specs.Theory.Weight.{term-weight, row-weight}
-use borrow.Fn.Kinds.{In}
+use mathlib.Core.List.{List}
+use borrow.Fn.Kinds.{PK, In}
 use borrow.Fn.PlainCycle.{Measures, is, falls, and}
 use Rattle.comparing.proofs.comparison.argument_reaches.Reads as argument-reaches
 use Rattle.comparing.proofs.comparison.argument_reaches.Kinds as argument-reaches-kinds
@@ -50,91 +51,48 @@ abbrev pub μ-exceeds-arguments : Measures 5 exceeds-arguments-kinds.ps ℕ
 abbrev pub μ-first-difference : Measures 5 first-difference-kinds.ps ℕ
 μ-first-difference κs a = (term-weight (a .0 .now) (a .1 .0 .now) (a .1 .1 .0 .now) (a .1 .1 .1 .1 .1 .0) + term-weight (a .0 .now) (a .1 .0 .now) (a .1 .1 .0 .now) (a .1 .1 .1 .1 .1 .1 .0)) * 8 + 0
 
+-- The precondition of a function of the cycle where its measure is `t`, and where it is below `t`.
+abbrev measured-at : (ps : List (PK 5)) → Measures 5 ps ℕ → In 5 ps → ℕ → In 5 ps
+measured-at ps μ pre t = and 5 ps (is 5 ps μ t) pre
+
+abbrev measured-below : (ps : List (PK 5)) → Measures 5 ps ℕ → In 5 ps → ℕ → In 5 ps
+measured-below ps μ pre t = and 5 ps (falls 5 ps _<_ μ t) pre
+
 abbrev pub argument-reaches-at : ℕ → In 5 argument-reaches-kinds.ps
-argument-reaches-at t =
-    and
-    5
-    argument-reaches-kinds.ps
-    (is 5 argument-reaches-kinds.ps μ-argument-reaches t)
-    argument-reaches.Pre
+argument-reaches-at = measured-at argument-reaches-kinds.ps μ-argument-reaches argument-reaches.Pre
 
 abbrev pub argument-reaches-below : ℕ → In 5 argument-reaches-kinds.ps
-argument-reaches-below t =
-    and
-    5
-    argument-reaches-kinds.ps
-    (falls 5 argument-reaches-kinds.ps _<_ μ-argument-reaches t)
-    argument-reaches.Pre
+argument-reaches-below = measured-below argument-reaches-kinds.ps μ-argument-reaches argument-reaches.Pre
 
 abbrev pub compare-arguments-at : ℕ → In 5 compare-arguments-kinds.ps
-compare-arguments-at t =
-    and
-    5
-    compare-arguments-kinds.ps
-    (is 5 compare-arguments-kinds.ps μ-compare-arguments t)
-    compare-arguments.Pre
+compare-arguments-at = measured-at compare-arguments-kinds.ps μ-compare-arguments compare-arguments.Pre
 
 abbrev pub compare-arguments-below : ℕ → In 5 compare-arguments-kinds.ps
-compare-arguments-below t =
-    and
-    5
-    compare-arguments-kinds.ps
-    (falls 5 compare-arguments-kinds.ps _<_ μ-compare-arguments t)
-    compare-arguments.Pre
+compare-arguments-below = measured-below compare-arguments-kinds.ps μ-compare-arguments compare-arguments.Pre
 
 abbrev pub compare-symbols-at : ℕ → In 5 compare-symbols-kinds.ps
-compare-symbols-at t =
-    and
-    5
-    compare-symbols-kinds.ps
-    (is 5 compare-symbols-kinds.ps μ-compare-symbols t)
-    compare-symbols.Pre
+compare-symbols-at = measured-at compare-symbols-kinds.ps μ-compare-symbols compare-symbols.Pre
 
 abbrev pub compare-symbols-below : ℕ → In 5 compare-symbols-kinds.ps
-compare-symbols-below t =
-    and
-    5
-    compare-symbols-kinds.ps
-    (falls 5 compare-symbols-kinds.ps _<_ μ-compare-symbols t)
-    compare-symbols.Pre
+compare-symbols-below = measured-below compare-symbols-kinds.ps μ-compare-symbols compare-symbols.Pre
 
 abbrev pub exceeds-at : ℕ → In 5 exceeds-kinds.ps
-exceeds-at t = and 5 exceeds-kinds.ps (is 5 exceeds-kinds.ps μ-exceeds t) exceeds.Pre
+exceeds-at = measured-at exceeds-kinds.ps μ-exceeds exceeds.Pre
 
 abbrev pub exceeds-below : ℕ → In 5 exceeds-kinds.ps
-exceeds-below t = and 5 exceeds-kinds.ps (falls 5 exceeds-kinds.ps _<_ μ-exceeds t) exceeds.Pre
+exceeds-below = measured-below exceeds-kinds.ps μ-exceeds exceeds.Pre
 
 abbrev pub exceeds-arguments-at : ℕ → In 5 exceeds-arguments-kinds.ps
-exceeds-arguments-at t =
-    and
-    5
-    exceeds-arguments-kinds.ps
-    (is 5 exceeds-arguments-kinds.ps μ-exceeds-arguments t)
-    exceeds-arguments.Pre
+exceeds-arguments-at = measured-at exceeds-arguments-kinds.ps μ-exceeds-arguments exceeds-arguments.Pre
 
 abbrev pub exceeds-arguments-below : ℕ → In 5 exceeds-arguments-kinds.ps
-exceeds-arguments-below t =
-    and
-    5
-    exceeds-arguments-kinds.ps
-    (falls 5 exceeds-arguments-kinds.ps _<_ μ-exceeds-arguments t)
-    exceeds-arguments.Pre
+exceeds-arguments-below = measured-below exceeds-arguments-kinds.ps μ-exceeds-arguments exceeds-arguments.Pre
 
 abbrev pub first-difference-at : ℕ → In 5 first-difference-kinds.ps
-first-difference-at t =
-    and
-    5
-    first-difference-kinds.ps
-    (is 5 first-difference-kinds.ps μ-first-difference t)
-    first-difference.Pre
+first-difference-at = measured-at first-difference-kinds.ps μ-first-difference first-difference.Pre
 
 abbrev pub first-difference-below : ℕ → In 5 first-difference-kinds.ps
-first-difference-below t =
-    and
-    5
-    first-difference-kinds.ps
-    (falls 5 first-difference-kinds.ps _<_ μ-first-difference t)
-    first-difference.Pre
+first-difference-below = measured-below first-difference-kinds.ps μ-first-difference first-difference.Pre
 
 abbrev pub argument-reaches-calls : ℕ → argument-reaches-lts.Claims
 argument-reaches-calls t = (behind-smaller-reads.Asked, behind-smaller-reads.Learnt, exceeds-below t, exceeds.Post, wide-reads.Asked, wide-reads.Learnt)

@@ -1,8 +1,8 @@
--- `always_named` is always on an accepted sheet.
+-- `direction_named` is the call on an accepted sheet.
 use borrow.Author.Needs.{needs}
 use Rattle.solutions.proofs.Directed.{equation-absent, direction-absent}
-use Rattle.solutions.proofs.always.always_named.Statement.{statement}
-use Rattle.solutions.proofs.always.always_named.Tie as tie
+use Rattle.solutions.proofs.direction.direction_named.Statement.{statement}
+use Rattle.solutions.proofs.direction.direction_named.Tie as tie
 
 returns : tie.Need-returns
 returns c = equation-absent _ _ _ _ _ _ _ (c .before .before .before .before .before .pre .0) (c .before .if1 .taken) (c .refusal-number .ensures)
@@ -10,8 +10,8 @@ returns c = equation-absent _ _ _ _ _ _ _ (c .before .before .before .before .be
 returns-2 : tie.Need-returns-2
 returns-2 c = direction-absent _ _ _ _ _ _ _ (c .before .before .before .before .before .before .pre .0) (c .before .before .if1 .left) (c .before .if2 .taken) (c .refusal-number2 .ensures)
 
-pub always-named-spec : {M : Type 1} → statement M
-always-named-spec =
+pub direction-named-spec : {M : Type 1} → statement M
+direction-named-spec =
     tie.close
     (tie.spec
     (λ c κs. search needs)

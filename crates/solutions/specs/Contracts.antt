@@ -1,0 +1,2 @@
+-- What the contracts of the code cite.
+pub mod Direction
