@@ -236,7 +236,7 @@ uint64_t neblinaro_always(const uint8_t *sheet, size_t sheet_length, uint64_t eq
                           uint8_t *table, size_t table_length, uint8_t *scratch, size_t scratch_length);
 
 /*
- * Judges a task (frame 04): whether some line of its equation and direction holds at its values. This is exactly where
+ * Judges a task (frame 04): whether some line of its equation and direction holds at its values. This is so exactly if
  * the greater side's instance exceeds the other's.
  *
  * table: at least NEBLINARO_TABLE_BYTES; so many of its bytes are ff afterwards.

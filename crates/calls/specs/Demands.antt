@@ -1,5 +1,6 @@
--- Demands 2 and 3 over what the calls give, and W5, W6, W8 and W10 of document 02, each a proposition beside its words. Theory proves them: Verdicts, Tables,
--- Runs, Filling, Always, Termination. The contracts of the six calls (src/) equate what the code gives with these outcomes, so that the demands speak of the code.
+-- Demands 2 and 3 over what the calls give, what judge gives, and W3, W5, W6, W8 and W10 of document 02, each a proposition beside its words. Theory proves them:
+-- Verdicts, Tables, Judges, Runs, Walks, Filling, Always, Termination, and all together Met. The contracts of the six calls (src/) equate what the code gives with
+-- these outcomes, so that the demands speak of the code.
 use Prim.Native.Nat.{ℕ, suc, _≤_, _<_}
 use mathlib.Core.Path.{_≡_}
 use mathlib.Core.Logic.{_⊎_, _↔_}
@@ -10,30 +11,33 @@ use mathlib.Core.WellFounded.{Acc}
 use lib.ListN.{length}
 use Rattle.format.specs.Limits.{variable-count, position-count, max-elements, max-turns, scratch-bytes}
 use Rattle.format.specs.Refusal.{number}
+use Rattle.format.specs.declared.refusal.Refusal.{Refusal}
 use Rattle.format.specs.declared.refusal.Refusal.the-variants.{ShortBuffer as short-buffer, AbsentArgument as absent-argument}
 use Rattle.format.specs.Buffer.{written}
 use Rattle.format.specs.Lists.{entry}
-use Rattle.terms.specs.Term.{Term, app, nil, Ground, Values, inst}
+use Rattle.terms.specs.Term.{Term, Terms, app, nil, count, Ground, Grounds, Values, inst}
 use Rattle.terms.specs.Filling.{lowest-constant, filling}
 use Rattle.terms.specs.Equation.{Equation, Direction, direction-of, source, target, source-position, target-position, view, value}
 use Rattle.ordering.specs.Order.{_≻_}
 use Rattle.ordering.specs.Below.{Below}
 use Rattle.ordering.specs.declared.decision.Clause.the-variants.{L1 as by-L1, L2 as by-L2, L3 as by-L3}
 use Rattle.ordering.specs.Clause.{Applies}
-use Rattle.sheet.specs.Sheet.{Sheet, run, comparison}
+use Rattle.sheet.specs.Sheet.{Sheet, run, judgement, comparison, equation-width}
 use Rattle.sheet.specs.Reading.{accepted, read}
 use Rattle.solving.specs.Line.{Bindings, Element, equal, greater, Line, line, records}
-use Rattle.solving.specs.Walk.{Fuel, AtLeast, solved, walk-within, solve, Solves}
+use Rattle.solving.specs.Walk.{Fuel, AtLeast, solved, refused, walk-within, solve, Solves}
 use Rattle.solving.specs.Always.{has-empty, answered, always, reached}
-use Rattle.solving.specs.Holds.{SomeLineHolds}
+use Rattle.solving.specs.Holds.{LineHolds, SomeLineHolds}
 use Rattle.reducing.specs.declared.ending.Ending.the-variants.{NoneFound as none-found}
 use Rattle.reducing.specs.Run.{Descending, last-term}
-use Rattle.reducing.specs.Test.{line-run, reference-run, EverySolves}
+use Rattle.reducing.specs.Test.{line-run, reference-run, EverySolves, given-values}
+use Rattle.reducing.specs.Contracts.Rules.{rule-number}
 use Rattle.reducing.specs.Reduction.{Reduces, Irreducible, StepsReduce}
+use Rattle.reducing.specs.Walks.{equation-line}
 use Rattle.termination.specs.Walk.{slots, enough-for, no-limit, walk-allowed, WalkEnds}
 use Rattle.termination.specs.Run.{RunEnds}
-use Rattle.outcomes.specs.Buffer.{fields, first-field, refusal-byte, blanked, cleared}
-use Rattle.outcomes.specs.Outcome.{compare-call, table-fits, solve-call, answer-number, always-call, run-fits, run-done, run-call}
+use Rattle.outcomes.specs.Buffer.{field-limit, fields, first-field, refusal-byte, refusal-number, blanked, cleared}
+use Rattle.outcomes.specs.Outcome.{compare-call, table-fits, solve-call, answer-number, always-call, judge-call, run-fits, run-done, run-call}
 
 -- The number that a call returns names no refusal.
 abbrev pub Served : ℕ → Type 0
@@ -107,6 +111,56 @@ pub record TableDemand (sheet : List ℕ) (e d : ℕ) (table scratch : List ℕ)
 abbrev pub TablesDemanded : Type 0
 TablesDemanded = (sheet : List ℕ) (e d : ℕ) (table scratch : List ℕ) → Served (solve-call sheet e d table scratch .returned) → TableDemand sheet e d table scratch
 
+-- Document 01, 'Calls and lent memory': "Judge: 1 or 0, first holding line counted from 1 or 0."
+
+-- What a call of judge names in an accepted sheet: an equation, a direction, and "ground values for variables 80 up to the highest of that equation, one each".
+pub record JudgementNamed (sheet : List ℕ) (task : ℕ) : Type 0 where
+  pub content : Sheet
+  pub reads : read sheet ≡ accepted content
+  pub equation-number : ℕ
+  pub equation : Equation
+  pub direction : Direction
+  pub values : Terms
+  pub task-there : entry (content .tasks) task ≡ some (judgement equation-number direction values)
+  pub equation-there : entry (content .equations) equation-number ≡ some equation
+  pub one-each : count values ≡ equation-width equation
+  pub values-ground : Grounds (content .arities) values
+
+-- The values of the frame: the first is that of variable 80, the next that of 81, and so on. And the instance at these values of the term at a position.
+module _ {sheet : List ℕ} {task : ℕ} (named : JudgementNamed sheet task) where
+  abbrev pub frame-values : Values
+  frame-values = given-values (named .values)
+
+  abbrev pub frame-instance : (position : ℕ) → Term
+  frame-instance = value (named .equation) frame-values
+
+pub record JudgeDemand (sheet : List ℕ) (task : ℕ) (table scratch : List ℕ) : Type 0 where
+  pub named : JudgementNamed sheet task
+  -- "Judge and run first walk every equation and direction in order": judge serves only where every direction solves. The order tells which refusal is given
+  -- else (`first-refusal`): `JudgeRefusedInOrder` below.
+  pub solves : EverySolves (named .content .equations)
+  -- The lines are those with which the walk of the judged direction ends, and which solve writes.
+  pub lines : List Line
+  pub turns : ℕ
+  pub walked : solve (named .equation) (named .direction) ≡ solved lines turns
+  -- The number has the answer and the first holding line; "scratch's first 57,344 bytes are 00"; "judge and run leave the table's first" 23,715 (document 02, W9)
+  -- "bytes ff".
+  pub answer : Bool
+  pub holding : ℕ
+  pub given : judge-call sheet task table scratch ≡ record { returned = fields (answer-number answer) holding 0; table = blanked table; scratch = cleared scratch }
+  -- A table has at most 255 lines, so that the line fits its field.
+  pub fits : holding < field-limit
+  -- "1 or 0": 1 exactly if the source instance exceeds the target instance by L1 to L3, which is exactly if some line holds.
+  pub exceeds : (answer ≡ true) ↔ (inst (frame-values named) (source (named .equation) (named .direction)) ≻ inst (frame-values named) (target (named .equation) (named .direction)))
+  pub some-line : (answer ≡ true) ↔ SomeLineHolds (frame-values named) (frame-instance named) lines
+  -- "first holding line counted from 1 or 0": the line of this number holds, and none before it does; 0 exactly if none holds. `entry` counts from 0.
+  pub line-holds : (i : ℕ) → holding ≡ suc i → (l : Line) × (entry lines i ≡ some l) × LineHolds (frame-values named) (frame-instance named) l
+  pub none-earlier : (i : ℕ) (l : Line) → suc i < holding → entry lines i ≡ some l → ¬ LineHolds (frame-values named) (frame-instance named) l
+  pub none-holds : (holding ≡ 0) ↔ (¬ SomeLineHolds (frame-values named) (frame-instance named) lines)
+
+abbrev pub JudgesDemanded : Type 0
+JudgesDemanded = (sheet : List ℕ) (task : ℕ) (table scratch : List ℕ) → Served (judge-call sheet task table scratch .returned) → JudgeDemand sheet task table scratch
+
 -- Demand 3: "Where every direction solves, a run, which consults only the lines, has for every ground term and step limit the same steps in the same order,
 -- count, ending and last term as the reference run, which compares the instances by L1 to L3; and each term of the run exceeds the next." Both have the same
 -- filling (document 02, W5): "The reference run takes the same filling before it compares instances, and a run is compared with that."
@@ -143,8 +197,8 @@ RunsAreReferenceRuns =
     (sheet : List ℕ) (s : Sheet) → read sheet ≡ accepted s → EverySolves (s .equations) → (k : ℕ) (subject : Term)
     → (line-run (filling (s .arities)) (s .equations) k subject ≡ reference-run (filling (s .arities)) (s .equations) k subject) × Descending subject (line-run (filling (s .arities)) (s .equations) k subject .steps)
 
--- What is asked for is given: with buffers that are long enough, compare serves each task of two terms, solve each direction that solves, and run each task of
--- a run where every direction solves.
+-- What is asked for is given: with buffers that are long enough, compare serves each task of two terms, solve each direction that solves, and, where every
+-- direction solves, judge each judgement and run each run.
 abbrev pub CompareServes : Type 0
 CompareServes =
     (sheet : List ℕ) (s : Sheet) (task : ℕ) (t u : Term) (scratch : List ℕ) → read sheet ≡ accepted s → entry (s .tasks) task ≡ some (comparison t u)
@@ -155,10 +209,25 @@ SolveServes =
     (sheet : List ℕ) (s : Sheet) (e d : ℕ) (q : Equation) (o : Direction) (table scratch : List ℕ) → read sheet ≡ accepted s → entry (s .equations) e ≡ some q
     → direction-of d ≡ some o → Solves q o → table-fits table scratch ≡ true → Served (solve-call sheet e d table scratch .returned)
 
+abbrev pub JudgeServes : Type 0
+JudgeServes =
+    (sheet : List ℕ) (s : Sheet) (task e : ℕ) (d : Direction) (values : Terms) (table scratch : List ℕ) → read sheet ≡ accepted s → entry (s .tasks) task ≡ some (judgement e d values)
+    → EverySolves (s .equations) → table-fits table scratch ≡ true → Served (judge-call sheet task table scratch .returned)
+
 abbrev pub RunServes : Type 0
 RunServes =
     (sheet : List ℕ) (s : Sheet) (task k : ℕ) (t : Term) (table scratch term log : List ℕ) → read sheet ≡ accepted s → entry (s .tasks) task ≡ some (run k t)
     → EverySolves (s .equations) → run-fits table scratch term log ≡ true → Served (run-call sheet task table scratch term log .returned)
+
+-- Judge is refused by the first walk that is refused, with its equation's line, whichever equation and direction the task names: "Judge and run first walk every
+-- equation and direction in order"; "The line is the equation's"; "Refusals 8 to 10 leave" 23,715 (document 02, W9) "table bytes ff and 57,344 scratch bytes 00".
+-- Equation `i` in direction `o` is refused, and all before it in the order solve: equations ascending, direction 00 before 01 (`rule-number`).
+abbrev pub JudgeRefusedInOrder : Type 0
+JudgeRefusedInOrder =
+    (sheet : List ℕ) (s : Sheet) (task e : ℕ) (d : Direction) (values : Terms) (table scratch : List ℕ) → read sheet ≡ accepted s → entry (s .tasks) task ≡ some (judgement e d values)
+    → table-fits table scratch ≡ true → (i : ℕ) (q : Equation) (o : Direction) (why : Refusal) → entry (s .equations) i ≡ some q → solve q o ≡ refused why
+    → ((j : ℕ) (p : Equation) (c : Direction) → entry (s .equations) j ≡ some p → rule-number j c < rule-number i o → Solves p c)
+    → judge-call sheet task table scratch ≡ record { returned = refusal-number why (equation-line i); table = blanked table; scratch = cleared scratch }
 
 -- Document 01: "On an accepted sheet no refusal but 11 or 12, which give no table and no run, can meet solve on a direction that solves, or run where every
 -- direction solves."
@@ -174,6 +243,13 @@ abbrev pub RunRefusedByHost : Type 0
 RunRefusedByHost =
     (sheet : List ℕ) (s : Sheet) (task : ℕ) (table scratch term log : List ℕ) → read sheet ≡ accepted s
     → EverySolves (s .equations) → ServedOrHost (run-call sheet task table scratch term log .returned)
+
+-- Document 02, W3: "The host still receives the old width": each count of turns with which solve or always ends fits a field of 16 bits. That the code holds the
+-- count "in a 16-bit number throughout the walk" is no statement about the definitions: the code's types and contracts say it (docs/DEMANDS.md).
+abbrev pub TurnsFit : Type 0
+TurnsFit =
+    (q : Equation) (d : Direction)
+    → ((solves : Solves q d) → solves .turns < field-limit) × ((answer : Bool) (turns : ℕ) → always q d ≡ answered answer turns → turns < field-limit)
 
 -- Document 02, W5: "fills such a variable with the lowest constant of the sheet". On an accepted sheet this is a ground term over the sheet's symbols: a symbol of
 -- arity 0, and none of a lower number has arity 0.
@@ -339,3 +415,52 @@ pub record UnlimitedDemand (sheet : List ℕ) (e d : ℕ) (table scratch : List 
 
 abbrev pub WalksEndAsGiven : Type 0
 WalksEndAsGiven = (sheet : List ℕ) (e d : ℕ) (table scratch : List ℕ) → Served (solve-call sheet e d table scratch .returned) → UnlimitedDemand sheet e d table scratch
+
+-- All of these. A proof is `demands-met` (Theory/Met).
+pub record Demands : Type 0 where
+  -- Demands 2 and 3, and what judge gives.
+  pub verdicts-demanded : VerdictsDemanded
+  pub tables-demanded : TablesDemanded
+  pub judges-demanded : JudgesDemanded
+  pub runs-demanded : RunsDemanded
+  pub tables-exact : TablesExact
+  pub runs-are-reference-runs : RunsAreReferenceRuns
+  -- What is asked for is given.
+  pub compare-serves : CompareServes
+  pub solve-serves : SolveServes
+  pub judge-serves : JudgeServes
+  pub run-serves : RunServes
+  -- Which refusal judge gives.
+  pub judge-refused-in-order : JudgeRefusedInOrder
+  -- "no refusal but 11 or 12"
+  pub solve-refused-by-host : SolveRefusedByHost
+  pub run-refused-by-host : RunRefusedByHost
+  -- W3
+  pub turns-fit : TurnsFit
+  -- W5
+  pub filling-demanded : FillingDemanded
+  pub runs-reduce : RunsReduce
+  pub runs-end-irreducible : RunsEndIrreducible
+  -- W6
+  pub always-demanded : AlwaysDemanded
+  pub refused-as-solve : RefusedAsSolve
+  pub yes-is-in-the-table : YesIsInTheTable
+  pub yes-is-in-the-walk : YesIsInTheWalk
+  pub yes-as-soon : YesAsSoon
+  pub yes-stands-so : YesStands
+  pub no-at-the-end : NoAtTheEnd
+  pub always-serves : AlwaysServes
+  -- W8
+  pub clauses-demanded : ClausesDemanded
+  -- W10
+  pub ground-terms-accessible : GroundTermsAccessible
+  pub descents-end : NoEndlessDescent
+  pub reductions-end : NoEndlessReduction
+  pub runs-end : RunsEnd
+  pub runs-end-once : RunsEndOnce
+  pub runs-end-alike : RunsEndAlike
+  pub walks-end : WalksEnd
+  pub walks-end-once : WalksEndOnce
+  pub depth-is-no-limit : DepthIsNoLimit
+  pub walks-end-as-solved : WalksEndAsSolved
+  pub walks-end-as-given : WalksEndAsGiven

@@ -5,6 +5,8 @@ pub mod Determined
 pub mod Runs
 pub mod Directed
 pub mod Tables
+pub mod Judges
 pub mod Always
 pub mod Verdicts
 pub mod Termination
+pub mod Met
