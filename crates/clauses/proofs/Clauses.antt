@@ -22,10 +22,10 @@ use Rattle.ordering.specs.Theory.Subterm.{exceeds-arguments}
 use Rattle.ordering.specs.Theory.Verdict.{means-verdict, told-greater}
 use Rattle.ordering.specs.Theory.Total.{verdict-smaller, reached-or-exceeded, exceeded-not-reached}
 use Rattle.ordering.specs.Theory.Decision.{reached-L1, greater-symbol-L2, no-greater-symbol-L3}
-use Rattle.comparing.specs.Contracts.Nodes.{TermAt}
-use Rattle.comparing.specs.Contracts.Cells.{BothGround}
+use Rattle.cells.specs.Contracts.Nodes.{TermAt}
+use Rattle.cells.specs.Contracts.Cells.{BothGround}
 use Rattle.comparing.specs.Contracts.Comparing.{greater-if, Compares, FindsReaching, ComparesWithAll}
-use Rattle.comparing.specs.Theory.Nodes.{symbol-at}
+use Rattle.cells.specs.Theory.Nodes.{symbol-at}
 use Rattle.comparing.specs.Theory.Symbols.{false-not, smaller-symbols, greater-symbols}
 use Rattle.clauses.specs.Contracts.Clauses.{first-of, DecisionOf}
 
@@ -50,50 +50,50 @@ reached-unless arities {s} g ts false x y l =
     (λ e. elim (reached-or-exceeded arities {s = s} x ts (y .2)) [ inl p ↦ p | inr a ↦ absurd (false-not (l .1) a) ], λ p. refl)
 
 -- The answers to the two questions of L1: whether an argument of the term at `i` reaches that at `j`, and whether the term at `i` exceeds every argument of that at `j`.
-abbrev Reaching : (nodes lengths values : List ℕ) (i j : ℕ) → Bool → Type 0
-Reaching nodes lengths values i j = FindsReaching nodes lengths values (arguments-at lengths i) j
+abbrev Reaching : (nodes sizes values : List ℕ) (i j : ℕ) → Bool → Type 0
+Reaching nodes sizes values i j = FindsReaching nodes sizes values (arguments-at sizes i) j
 
-abbrev Exceeding : (nodes lengths values : List ℕ) (i j : ℕ) → Bool → Type 0
-Exceeding nodes lengths values i j = ComparesWithAll nodes lengths values i (arguments-at lengths j)
+abbrev Exceeding : (nodes sizes values : List ℕ) (i j : ℕ) → Bool → Type 0
+Exceeding nodes sizes values i j = ComparesWithAll nodes sizes values i (arguments-at sizes j)
 
-module _ {nodes lengths values : List ℕ} {i j : ℕ} (x : getD nodes i 0 < first-variable) (y : getD nodes j 0 < first-variable) where
+module _ {nodes sizes values : List ℕ} {i j : ℕ} (x : getD nodes i 0 < first-variable) (y : getD nodes j 0 < first-variable) where
   -- L1 gives the verdict: s > t; and that s does not exceed every argument of t gives the other one.
-  reached-greater : Reaching nodes lengths values i j true → Compares nodes lengths values i j greater
+  reached-greater : Reaching nodes sizes values i j true → Compares nodes sizes values i j greater
   reached-greater o = record { is = is }
     where
-      is : (s t : Term) → TermAt nodes lengths values i s → TermAt nodes lengths values j t → greater ≡ verdict s t
+      is : (s t : Term) → TermAt nodes sizes values i s → TermAt nodes sizes values j t → greater ≡ verdict s t
       is s t a b =
           let f = symbol-at a x in
           let h : s ≻ t = rw (f .is) (L1 (o .tells (f .arguments) t (f .row) b .0 refl)) in
           sym (means-verdict s t greater h)
 
-  not-exceeding-smaller : Exceeding nodes lengths values i j false → Compares nodes lengths values i j smaller
+  not-exceeding-smaller : Exceeding nodes sizes values i j false → Compares nodes sizes values i j smaller
   not-exceeding-smaller o = record { is = is }
     where
-      is : (s t : Term) → TermAt nodes lengths values i s → TermAt nodes lengths values j t → smaller ≡ verdict s t
+      is : (s t : Term) → TermAt nodes sizes values i s → TermAt nodes sizes values j t → smaller ≡ verdict s t
       is s t a b =
           let g = symbol-at b y in
           let n : ¬ ExceedsAll s (g .arguments) = false-not (o .tells s (g .arguments) a (g .row) .1) in
           sym (means-verdict s t smaller (λ e. n (subst (λ w. ExceedsAll w (g .arguments)) (sym (e ∙ g .is)) (exceeds-arguments (g .arguments))), λ h. n (exceeds-below (g .arguments) (rw (g .is) at h))))
 
-  names-greater : {c : Clause} (q : Bool) → Left (getD nodes i 0) (getD nodes j 0) c → Compares nodes lengths values i j greater → Reaching nodes lengths values i j q
-      → DecisionOf nodes lengths values i j (greater-by (first-of q c))
+  names-greater : {c : Clause} (q : Bool) → Left (getD nodes i 0) (getD nodes j 0) c → Compares nodes sizes values i j greater → Reaching nodes sizes values i j q
+      → DecisionOf nodes sizes values i j (greater-by (first-of q c))
   unfolding verdict-of decision
   names-greater {c} q l v o = record { verdict-is = v; is = λ s t a b k. rw (← v .is s t a b, decision) (ap greater-by (is s t a b)) }
     where
-      is : (s t : Term) → TermAt nodes lengths values i s → TermAt nodes lengths values j t → first-of q c ≡ first-clause s t
+      is : (s t : Term) → TermAt nodes sizes values i s → TermAt nodes sizes values j t → first-of q c ≡ first-clause s t
       is s t a b =
           let f = symbol-at a x in
           let g = symbol-at b y in
           let h : s ≻ t = told-greater s t (v .is s t a b) refl in
           rw (f .is, g .is) (clause-told q l (rw (f .is, g .is) at h) (rw (g .is) at (o .tells (f .arguments) t (f .row) b)))
 
-  names-smaller : {c : Clause} (q : Bool) → Left (getD nodes j 0) (getD nodes i 0) c → Compares nodes lengths values i j smaller → Exceeding nodes lengths values i j q
-      → DecisionOf nodes lengths values i j (smaller-by (first-of (not q) c))
+  names-smaller : {c : Clause} (q : Bool) → Left (getD nodes j 0) (getD nodes i 0) c → Compares nodes sizes values i j smaller → Exceeding nodes sizes values i j q
+      → DecisionOf nodes sizes values i j (smaller-by (first-of (not q) c))
   unfolding verdict-of decision
   names-smaller {c} q l v o = record { verdict-is = v; is = λ s t a b k. rw (← v .is s t a b, decision) (ap smaller-by (is s t a b k)) }
     where
-      is : (s t : Term) → TermAt nodes lengths values i s → TermAt nodes lengths values j t → BothGround s t → first-of (not q) c ≡ first-clause t s
+      is : (s t : Term) → TermAt nodes sizes values i s → TermAt nodes sizes values j t → BothGround s t → first-of (not q) c ≡ first-clause t s
       is s t a b k =
           let f = symbol-at a x in
           let g = symbol-at b y in
@@ -103,43 +103,43 @@ module _ {nodes lengths values : List ℕ} {i j : ℕ} (x : getD nodes i 0 < fir
 
   -- The first term's symbol is the greater.
   module _ (u : getD nodes j 0 < getD nodes i 0) where
-    pub first-reaches : Reaching nodes lengths values i j true → DecisionOf nodes lengths values i j (greater-by by-L1)
+    pub first-reaches : Reaching nodes sizes values i j true → DecisionOf nodes sizes values i j (greater-by by-L1)
     unfolding first-of
     first-reaches o = names-greater true (by-symbols u) (reached-greater o) o
 
-    pub first-exceeds : Reaching nodes lengths values i j false → Exceeding nodes lengths values i j true → DecisionOf nodes lengths values i j (greater-by by-L2)
+    pub first-exceeds : Reaching nodes sizes values i j false → Exceeding nodes sizes values i j true → DecisionOf nodes sizes values i j (greater-by by-L2)
     unfolding first-of greater-if
     first-exceeds o e = names-greater false (by-symbols u) (greater-symbols x y u e refl) o
 
-    pub first-fails : Exceeding nodes lengths values i j false → DecisionOf nodes lengths values i j (smaller-by by-L1)
+    pub first-fails : Exceeding nodes sizes values i j false → DecisionOf nodes sizes values i j (smaller-by by-L1)
     unfolding first-of greater-if
     first-fails e = names-smaller false (by-arguments (λ h. omega arith)) (greater-symbols x y u e refl) e
 
   -- The second term's symbol is the greater.
   module _ (u : getD nodes i 0 < getD nodes j 0) where
-    pub second-reaches : Exceeding nodes lengths values i j false → DecisionOf nodes lengths values i j (smaller-by by-L1)
+    pub second-reaches : Exceeding nodes sizes values i j false → DecisionOf nodes sizes values i j (smaller-by by-L1)
     unfolding first-of
     second-reaches e = names-smaller false (by-symbols u) (not-exceeding-smaller e) e
 
-    pub second-exceeds : Exceeding nodes lengths values i j true → Reaching nodes lengths values i j false → DecisionOf nodes lengths values i j (smaller-by by-L2)
+    pub second-exceeds : Exceeding nodes sizes values i j true → Reaching nodes sizes values i j false → DecisionOf nodes sizes values i j (smaller-by by-L2)
     unfolding first-of greater-if
     second-exceeds e o = names-smaller true (by-symbols u) (smaller-symbols x y u o refl) e
 
-    pub second-fails : Reaching nodes lengths values i j true → DecisionOf nodes lengths values i j (greater-by by-L1)
+    pub second-fails : Reaching nodes sizes values i j true → DecisionOf nodes sizes values i j (greater-by by-L1)
     unfolding first-of greater-if
     second-fails o = names-greater true (by-arguments (λ h. omega arith)) (smaller-symbols x y u o refl) o
 
   -- The symbols are the same.
-  module _ (u : getD nodes i 0 ≡ getD nodes j 0) {v : Verdict} (c : Compares nodes lengths values i j v) where
-    compares-as : {w : Verdict} → v ≡ w → Compares nodes lengths values i j w
-    compares-as e = subst (Compares nodes lengths values i j) e c
+  module _ (u : getD nodes i 0 ≡ getD nodes j 0) {v : Verdict} (c : Compares nodes sizes values i j v) where
+    compares-as : {w : Verdict} → v ≡ w → Compares nodes sizes values i j w
+    compares-as e = subst (Compares nodes sizes values i j) e c
 
-    pub same-greater : v ≡ greater → (q : Bool) → Reaching nodes lengths values i j q → DecisionOf nodes lengths values i j (greater-by (first-of q by-L3))
+    pub same-greater : v ≡ greater → (q : Bool) → Reaching nodes sizes values i j q → DecisionOf nodes sizes values i j (greater-by (first-of q by-L3))
     same-greater e q o = names-greater q (by-arguments (λ h. omega arith)) (compares-as e) o
 
-    pub same-smaller : v ≡ smaller → (q : Bool) → Exceeding nodes lengths values i j q → DecisionOf nodes lengths values i j (smaller-by (first-of (not q) by-L3))
+    pub same-smaller : v ≡ smaller → (q : Bool) → Exceeding nodes sizes values i j q → DecisionOf nodes sizes values i j (smaller-by (first-of (not q) by-L3))
     same-smaller e q o = names-smaller q (by-arguments (λ h. omega arith)) (compares-as e) o
 
-    pub same-equal : v ≡ equal → DecisionOf nodes lengths values i j equal-terms
+    pub same-equal : v ≡ equal → DecisionOf nodes sizes values i j equal-terms
     unfolding verdict-of decision
     same-equal e = record { verdict-is = compares-as e; is = λ s t a b k. rw (← compares-as e .is s t a b, decision) }

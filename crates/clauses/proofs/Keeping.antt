@@ -16,9 +16,9 @@ use Rattle.ordering.specs.Verdict.{verdict, verdict-number}
 use Rattle.ordering.specs.Decision.{decision, verdict-of, clause-number, clause-number-of}
 use Rattle.ordering.specs.Theory.Verdict.{number-few}
 use Rattle.ordering.specs.Theory.Decision.{decision-verdict, decision-unique, is-smaller, is-equal, is-greater}
-use Rattle.comparing.specs.Contracts.Nodes.{TermAt}
-use Rattle.comparing.specs.Contracts.Cells.{BothGround, clause-unit, Settles, SettledCells, CellHolds}
-use Rattle.comparing.specs.Theory.Cells.{cell-settles}
+use Rattle.cells.specs.Contracts.Nodes.{TermAt}
+use Rattle.cells.specs.Contracts.Cells.{BothGround, clause-unit, Settles, SettledCells, CellHolds}
+use Rattle.cells.specs.Theory.Cells.{cell-settles}
 use Rattle.clauses.specs.Contracts.Clauses.{DecisionOf}
 use Rattle.clauses.specs.Contracts.Kept.{cell-of, ClauseNumbered, DecisionHeld}
 
@@ -76,9 +76,9 @@ module _ {cell : ℕ} {v : Verdict} (h : CellHolds cell v) {b : Clause} (n : Cla
           let (c, d) = is-greater (decision s t) (decision-verdict s t ∙ sym (told z) ∙ e) in
           ap greater-by (n .only c (z .clause-is l g ∙ ap clause-number-of d)) ∙ sym d
 
-module _ {nodes lengths values : List ℕ} {i j : ℕ} {r : Decision} where
+module _ {nodes sizes values : List ℕ} {i j : ℕ} {r : Decision} where
   -- A decision that is kept settles its cell.
-  pub decision-settles : DecisionOf nodes lengths values i j r → (s t : Term) → TermAt nodes lengths values i s → TermAt nodes lengths values j t → Settles (cell-of r) s t
+  pub decision-settles : DecisionOf nodes sizes values i j r → (s t : Term) → TermAt nodes sizes values i s → TermAt nodes sizes values j t → Settles (cell-of r) s t
   unfolding cell-of
   decision-settles d s t a b =
       let v : cell-of r % clause-unit ≡ verdict-number (verdict-of r) + 1 = omega (arith, number-few (verdict-of r)) in
@@ -89,10 +89,10 @@ module _ {nodes lengths values : List ℕ} {i j : ℕ} {r : Decision} where
       }
 
   -- The decision that is read from its cell.
-  pub decision-kept : {ready cells : List ℕ} → SettledCells nodes lengths values ready cells → 0 < getD ready i 0 → position-count ≤ j
-      → clause-unit ≤ getD cells (i * row-cells + j) 0 → DecisionHeld (getD cells (i * row-cells + j) 0) r → DecisionOf nodes lengths values i j r
+  pub decision-kept : {ready cells : List ℕ} → SettledCells nodes sizes values ready cells → 0 < getD ready i 0 → position-count ≤ j
+      → clause-unit ≤ getD cells (i * row-cells + j) 0 → DecisionHeld (getD cells (i * row-cells + j) 0) r → DecisionOf nodes sizes values i j r
   decision-kept m o l h d =
-      let settles : (s t : Term) → TermAt nodes lengths values i s → TermAt nodes lengths values j t → Settles _ s t = λ s t a b. cell-settles m o l (omega arith) a b in
+      let settles : (s t : Term) → TermAt nodes sizes values i s → TermAt nodes sizes values j t → Settles _ s t = λ s t a b. cell-settles m o l (omega arith) a b in
       record {
         verdict-is = record { is = λ s t a b. d .verdict-is s t (settles s t a b) };
         is = λ s t a b g. d .is s t (settles s t a b) h g;

@@ -1,6 +1,6 @@
 // The decision that a cell holds, where the clause was asked for: four times the clause's number besides the verdict's part.
-use comparing::cells::CLAUSE_UNIT;
-use comparing::cells::held;
+use cells::settled::CLAUSE_UNIT;
+use cells::settled::held;
 use ordering::decision::Clause;
 use ordering::decision::Decision;
 use ordering::decision::clause_number_of;

@@ -7,7 +7,7 @@ use terms::arguments::Arguments;
 ghost use Prim.Native.Nat.{_≤_, _<_};
 ghost use lib.ListN.{getD};
 ghost use Rattle.format.specs.Limits.{first-variable, position-count};
-ghost use Rattle.comparing.specs.Contracts.Cells.{SettledCells};
+ghost use Rattle.cells.specs.Contracts.Cells.{SettledCells};
 ghost use Rattle.comparing.specs.Contracts.Comparing.{HasTerm, HasTerms, FindsReaching, ComparesWithAll};
 
 // L1: whether one of the terms in the row equals or exceeds the term at j.

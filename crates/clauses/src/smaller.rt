@@ -8,7 +8,7 @@ use terms::arguments::arguments_of;
 ghost use Prim.Native.Nat.{_≤_, _<_};
 ghost use lib.ListN.{getD};
 ghost use Rattle.format.specs.Limits.{first-variable, position-count};
-ghost use Rattle.comparing.specs.Contracts.Cells.{SettledCells};
+ghost use Rattle.cells.specs.Contracts.Cells.{SettledCells};
 ghost use Rattle.comparing.specs.Contracts.Comparing.{HasTerm};
 ghost use Rattle.clauses.specs.Contracts.Clauses.{DecisionOf};
 

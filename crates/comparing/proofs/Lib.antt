@@ -4,7 +4,5 @@ pub mod Loops
 pub mod Rules
 pub mod ConstantTerms
 pub mod Pair
-pub mod Passed
-pub mod Ready
 pub mod Settled
 pub mod Arguments

@@ -13,29 +13,29 @@ use Rattle.ordering.specs.declared.verdict.Verdict.{Verdict}
 use Rattle.ordering.specs.declared.verdict.Verdict.the-variants.{Smaller as smaller, Greater as greater}
 use Rattle.ordering.specs.Theory.Decide.{some-nil, all-head, all-tail}
 use Rattle.ordering.specs.Theory.Verdict.{told-greater, told-not-greater, reaches-first, reaches-later}
-use Rattle.comparing.specs.Contracts.Nodes.{TermAt, TermsAt}
+use Rattle.cells.specs.Contracts.Nodes.{TermAt, TermsAt}
 use Rattle.comparing.specs.Contracts.Comparing.{Compares, FindsReaching, ComparesWithAll}
-use Rattle.comparing.specs.Theory.Nodes.{row-first, row-empty}
+use Rattle.cells.specs.Theory.Nodes.{row-first, row-empty}
 
-module _ {nodes lengths values : List ℕ} where
+module _ {nodes sizes values : List ℕ} where
   -- L1.
   module _ {row : Arguments} {j : ℕ} where
-    pub reaching-none : row .end ≤ row .from → FindsReaching nodes lengths values row j false
+    pub reaching-none : row .end ≤ row .from → FindsReaching nodes sizes values row j false
     reaching-none le = record { tells = λ ss t a b. rw (row-empty a le) (λ e. false-true e, λ p. absurd (some-nil p)) }
 
-    module _ {r : Verdict} (lt : row .from < row .end) (c : Compares nodes lengths values (row .from) j r) where
-      pub reaching-first : ¬ (r ≡ smaller) → FindsReaching nodes lengths values row j true
+    module _ {r : Verdict} (lt : row .from < row .end) (c : Compares nodes sizes values (row .from) j r) where
+      pub reaching-first : ¬ (r ≡ smaller) → FindsReaching nodes sizes values row j true
       reaching-first h = record { tells = tells }
         where
-          tells : (ss : Terms) (t : Term) → TermsAt nodes lengths values (row .from) (row .end) ss → TermAt nodes lengths values j t → (true ≡ true) ↔ SomeReaches ss t
+          tells : (ss : Terms) (t : Term) → TermsAt nodes sizes values (row .from) (row .end) ss → TermAt nodes sizes values j t → (true ≡ true) ↔ SomeReaches ss t
           tells ss t a b =
               let f = row-first a lt in
               (λ e. rw (f .are) (reaches-first (f .first) t (c .is (f .first) t (f .denotes) b) h), λ p. refl)
 
-      pub reaching-others : {b : Bool} → r ≡ smaller → FindsReaching nodes lengths values (behind-first lengths row) j b → FindsReaching nodes lengths values row j b
+      pub reaching-others : {b : Bool} → r ≡ smaller → FindsReaching nodes sizes values (behind-first sizes row) j b → FindsReaching nodes sizes values row j b
       reaching-others {b} h o = record { tells = tells }
         where
-          tells : (ss : Terms) (t : Term) → TermsAt nodes lengths values (row .from) (row .end) ss → TermAt nodes lengths values j t → (b ≡ true) ↔ SomeReaches ss t
+          tells : (ss : Terms) (t : Term) → TermsAt nodes sizes values (row .from) (row .end) ss → TermAt nodes sizes values j t → (b ≡ true) ↔ SomeReaches ss t
           tells ss t a d =
               let f = row-first a lt in
               let (x, y) = o .tells (f .others) t (f .row) d in
@@ -43,23 +43,23 @@ module _ {nodes lengths values : List ℕ} where
 
   -- L2.
   module _ {i : ℕ} {row : Arguments} where
-    pub all-none : row .end ≤ row .from → ComparesWithAll nodes lengths values i row true
+    pub all-none : row .end ≤ row .from → ComparesWithAll nodes sizes values i row true
     all-none le = record { tells = λ s ts a b. rw (row-empty b le) (λ e. none, λ p. refl) }
 
-    module _ {r : Verdict} (lt : row .from < row .end) (c : Compares nodes lengths values i (row .from) r) where
-      pub all-not : ¬ (r ≡ greater) → ComparesWithAll nodes lengths values i row false
+    module _ {r : Verdict} (lt : row .from < row .end) (c : Compares nodes sizes values i (row .from) r) where
+      pub all-not : ¬ (r ≡ greater) → ComparesWithAll nodes sizes values i row false
       all-not h = record { tells = tells }
         where
-          tells : (s : Term) (ts : Terms) → TermAt nodes lengths values i s → TermsAt nodes lengths values (row .from) (row .end) ts → (false ≡ true) ↔ ExceedsAll s ts
+          tells : (s : Term) (ts : Terms) → TermAt nodes sizes values i s → TermsAt nodes sizes values (row .from) (row .end) ts → (false ≡ true) ↔ ExceedsAll s ts
           tells s ts a b =
               let f = row-first b lt in
               let n : ¬ ExceedsAll s (cons (f .first) (f .others)) = λ p. told-not-greater s (f .first) (c .is s (f .first) a (f .denotes)) h (all-head p) in
               rw (f .are) (λ e. false-true e, λ p. absurd (n p))
 
-      pub all-others : {b : Bool} → r ≡ greater → ComparesWithAll nodes lengths values i (behind-first lengths row) b → ComparesWithAll nodes lengths values i row b
+      pub all-others : {b : Bool} → r ≡ greater → ComparesWithAll nodes sizes values i (behind-first sizes row) b → ComparesWithAll nodes sizes values i row b
       all-others {b} h o = record { tells = tells }
         where
-          tells : (s : Term) (ts : Terms) → TermAt nodes lengths values i s → TermsAt nodes lengths values (row .from) (row .end) ts → (b ≡ true) ↔ ExceedsAll s ts
+          tells : (s : Term) (ts : Terms) → TermAt nodes sizes values i s → TermsAt nodes sizes values (row .from) (row .end) ts → (b ≡ true) ↔ ExceedsAll s ts
           tells s ts a d =
               let f = row-first d lt in
               let (x, y) = o .tells s (f .others) a (f .row) in

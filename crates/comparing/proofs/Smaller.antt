@@ -13,9 +13,9 @@ use Rattle.terms.specs.Theory.Append.{append}
 use Rattle.ordering.specs.Order.{_≻_, L1, SomeReaches, here-equal, here-greater, there, ExceedsAll, none, more}
 use Rattle.ordering.specs.Theory.Decide.{all-head, all-tail}
 use Rattle.ordering.specs.Theory.Question.{greater-symbol, smaller-symbol}
-use Rattle.comparing.specs.Contracts.Nodes.{none as row-none, more as row-more, TermAt, TermsAt}
+use Rattle.cells.specs.Contracts.Nodes.{none as row-none, more as row-more, TermAt, TermsAt}
 use Rattle.comparing.specs.Contracts.Comparing.{HasTerms, FindsReaching, ComparesWithAll}
-use Rattle.comparing.specs.Theory.Nodes.{row-first, symbol-at}
+use Rattle.cells.specs.Theory.Nodes.{row-first, symbol-at}
 
 -- 1. Terms before others.
 all-both : {s : Term} (us : Terms) {bs : Terms} → ExceedsAll s us → ExceedsAll s bs → ExceedsAll s (append us bs)
@@ -75,19 +75,19 @@ module _ {f g : ℕ} (ts us bs : Terms) (h : g < f) where
 abbrev pub behind-node : Arguments → Arguments
 behind-node row = record { from = row .from + 1; end = row .end }
 
-record Opened (nodes lengths values : List ℕ) (row : Arguments) (ts : Terms) : Type 0 where
+record Opened (nodes sizes values : List ℕ) (row : Arguments) (ts : Terms) : Type 0 where
   arguments : Terms
   others : Terms
   are : ts ≡ cons (app (getD nodes (row .from) 0) arguments) others
-  row-there : TermsAt nodes lengths values (row .from + 1) (row .end) (append arguments others)
+  row-there : TermsAt nodes sizes values (row .from + 1) (row .end) (append arguments others)
 
-module _ {nodes lengths values : List ℕ} where
-  row-append : {k m end : ℕ} {us bs : Terms} → TermsAt nodes lengths values k m us → TermsAt nodes lengths values m end bs → TermsAt nodes lengths values k end (append us bs)
+module _ {nodes sizes values : List ℕ} where
+  row-append : {k m end : ℕ} {us bs : Terms} → TermsAt nodes sizes values k m us → TermsAt nodes sizes values m end bs → TermsAt nodes sizes values k end (append us bs)
   unfolding append
   row-append (row-none e) q = rw e q
   row-append (row-more s r) q = row-more s (row-append r q)
 
-  open-row : {row : Arguments} {ts : Terms} → TermsAt nodes lengths values (row .from) (row .end) ts → row .from < row .end → getD nodes (row .from) 0 < first-variable → Opened nodes lengths values row ts
+  open-row : {row : Arguments} {ts : Terms} → TermsAt nodes sizes values (row .from) (row .end) ts → row .from < row .end → getD nodes (row .from) 0 < first-variable → Opened nodes sizes values row ts
   open-row d lt l =
       let f = row-first d lt in
       let a = symbol-at (f .denotes) l in
@@ -99,14 +99,14 @@ module _ {nodes lengths values : List ℕ} where
       }
 
   module _ {row : Arguments} (lt : row .from < row .end) where
-    pub behind-terms : HasTerms nodes lengths values row → getD nodes (row .from) 0 < first-variable → HasTerms nodes lengths values (behind-node row)
+    pub behind-terms : HasTerms nodes sizes values row → getD nodes (row .from) 0 < first-variable → HasTerms nodes sizes values (behind-node row)
     behind-terms h l = let o = open-row (h .denote) lt l in record { terms = append (o .arguments) (o .others); denote = o .row-there }
 
-    pub all-behind-node : {i : ℕ} {b : Bool} → getD nodes i 0 < first-variable → getD nodes (row .from) 0 < getD nodes i 0 → ComparesWithAll nodes lengths values i (behind-node row) b
-        → ComparesWithAll nodes lengths values i row b
+    pub all-behind-node : {i : ℕ} {b : Bool} → getD nodes i 0 < first-variable → getD nodes (row .from) 0 < getD nodes i 0 → ComparesWithAll nodes sizes values i (behind-node row) b
+        → ComparesWithAll nodes sizes values i row b
     all-behind-node {i} {b} l h w = record { tells = tells }
       where
-        tells : (s : Term) (ts : Terms) → TermAt nodes lengths values i s → TermsAt nodes lengths values (row .from) (row .end) ts → (b ≡ true) ↔ ExceedsAll s ts
+        tells : (s : Term) (ts : Terms) → TermAt nodes sizes values i s → TermsAt nodes sizes values (row .from) (row .end) ts → (b ≡ true) ↔ ExceedsAll s ts
         tells s ts a d =
             let o = open-row d lt (omega arith) in
             let s-is = symbol-at a l in
@@ -114,11 +114,11 @@ module _ {nodes lengths values : List ℕ} where
             let (p, q) = rw (s-is .is) at (w .tells s (append (o .arguments) (o .others)) a (o .row-there)) in
             rw (s-is .is, o .are) (λ e. y (p e), λ r. q (x r))
 
-    pub reaching-behind-node : {j : ℕ} {b : Bool} → getD nodes j 0 < first-variable → getD nodes (row .from) 0 < getD nodes j 0 → FindsReaching nodes lengths values (behind-node row) j b
-        → FindsReaching nodes lengths values row j b
+    pub reaching-behind-node : {j : ℕ} {b : Bool} → getD nodes j 0 < first-variable → getD nodes (row .from) 0 < getD nodes j 0 → FindsReaching nodes sizes values (behind-node row) j b
+        → FindsReaching nodes sizes values row j b
     reaching-behind-node {j} {b} l h w = record { tells = tells }
       where
-        tells : (ss : Terms) (t : Term) → TermsAt nodes lengths values (row .from) (row .end) ss → TermAt nodes lengths values j t → (b ≡ true) ↔ SomeReaches ss t
+        tells : (ss : Terms) (t : Term) → TermsAt nodes sizes values (row .from) (row .end) ss → TermAt nodes sizes values j t → (b ≡ true) ↔ SomeReaches ss t
         tells ss t d a =
             let o = open-row d lt (omega arith) in
             let t-is = symbol-at a l in

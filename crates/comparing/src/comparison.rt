@@ -1,11 +1,11 @@
 // The comparison: the verdict of two terms by L1 to L3.
-use crate::cells::held;
-use crate::cells::make_ready;
-use crate::cells::settle;
 use crate::constants::Told;
 use crate::constants::tell_constants;
-use crate::nodes::resolve;
-use crate::passing::behind_smaller;
+use cells::nodes::resolve;
+use cells::passing::behind_smaller;
+use cells::settled::held;
+use cells::settled::make_ready;
+use cells::settled::settle;
 use format::byte::wide;
 use format::limits::Limits;
 use ordering::verdict::Verdict;
@@ -16,7 +16,7 @@ ghost use mathlib.Core.Path.{_≡_};
 ghost use Prim.Native.Nat.{_≤_, _<_};
 ghost use lib.ListN.{getD};
 ghost use Rattle.format.specs.Limits.{first-variable, position-count};
-ghost use Rattle.comparing.specs.Contracts.Cells.{SettledCells};
+ghost use Rattle.cells.specs.Contracts.Cells.{SettledCells};
 ghost use Rattle.comparing.specs.Contracts.Comparing.{greater-if, HasTerm, HasTerms, Compares, FindsReaching, ComparesWithAll, FindsDifference};
 
 // The verdict of two terms that are not equal.

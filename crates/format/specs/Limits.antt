@@ -35,6 +35,10 @@ max-equations = 16
 abbrev pub max-tasks : ℕ
 max-tasks = 32
 
+-- Frame 01 is line 1, and the equations follow, one a line.
+abbrev pub first-equation-line : ℕ
+first-equation-line = 2
+
 -- "An equation side has at most 32 nodes; the terms of one task together at most 160."
 abbrev pub max-side-nodes : ℕ
 max-side-nodes = 32

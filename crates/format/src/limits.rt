@@ -1,6 +1,6 @@
 // The fixed numbers that belong to the sheet, the walk and the calls. What follows from others is computed.
 ghost use mathlib.Core.Path.{_≡_};
-ghost use Rattle.format.specs.Limits.{max-text, max-line-digits, max-symbols, max-arity, first-variable, variable-count, max-equations, max-tasks, max-side-nodes, position-count, max-task-nodes, filling-node, node-count, row-cells, cell-count, max-steps, max-elements, max-lines, max-turns, no-position, record-bytes, table-bytes, scratch-bytes, term-bytes, log-bytes};
+ghost use Rattle.format.specs.Limits.{max-text, max-line-digits, max-symbols, max-arity, first-variable, variable-count, max-equations, max-tasks, max-side-nodes, position-count, max-task-nodes, filling-node, node-count, row-cells, cell-count, first-equation-line, max-steps, max-elements, max-lines, max-turns, no-position, record-bytes, table-bytes, scratch-bytes, term-bytes, log-bytes};
 
 pub struct Limits {
     pub nothing: (),
@@ -30,8 +30,10 @@ impl Limits {
 
     pub const POSITIONS: usize = 2 * Limits::SIDE_NODES;
 
-    // The nodes of a task's terms together, and those of a comparison: an equation's positions, the subject's and the filling's. A cell for each pair of them.
+    // The nodes of a task's terms together, and those of a comparison: an equation's positions, from `SUBJECT` on the subject's, and the filling's. A cell for each pair of them.
     pub const TASK_NODES: usize = 160;
+
+    pub const SUBJECT: usize = Limits::POSITIONS;
 
     pub const FILLING_NODE: usize = Limits::POSITIONS + Limits::TASK_NODES;
 
@@ -41,6 +43,9 @@ impl Limits {
     pub const ROW_CELLS: usize = (Limits::NODES + 15) / 16 * 16;
 
     pub const CELLS: usize = Limits::NODES * Limits::ROW_CELLS;
+
+    // Frame 01 is line 1, and the equations follow, one a line.
+    pub const FIRST_EQUATION_LINE: usize = 2;
 
     // The steps of a run.
     pub const STEPS: usize = 255;
@@ -79,10 +84,12 @@ impl Limits {
         ensures { λ _. do ⌜ (← ⟦Limits::SIDE_NODES⟧ .entry) ≡ max-side-nodes ⌝ }
         ensures { λ _. do ⌜ (← ⟦Limits::POSITIONS⟧ .entry) ≡ position-count ⌝ }
         ensures { λ _. do ⌜ (← ⟦Limits::TASK_NODES⟧ .entry) ≡ max-task-nodes ⌝ }
+        ensures { λ _. do ⌜ (← ⟦Limits::SUBJECT⟧ .entry) ≡ position-count ⌝ }
         ensures { λ _. do ⌜ (← ⟦Limits::FILLING_NODE⟧ .entry) ≡ filling-node ⌝ }
         ensures { λ _. do ⌜ (← ⟦Limits::NODES⟧ .entry) ≡ node-count ⌝ }
         ensures { λ _. do ⌜ (← ⟦Limits::ROW_CELLS⟧ .entry) ≡ row-cells ⌝ }
         ensures { λ _. do ⌜ (← ⟦Limits::CELLS⟧ .entry) ≡ cell-count ⌝ }
+        ensures { λ _. do ⌜ (← ⟦Limits::FIRST_EQUATION_LINE⟧ .entry) ≡ first-equation-line ⌝ }
         ensures { λ _. do ⌜ (← ⟦Limits::STEPS⟧ .entry) ≡ max-steps ⌝ }
         ensures { λ _. do ⌜ (← ⟦Limits::ELEMENTS⟧ .entry) ≡ max-elements ⌝ }
         ensures { λ _. do ⌜ (← ⟦Limits::LINES⟧ .entry) ≡ max-lines ⌝ }

@@ -14,9 +14,9 @@ use Rattle.terms.specs.Contracts.Limits.{positions}
 use Rattle.terms.specs.Theory.Limits.{positions-few}
 use Rattle.solving.specs.Line.{Bindings, lookup, Element, binding-byte, element-bytes, record-of}
 use Rattle.listing.specs.Listing.{digits, binding-count, binding-terms}
-use Rattle.printing.specs.Contracts.Appended.{Appended}
-use Rattle.printing.specs.Theory.Printed.{digits-append, length-digits}
-use Rattle.printing.specs.Theory.Appended.{appended-none, appended-join, appended-text}
+use Rattle.listing.specs.Contracts.Appended.{Appended}
+use Rattle.listing.specs.Theory.Printed.{digits-append, length-digits}
+use Rattle.listing.specs.Theory.Appended.{appended-none, appended-join, appended-text}
 use Rattle.frames.specs.Contracts.Room.{term-room}
 use Rattle.frames.specs.Contracts.Line.{HasTerm, LineRecord, HasLineRecord}
 use Rattle.frames.proofs.LineLaws.{TermPut}

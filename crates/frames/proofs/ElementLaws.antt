@@ -13,11 +13,11 @@ use Rattle.terms.specs.Contracts.Limits.{positions}
 use Rattle.solving.specs.Line.{Bindings, Element, equal, greater, binding-byte, element-bytes, record-of}
 use Rattle.solving.specs.Contracts.Within.{AllWithin}
 use Rattle.listing.specs.Listing.{digits, element-terms}
-use Rattle.printing.specs.Contracts.Appended.{Appended}
-use Rattle.printing.specs.Theory.Printed.{digits-append}
-use Rattle.printing.specs.Theory.Appended.{appended-none, appended-join, appended-text}
+use Rattle.listing.specs.Contracts.Appended.{Appended}
+use Rattle.listing.specs.Theory.Printed.{digits-append}
+use Rattle.listing.specs.Theory.Appended.{appended-none, appended-join, appended-text}
 use Rattle.solving.specs.Theory.Records.{length-element-bytes, length-record}
-use Rattle.lines.specs.Contracts.Layout.{count-place, first-element}
+use Rattle.line_bytes.specs.Contracts.Layout.{count-place, first-element}
 use Rattle.frames.specs.Contracts.Room.{term-room}
 use Rattle.frames.specs.Contracts.Line.{HasTerm, LineRecord, HasLineRecord}
 use Rattle.frames.proofs.LineLaws.{TermPut}

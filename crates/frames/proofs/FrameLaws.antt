@@ -7,9 +7,9 @@ use Rattle.sheet.specs.Text.{LF}
 use Rattle.terms.specs.Equation.{Equation}
 use Rattle.solving.specs.Line.{Bindings, Element, line}
 use Rattle.listing.specs.Listing.{line-kind, digits, printed, binding-count, binding-terms, element-terms, line-frame}
-use Rattle.printing.specs.Contracts.Appended.{Appended}
-use Rattle.printing.specs.Theory.Printed.{digits-append}
-use Rattle.printing.specs.Theory.Appended.{appended-join, appended-text}
+use Rattle.listing.specs.Contracts.Appended.{Appended}
+use Rattle.listing.specs.Theory.Printed.{digits-append}
+use Rattle.listing.specs.Theory.Appended.{appended-join, appended-text}
 
 module _ (e : Equation) (θ : Bindings) (es : List Element) where
   abbrev bindings : List ℕ

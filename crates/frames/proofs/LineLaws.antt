@@ -17,10 +17,10 @@ use Rattle.terms.specs.Theory.Position.{length-subterms, size-pos}
 use Rattle.terms.specs.Theory.Stored.{stored-room}
 use Rattle.terms.specs.Theory.Prefix.{length-prefix}
 use Rattle.terms.specs.Theory.Replace.{around, around-part, size-around}
-use Rattle.unifying.specs.Theory.Equation.{length-sizes, size-at}
-use Rattle.solver.specs.Contracts.Equation.{SidesAre}
+use Rattle.bindings.specs.Theory.Equation.{length-sizes, size-at}
+use Rattle.solve_equation.specs.Contracts.Equation.{SidesAre}
 use Rattle.listing.specs.Listing.{digits}
-use Rattle.printing.specs.Contracts.Appended.{Appended}
+use Rattle.listing.specs.Contracts.Appended.{Appended}
 
 -- The term at a position of an equation stands there in its bytes, and is no longer than the side that it is of.
 record TermThere (e : Equation) (p : ℕ) : Type 0 where

@@ -10,9 +10,9 @@ use Rattle.terms.specs.Equation.{direction-number}
 use Rattle.reducing.specs.Run.{Step}
 use Rattle.outcomes.specs.Outcome.{log-of}
 use Rattle.listing.specs.Listing.{printed, step-kind, step-frame}
-use Rattle.printing.specs.Contracts.Appended.{Appended}
-use Rattle.printing.specs.Theory.Printed.{printed-append, length-printed-one}
-use Rattle.printing.specs.Theory.Appended.{appended-none, appended-join, appended-text}
+use Rattle.listing.specs.Contracts.Appended.{Appended}
+use Rattle.listing.specs.Theory.Printed.{printed-append, length-printed-one}
+use Rattle.listing.specs.Theory.Appended.{appended-none, appended-join, appended-text}
 use Rattle.frames.specs.Contracts.Room.{step-room}
 
 -- Step `i` of these, and its bytes in the log.

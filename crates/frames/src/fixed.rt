@@ -1,19 +1,19 @@
 // Frames of a fixed number of bytes. Each is appended to what stands first in a buffer: `at` bytes stand there before, and the number that is given stands there after.
 use format::refusal::Refusal;
 use format::refusal::number_of;
+use listing::digits::put_frame;
+use listing::kinds::PrintedKind;
 use ordering::decision::Decision;
 use ordering::decision::clause_number_of;
 use ordering::decision::verdict_of;
 use ordering::verdict::number_of_verdict;
-use printing::digits::put_frame;
-use printing::kinds::PrintedKind;
 ghost use mathlib.Core.Path.{_≡_};
 ghost use mathlib.Core.List.{[], _∷_};
 ghost use Prim.Native.Nat.{_+_, _*_, _/_, _%_, _≤_, _<_};
 ghost use lib.ListN.{length};
 ghost use Rattle.format.specs.Limits.{max-text, max-equations, max-lines, max-tasks, max-steps};
 ghost use Rattle.listing.specs.Listing.{printed, two-bytes, refusal-frame, table-kind, judgement-frame, comparison-frame, total-kind};
-ghost use Rattle.printing.specs.Contracts.Appended.{Appended};
+ghost use Rattle.listing.specs.Contracts.Appended.{Appended};
 ghost use Rattle.frames.specs.Contracts.Room.{refusal-room, table-room, judgement-room, comparison-room, total-room};
 
 // How many values a byte has.

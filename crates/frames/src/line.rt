@@ -1,12 +1,12 @@
 // The frame of a line, from its record and its equation.
 use format::byte::wide;
 use format::limits::Limits;
-use lines::layout::COUNT;
-use lines::layout::FIRST_ELEMENT;
-use printing::digits::put_byte;
-use printing::digits::put_bytes;
-use printing::digits::put_line_feed;
-use printing::kinds::PrintedKind;
+use line_bytes::layout::COUNT;
+use line_bytes::layout::FIRST_ELEMENT;
+use listing::digits::put_byte;
+use listing::digits::put_bytes;
+use listing::digits::put_line_feed;
+use listing::kinds::PrintedKind;
 ghost use mathlib.Core.Path.{_≡_};
 ghost use mathlib.Core.List.{List, [], _∷_, flatMap};
 ghost use Prim.Native.Nat.{ℕ, _+_, _≤_, _<_};
@@ -16,9 +16,9 @@ ghost use Rattle.terms.specs.Equation.{Equation, term-at};
 ghost use Rattle.terms.specs.Prefix.{prefix};
 ghost use Rattle.terms.specs.Contracts.Limits.{positions};
 ghost use Rattle.solving.specs.Line.{Bindings, Element, line};
-ghost use Rattle.solver.specs.Contracts.Equation.{SidesAre};
+ghost use Rattle.solve_equation.specs.Contracts.Equation.{SidesAre};
 ghost use Rattle.listing.specs.Listing.{digits, printed, binding-count, binding-terms, element-terms, line-frame};
-ghost use Rattle.printing.specs.Contracts.Appended.{Appended};
+ghost use Rattle.listing.specs.Contracts.Appended.{Appended};
 ghost use Rattle.frames.specs.Contracts.Room.{term-room, bindings-room, elements-room, line-room};
 ghost use Rattle.frames.specs.Contracts.Line.{HasTerm, LineRecord, HasLineRecord};
 

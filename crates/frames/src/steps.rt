@@ -1,7 +1,7 @@
 // The frames of a run.
-use printing::digits::put_bytes;
-use printing::digits::put_frame;
-use printing::kinds::PrintedKind;
+use listing::digits::put_bytes;
+use listing::digits::put_frame;
+use listing::kinds::PrintedKind;
 use reducing::ending::Ending;
 use reducing::ending::number_of_ending;
 ghost use mathlib.Core.Path.{_≡_};
@@ -12,7 +12,7 @@ ghost use Rattle.format.specs.Limits.{max-steps, max-task-nodes};
 ghost use Rattle.reducing.specs.Run.{Step, ending-number};
 ghost use Rattle.outcomes.specs.Outcome.{log-of};
 ghost use Rattle.listing.specs.Listing.{printed, run-kind, step-frame};
-ghost use Rattle.printing.specs.Contracts.Appended.{Appended};
+ghost use Rattle.listing.specs.Contracts.Appended.{Appended};
 ghost use Rattle.frames.specs.Contracts.Room.{step-room, run-room};
 
 // "each step '14', equation, direction, position": the first `steps` of the log.

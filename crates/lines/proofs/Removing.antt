@@ -9,15 +9,15 @@ use native.Mathlib.Omega.{arith}
 use Rattle.format.specs.Limits.{variable-count, max-elements, no-position}
 use Rattle.solving.specs.Line.{Element, greater}
 use Rattle.lines.specs.declared.line.Line.{Line as LineValue}
-use Rattle.lines.specs.Contracts.Layout.{count-place, first-element, reduced-place, line-bytes, placed}
-use Rattle.lines.specs.Contracts.Resting.{marks, padding, resting-bytes}
-use Rattle.lines.specs.Contracts.Room.{rest-after}
+use Rattle.line_bytes.specs.Contracts.Layout.{count-place, first-element, reduced-place, line-bytes, placed}
+use Rattle.line_bytes.specs.Contracts.Resting.{marks, padding, resting-bytes}
+use Rattle.line_bytes.specs.Contracts.Room.{rest-after}
 use Rattle.lines.specs.Contracts.Line.{elements-from, ElementsFit, RemovalFits, Removes}
-use Rattle.lines.specs.Theory.Resting.{length-marks, marks-append, length-resting}
-use Rattle.lines.specs.Theory.Placed.{placed-length, set-placed}
-use Rattle.lines.specs.Theory.InPlace.{placed-same, placed-inside, counts-set}
-use Rattle.lines.proofs.Shifting.{part-cut, shifted-left}
-use Rattle.lines.proofs.Widening.{resting-cut, padding-after, length-padding}
+use Rattle.line_bytes.specs.Theory.Resting.{length-marks, marks-append, length-resting}
+use Rattle.line_bytes.specs.Theory.Placed.{placed-length, set-placed}
+use Rattle.line_bytes.specs.Theory.InPlace.{placed-same, placed-inside, counts-set}
+use Rattle.line_bytes.specs.Theory.Shifted.{part-cut, shifted-left}
+use Rattle.line_bytes.specs.Theory.Cut.{resting-cut, padding-after, length-padding}
 
 -- The line's own bytes.
 module _ (bs : List ℕ) (pre post : List Element) (e : Element) (r : ℕ) (slots : length bs ≡ variable-count) (few : length (pre ++ (e ∷ post)) ≤ max-elements) where

@@ -1,7 +1,2 @@
 // Lines: their elements, a line by its named parts, and the bytes of lines in the memory of the walk.
-pub mod edit;
-pub mod element;
-pub mod layout;
 pub mod line;
-pub mod rebind;
-pub mod record;

@@ -1,20 +1,20 @@
 // A line by its named parts: the line under treatment. In the memory of the walk lines rest as bytes.
-use crate::edit::put;
-use crate::element::Element;
-use crate::element::Relation;
-use crate::element::put_element;
-use crate::layout::COUNT;
-use crate::layout::FIRST_ELEMENT;
-use crate::layout::REDUCED;
-use crate::rebind::rebind;
 use format::byte::wide;
 use format::limits::Limits;
+use line_bytes::edit::put;
+use line_bytes::element::Element;
+use line_bytes::element::Relation;
+use line_bytes::element::put_element;
+use line_bytes::layout::COUNT;
+use line_bytes::layout::FIRST_ELEMENT;
+use line_bytes::layout::REDUCED;
+use line_bytes::rebind::rebind;
 ghost use mathlib.Core.Path.{_≡_};
 ghost use Prim.Native.Nat.{_+_, _-_, _≤_};
 ghost use lib.ListN.{length, replicate};
 ghost use Rattle.format.specs.Limits.{record-bytes, no-position};
-ghost use Rattle.lines.specs.Contracts.Layout.{line-bytes, placed};
-ghost use Rattle.lines.specs.Contracts.Resting.{marks, resting-bytes};
+ghost use Rattle.line_bytes.specs.Contracts.Layout.{line-bytes, placed};
+ghost use Rattle.line_bytes.specs.Contracts.Resting.{marks, resting-bytes};
 ghost use Rattle.lines.specs.Contracts.Line.{resting-of, opening-line, elements-from, Writable, HasHead, ElementsFit, RemovalFits, Removes};
 
 // The first `count` elements count. The first `reduced` of them are known to be fully reduced: they are not looked at again, and need not be filled in.

@@ -1,1 +1,3 @@
-// The program's listing. It stands in specs/.
+// The program's listing: frames in the sheet's digits.
+pub mod digits;
+pub mod kinds;

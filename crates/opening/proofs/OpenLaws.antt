@@ -25,8 +25,8 @@ use Rattle.reducing.specs.Theory.Walks.{refusal-low}
 use Rattle.reducing.specs.Test.{EverySolves}
 use Rattle.reducing.specs.Walks.{equation-line, first-refusal}
 use Rattle.listing.specs.Listing.{printed, two-bytes, refusal-frame}
-use Rattle.printing.specs.Contracts.Appended.{Appended}
-use Rattle.printing.specs.Theory.Printed.{length-printed-one}
+use Rattle.listing.specs.Contracts.Appended.{Appended}
+use Rattle.listing.specs.Theory.Printed.{length-printed-one}
 use Rattle.frames.specs.Contracts.Room.{refusal-room}
 use Rattle.cursor.specs.declared.place.Listed.{Listed}
 use Rattle.cursor.specs.declared.place.Place.the-variants.{Start, Table, End}

@@ -1,8 +1,8 @@
 // The first piece of the listing: a refusal, or nothing where the tables come next.
-use answers::number::FIRST_EQUATION_LINE;
 use cursor::place::Cursor;
 use cursor::place::Listed;
 use cursor::place::Place;
+use format::limits::Limits;
 use frames::fixed::put_refusal;
 use reading::read::SheetStatus;
 use reading::read::read_sheet;
@@ -68,7 +68,7 @@ fn open_accepted(
     let walks = keep_rules(equations, lengths, known.equations, bounds, table, scratch);
     match walks {
         Walks::Refused(why, equation) => {
-            let bytes = put_refusal(why, equation + FIRST_EQUATION_LINE, out, 0);
+            let bytes = put_refusal(why, equation + Limits::FIRST_EQUATION_LINE, out, 0);
             refused(known, bytes)
         }
         Walks::Full => opened(known, false),

@@ -1,1 +1,3 @@
-// The outcome of each of the six calls: the number returned and every lent byte at exit. The definitions stand in specs/.
+// The outcomes of the calls: the numbers that they return, and the lent buffers.
+pub mod buffer;
+pub mod number;

@@ -20,8 +20,8 @@ use Rattle.reducing.specs.Test.{EverySolves}
 use Rattle.rules.specs.Contracts.Rows.{HasRows}
 use Rattle.listing.specs.Listing.{printed, two-bytes, total-kind, task-frames}
 use Rattle.rules.specs.Contracts.Walks.{LinesReady}
-use Rattle.printing.specs.Contracts.Appended.{Appended}
-use Rattle.printing.specs.Theory.Printed.{length-printed-one}
+use Rattle.listing.specs.Contracts.Appended.{Appended}
+use Rattle.listing.specs.Theory.Printed.{length-printed-one}
 use Rattle.cursor.specs.declared.place.Place.{Place}
 use Rattle.cursor.specs.declared.place.Place.the-variants.{Table, Line as LinePlace, Task as TaskPlace, End}
 use Rattle.cursor.specs.declared.place.Piece.{Piece}

@@ -10,10 +10,9 @@ use borrow.Author.Tests.{le-leb, lt-leb, eq-eqb, ne-eqb}
 use native.Mathlib.Numerals.{add-one}
 use native.Mathlib.Omega.{arith}
 use Rattle.format.specs.Limits.{max-symbols, max-arity}
-use Rattle.format.specs.Lists.{any, all}
+use Rattle.format.specs.Lists.{any, all, Every}
 use Rattle.format.specs.Refusal.{Result, refuse, give}
 use Rattle.format.specs.declared.refusal.Refusal.the-variants.{SymbolFrame}
-use Rattle.format.specs.Lists.{Every}
 use Rattle.format.specs.Theory.Lists.{every-append, any-append}
 use Rattle.scanning.specs.declared.known.Known.{Known}
 use Rattle.scanning.specs.declared.scan.ReadStatus.{ReadStatus}

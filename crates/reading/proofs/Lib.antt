@@ -6,3 +6,4 @@ pub mod Numbers
 pub mod OneFrame
 pub mod Arities
 pub mod Refused
+pub mod Placing

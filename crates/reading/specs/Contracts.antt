@@ -2,3 +2,4 @@
 pub mod Read
 pub mod Seek
 pub mod Symbols
+pub mod Loading

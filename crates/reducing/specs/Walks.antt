@@ -2,14 +2,14 @@
 use Prim.Native.Nat.{ℕ, suc, _+_}
 use mathlib.Core.Option.{Option, none, some}
 use mathlib.Core.List.{List, [], _∷_}
-use Rattle.format.specs.Limits.{variable-count}
+use Rattle.format.specs.Limits.{variable-count, first-equation-line}
 use Rattle.format.specs.declared.refusal.Refusal.{Refusal}
 use Rattle.terms.specs.Equation.{Equation, left-right, right-left}
 use Rattle.solving.specs.Walk.{solved, refused, solve-with, solve}
 
--- 8 to 10: "The line is the equation's." Frame 01 is line 1, and the equations follow.
+-- 8 to 10: "The line is the equation's."
 unfoldable pub equation-line : ℕ → ℕ
-equation-line e = e + 2
+equation-line e = e + first-equation-line
 
 pub record WalkRefusal : Type 0 where
   pub refusal : Refusal

@@ -15,15 +15,15 @@ use Rattle.solving.specs.Line.{Line}
 use Rattle.solving.specs.Walk.{Walked, solve, Solves}
 use Rattle.solving.specs.Judge.{first-holding}
 use Rattle.walking.specs.Contracts.Walking.{memory-bytes}
-use Rattle.lines.specs.Contracts.Layout.{placed}
-use Rattle.solver.specs.declared.positions.WalkEnd.{WalkEnd}
-use Rattle.solver.specs.declared.positions.WalkEnd.the-variants.{Solved, Refused}
-use Rattle.solver.specs.declared.positions.WalkResult.{WalkResult as Reported}
-use Rattle.solver.specs.Contracts.Reports.{LeavesEnd, Leaves}
+use Rattle.line_bytes.specs.Contracts.Layout.{placed}
+use Rattle.solve_equation.specs.declared.positions.WalkEnd.{WalkEnd}
+use Rattle.solve_equation.specs.declared.positions.WalkEnd.the-variants.{Solved, Refused}
+use Rattle.solve_equation.specs.declared.positions.WalkResult.{WalkResult as Reported}
+use Rattle.solve_equation.specs.Contracts.Reports.{LeavesEnd, Leaves}
 use Rattle.reducing.specs.Test.{holding-in, line-test}
-use Rattle.judging.specs.declared.trimmed.Kept.{Kept}
-use Rattle.judging.specs.declared.trimmed.Kept.the-variants.{End}
-use Rattle.judging.specs.Contracts.Trimmed.{trimmed-lines, RecordsAre, KeptAs}
+use Rattle.kept_lines.specs.declared.trimmed.Kept.{Kept}
+use Rattle.kept_lines.specs.declared.trimmed.Kept.the-variants.{End}
+use Rattle.kept_lines.specs.Contracts.Trimmed.{trimmed-lines, RecordsAre, KeptAs}
 use Rattle.rules.specs.Contracts.Rows.{RuleIs}
 use Rattle.rules.specs.Contracts.Lines.{RuleLines}
 use Rattle.rules.specs.Theory.Proper.{walked-proper}

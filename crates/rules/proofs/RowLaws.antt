@@ -14,7 +14,7 @@ use Rattle.terms.specs.Contracts.Stored.{PartAt}
 use Rattle.terms.specs.Theory.Position.{length-subterms}
 use Rattle.terms.specs.Theory.Prefix.{length-prefix}
 use Rattle.terms.specs.Theory.Stored.{stored-first, stored-rest}
-use Rattle.unifying.specs.Contracts.Equation.{equation-sizes}
+use Rattle.bindings.specs.Contracts.Equation.{equation-sizes}
 use Rattle.rules.specs.Contracts.Rows.{RowIs, RuleIs, SideIs}
 use Rattle.rules.specs.Theory.Rows.{first-size, row-start, rule-row, second-size}
 
@@ -45,7 +45,7 @@ module _ {equations lengths arities : List ℕ} {i : ℕ} {e : Equation} (r : Ro
     small = r .limits .left-size;
     stored = record {
       bytes = subst (λ n. PartAt equations n (prefix (e .left))) (sym x) (stored-first (prefix (e .left)) (prefix (e .right)) bytes-split);
-      lengths-there = subst (λ n. PartAt lengths n (map size (subterms (e .left)))) (sym x) (stored-first (map size (subterms (e .left))) (map size (subterms (e .right))) sizes-split);
+      sizes-there = subst (λ n. PartAt lengths n (map size (subterms (e .left)))) (sym x) (stored-first (map size (subterms (e .left))) (map size (subterms (e .right))) sizes-split);
     };
     ends = y;
   }
@@ -57,7 +57,7 @@ module _ {equations lengths arities : List ℕ} {i : ℕ} {e : Equation} (r : Ro
     small = r .limits .right-size;
     stored = record {
       bytes = subst (λ n. PartAt equations n (prefix (e .right))) (sym x) (stored-rest (prefix (e .left)) (prefix (e .right)) (size (e .left)) (length-prefix (e .left)) bytes-split);
-      lengths-there =
+      sizes-there =
           subst (λ n. PartAt lengths n (map size (subterms (e .right)))) (sym x)
           (stored-rest (map size (subterms (e .left))) (map size (subterms (e .right))) (size (e .left)) (length-map (subterms (e .left)) size ∙ length-subterms (e .left)) sizes-split);
     };

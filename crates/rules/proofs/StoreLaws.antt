@@ -16,9 +16,9 @@ use Rattle.terms.specs.Prefix.{equation-bytes}
 use Rattle.terms.specs.Contracts.Sizes.{Whole, Measurable, node-sizes}
 use Rattle.terms.specs.Contracts.Stored.{PartAt}
 use Rattle.terms.specs.Theory.Limits.{positions-few}
-use Rattle.unifying.specs.Contracts.Equation.{equation-sizes}
-use Rattle.unifying.specs.Theory.Equation.{length-nodes, length-sizes}
-use Rattle.solver.specs.Theory.Equation.{equation-whole, equation-measured}
+use Rattle.bindings.specs.Contracts.Equation.{equation-sizes}
+use Rattle.bindings.specs.Theory.Equation.{length-nodes, length-sizes}
+use Rattle.solve_equation.specs.Theory.Equation.{equation-whole, equation-measured}
 use Rattle.sheet.specs.Sheet.{Sheet}
 use Rattle.sheet.specs.Reading.{accepted, read}
 use Rattle.sheet.specs.Contracts.Valid.{ValidEquation}
@@ -160,16 +160,16 @@ module _ {sheet : List ℕ} {known : Known} where
         -- Its sizes too.
         module _ {sizes : List ℕ} (same-sizes : length sizes ≡ length (from-row this-row lengths))
             (filled : sizes ≡ node-sizes (take (known .symbols) (known .arities)) (take n (from-row this-row after)) ++ drop n (from-row this-row lengths)) where
-          abbrev after-lengths : List ℕ
-          after-lengths = put-row this-row lengths sizes
+          abbrev after-sizes : List ℕ
+          after-sizes = put-row this-row lengths sizes
 
           equations-whole : length after ≡ row-bytes
           equations-whole = put-length this-row equations bytes in-equations same ∙ k .equations-length
 
-          lengths-whole : length after-lengths ≡ row-bytes
+          lengths-whole : length after-sizes ≡ row-bytes
           lengths-whole = put-length this-row lengths sizes in-lengths same-sizes ∙ k .lengths-length
 
-          row-kept : (i : ℕ) (q : Equation) → i < e → RowIs equations lengths (known-arities known) i q → RowIs after after-lengths (known-arities known) i q
+          row-kept : (i : ℕ) (q : Equation) → i < e → RowIs equations lengths (known-arities known) i q → RowIs after after-sizes (known-arities known) i q
           row-kept i q h o =
               let few = positions-few (o .limits) in
               record {
@@ -184,7 +184,7 @@ module _ {sheet : List ℕ} {known : Known} where
                 measured = put-kept this-row lengths sizes in-lengths (o .measured) (omega (arith, length-sizes q, few));
               }
 
-          row-stored : (s : Sheet) → read sheet ≡ accepted s → (q : Equation) → entry (s .equations) e ≡ some q → RowIs after after-lengths (known-arities known) e q
+          row-stored : (s : Sheet) → read sheet ≡ accepted s → (q : Equation) → entry (s .equations) e ≡ some q → RowIs after after-sizes (known-arities known) e q
           unfolding written
           row-stored s r q x =
               let i : EquationIn sheet e q = (s, r, x) in
@@ -204,11 +204,11 @@ module _ {sheet : List ℕ} {known : Known} where
                 measured = put-part this-row lengths sizes in-lengths (drop n (from-row this-row lengths)) (filled ∙ ap (_++ drop n (from-row this-row lengths)) measured);
               }
 
-          pub one-more-stored : Storing sheet known after after-lengths (e + 1)
+          pub one-more-stored : Storing sheet known after after-sizes (e + 1)
           one-more-stored = record { equations-length = equations-whole; lengths-length = lengths-whole; stored = λ s r i h q x. go s r i h q x (decLt i e) }
             where
-              go : (s : Sheet) → read sheet ≡ accepted s → (i : ℕ) → i < e + 1 → (q : Equation) → entry (s .equations) i ≡ some q → Dec (i < e) → RowIs after after-lengths (known-arities known) i q
+              go : (s : Sheet) → read sheet ≡ accepted s → (i : ℕ) → i < e + 1 → (q : Equation) → entry (s .equations) i ≡ some q → Dec (i < e) → RowIs after after-sizes (known-arities known) i q
               go s r i h q x (yes l) = row-kept i q l (k .stored s r i l q x)
               go s r i h q x (no n) =
                   let d : e ≡ i = omega arith in
-                  subst (λ i. RowIs after after-lengths (known-arities known) i q) d (row-stored s r q (ap (entry (s .equations)) d ∙ x))
+                  subst (λ i. RowIs after after-sizes (known-arities known) i q) d (row-stored s r q (ap (entry (s .equations)) d ∙ x))

@@ -12,17 +12,17 @@ use Rattle.format.specs.Limits.{table-bytes}
 use Rattle.format.specs.Lists.{entry}
 use Rattle.format.specs.declared.refusal.Refusal.{Refusal}
 use Rattle.format.specs.Theory.Lists.{entry-length}
-use Rattle.terms.specs.Equation.{Equation, Direction, left-right, right-left, direction-number}
+use Rattle.terms.specs.Equation.{Equation, Direction}
 use Rattle.solving.specs.Walk.{solve, Solves}
 use Rattle.walking.specs.Contracts.Walking.{memory-bytes}
-use Rattle.lines.specs.Contracts.Layout.{placed}
-use Rattle.lines.specs.Theory.Placed.{placed-length, drop-placed, slice-placed}
+use Rattle.line_bytes.specs.Contracts.Layout.{placed}
+use Rattle.line_bytes.specs.Theory.Placed.{placed-length, drop-placed, slice-placed}
 use Rattle.reducing.specs.Test.{EverySolves}
 use Rattle.reducing.specs.Contracts.Rules.{rule-number}
 use Rattle.reducing.specs.Walks.{equation-line, first-refusal}
 use Rattle.reducing.specs.Theory.Walks.{SolvedBefore, refused-first, solved-all, none-refused}
 use Rattle.reducing.specs.Theory.Rules.{RuleOf, rule-low, rule-of, rule-parts}
-use Rattle.judging.specs.Contracts.Trimmed.{trimmed-lines}
+use Rattle.kept_lines.specs.Contracts.Trimmed.{trimmed-lines}
 use Rattle.rules.specs.declared.keep.RuleKept.{RuleKept}
 use Rattle.rules.specs.declared.keep.RuleKept.the-variants.{Refused, Full, End}
 use Rattle.rules.specs.Contracts.Rows.{RowsAre, RuleIs, HasRows, bound-count}

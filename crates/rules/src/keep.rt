@@ -2,12 +2,12 @@
 use format::byte::wide;
 use format::limits::Limits;
 use format::refusal::Refusal;
-use judging::trimmed::Kept;
-use judging::trimmed::keep_lines;
-use solver::positions::MEMORY;
-use solver::positions::WalkEnd;
-use solver::positions::WalkResult;
-use solver::solve::walk_direction;
+use kept_lines::trimmed::Kept;
+use kept_lines::trimmed::keep_lines;
+use solve_equation::positions::MEMORY;
+use solve_equation::positions::WalkEnd;
+use solve_equation::positions::WalkResult;
+use solve_equation::solve::walk_direction;
 ghost use mathlib.Core.Path.{_≡_};
 ghost use mathlib.Core.List.{List};
 ghost use Prim.Native.Nat.{ℕ, _≤_};
@@ -16,7 +16,7 @@ ghost use Rattle.format.specs.Limits.{table-bytes};
 ghost use Rattle.terms.specs.Equation.{Equation, Direction};
 ghost use Rattle.solving.specs.Walk.{solve};
 ghost use Rattle.walking.specs.Contracts.Walking.{memory-bytes};
-ghost use Rattle.solver.specs.Contracts.Reports.{Leaves};
+ghost use Rattle.solve_equation.specs.Contracts.Reports.{Leaves};
 ghost use Rattle.rules.specs.Contracts.Rows.{RuleIs, HasRuleIn};
 ghost use Rattle.rules.specs.Contracts.Walks.{RuleKeptAs};
 

@@ -12,13 +12,13 @@ use Rattle.format.specs.Limits.{variable-count, no-position}
 use Rattle.format.specs.Lists.{any, all}
 use Rattle.solving.specs.Line.{Element}
 use Rattle.solving.specs.Always.{is-unbound, is-empty}
-use Rattle.unifying.specs.Contracts.Bindings.{binding-of, bindings-of}
-use Rattle.unifying.specs.Theory.Bindings.{readable-slots}
-use Rattle.lines.specs.Contracts.Resting.{RestingLine, line-of, resting-bytes}
-use Rattle.lines.specs.Contracts.Layout.{count-place, line-bytes}
-use Rattle.lines.specs.Contracts.Room.{lines-bytes}
-use Rattle.lines.specs.Theory.Resting.{count-there, bindings-there}
-use Rattle.lines.specs.Theory.InPlace.{slice-is}
+use Rattle.bindings.specs.Contracts.Bindings.{binding-of, bindings-of}
+use Rattle.bindings.specs.Theory.Bindings.{readable-slots}
+use Rattle.line_bytes.specs.Contracts.Resting.{RestingLine, line-of, resting-bytes}
+use Rattle.line_bytes.specs.Contracts.Layout.{count-place, line-bytes}
+use Rattle.line_bytes.specs.Contracts.Room.{lines-bytes}
+use Rattle.line_bytes.specs.Theory.Resting.{count-there, bindings-there}
+use Rattle.line_bytes.specs.Theory.InPlace.{slice-is}
 use Rattle.walking.specs.Contracts.Walking.{AllWellFormed}
 use Rattle.walking.specs.Theory.Walking.{well-formed-length}
 use Rattle.stopping.specs.Contracts.Empty.{EmptyAt, AnyEmpty}

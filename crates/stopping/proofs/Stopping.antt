@@ -14,13 +14,13 @@ use Rattle.solving.specs.Turns.{table-after}
 use Rattle.solving.specs.Always.{is-empty, has-empty}
 use Rattle.solving.specs.Theory.Turns.{until-ends, same-table, Unstopped, walk-goes-on, walk-stops}
 use Rattle.solving.specs.Theory.Always.{none-before}
-use Rattle.unifying.specs.Contracts.PrefixForm.{view-of}
-use Rattle.lines.specs.Contracts.Resting.{RestingLine, line-of}
-use Rattle.lines.specs.Contracts.Layout.{line-bytes}
+use Rattle.bindings.specs.Contracts.PrefixForm.{view-of}
+use Rattle.line_bytes.specs.Contracts.Resting.{RestingLine, line-of}
+use Rattle.line_bytes.specs.Contracts.Layout.{line-bytes}
 use Rattle.walking.specs.declared.walk.Walk.{Walk}
 use Rattle.walking.specs.declared.walk.Advanced.{Advanced}
-use Rattle.walking.specs.declared.walk.Progress.{Progress}
-use Rattle.walking.specs.declared.walk.Progress.the-variants.{Going, Refused}
+use Rattle.walking.specs.declared.walk.WalkProgress.{WalkProgress}
+use Rattle.walking.specs.declared.walk.WalkProgress.the-variants.{Going, Refused}
 use Rattle.walking.specs.Contracts.Walking.{Walking, left-to-do, GoesOn, Advances, AdvancesAs}
 use Rattle.walking.specs.Theory.Walking.{ended}
 use Rattle.stopping.specs.Contracts.Empty.{AnyEmpty}
@@ -63,7 +63,7 @@ module _ {nodes sizes memory : List ℕ} {stops : Bool} {w v : Walk} (u : Underw
   pub underway-refused : {memory′ : List ℕ} (a : Advanced) → Advances nodes sizes memory′ v a → (a .progress ≡ Going → ⊥) → WalkEnds nodes sizes memory′ stops (w .source) (w .target) a
   underway-refused {memory′ = memory′} a s n = go (a .progress) refl (s .outcome)
     where
-      go : (p : Progress) → a .progress ≡ p → AdvancesAs nodes sizes memory′ v (a .walk) p → WalkEnds nodes sizes memory′ stops (w .source) (w .target) a
+      go : (p : WalkProgress) → a .progress ≡ p → AdvancesAs nodes sizes memory′ v (a .walk) p → WalkEnds nodes sizes memory′ stops (w .source) (w .target) a
       go Going e o = absurd (n e)
       go (Refused r) e o = record {
         end = subst (λ p. EndsAs nodes sizes memory′ stops (w .source) (w .target) (a .walk) p) (sym e)

@@ -1,10 +1,10 @@
 // Lines without binding and element among those that rest in the memory of the walk.
 use format::limits::Limits;
-use lines::layout::COUNT;
-use lines::layout::LINE;
+use line_bytes::layout::COUNT;
+use line_bytes::layout::LINE;
 ghost use Prim.Native.Nat.{_+_, _*_, _≤_};
 ghost use lib.ListN.{length};
-ghost use Rattle.lines.specs.Contracts.Layout.{line-bytes};
+ghost use Rattle.line_bytes.specs.Contracts.Layout.{line-bytes};
 ghost use Rattle.stopping.specs.Contracts.Empty.{EmptyAt, AnyEmpty};
 
 // Whether the line that rests at `place` has no element and no binding.

@@ -2,12 +2,12 @@
 use crate::empty::any_empty;
 use format::limits::Limits;
 use walking::walk::Advanced;
-use walking::walk::Progress;
 use walking::walk::Walk;
+use walking::walk::WalkProgress;
 use walking::walk::going;
 ghost use mathlib.Core.Path.{_≡_};
 ghost use mathlib.Core.Bool.{true};
-ghost use Rattle.unifying.specs.Contracts.Sets.{HasVariables};
+ghost use Rattle.bindings.specs.Contracts.Sets.{HasVariables};
 ghost use Rattle.walking.specs.Contracts.Walking.{Walking};
 ghost use Rattle.stopping.specs.Contracts.Ends.{NoneEmpty, WalkEnds};
 
@@ -30,7 +30,7 @@ pub fn go_on(
     while cursor.top < Limits::LINES {
         let next = cursor.turn(nodes, sizes, variables, memory);
         let progress = next.progress;
-        let Progress::Going = progress else {
+        let WalkProgress::Going = progress else {
             return next;
         };
         let end = cursor.top + 1;

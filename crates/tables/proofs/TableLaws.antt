@@ -18,9 +18,9 @@ use Rattle.solving.specs.Line.{Bindings, Element, Line, line, records}
 use Rattle.solving.specs.Theory.Records.{length-records}
 use Rattle.solving.specs.Walk.{solved, solve}
 use Rattle.solving.specs.Theory.Solve.{solved-lines}
-use Rattle.solver.specs.declared.positions.WalkEnd.the-variants.{Solved, Refused}
-use Rattle.solver.specs.declared.positions.WalkResult.{WalkResult as Reported}
-use Rattle.solver.specs.Contracts.Reports.{LeavesEnd, Leaves}
+use Rattle.solve_equation.specs.declared.positions.WalkEnd.the-variants.{Solved, Refused}
+use Rattle.solve_equation.specs.declared.positions.WalkResult.{WalkResult as Reported}
+use Rattle.solve_equation.specs.Contracts.Reports.{LeavesEnd, Leaves}
 use Rattle.reducing.specs.Test.{EverySolves, BothSolve}
 use Rattle.reducing.specs.Contracts.Rules.{rule-number}
 use Rattle.reducing.specs.Theory.Rules.{RuleOf, rule-of, rule-low, rule-parts}
@@ -28,9 +28,9 @@ use Rattle.rules.specs.Contracts.Rows.{RuleIs, RowsAre, HasRuleIn}
 use Rattle.listing.specs.Listing.{table-kind, printed, two-bytes, table-frames, line-frame}
 use Rattle.rules.specs.Theory.Rows.{row-start, rule-in}
 use Rattle.rules.specs.Theory.Kept.{leaves-refused, sides-there}
-use Rattle.printing.specs.Contracts.Appended.{Appended}
-use Rattle.printing.specs.Theory.Printed.{printed-append, length-printed-one}
-use Rattle.printing.specs.Theory.Appended.{appended-none, appended-join, appended-text}
+use Rattle.listing.specs.Contracts.Appended.{Appended}
+use Rattle.listing.specs.Theory.Printed.{printed-append, length-printed-one}
+use Rattle.listing.specs.Theory.Appended.{appended-none, appended-join, appended-text}
 use Rattle.frames.specs.Contracts.Room.{table-room, line-room}
 use Rattle.frames.specs.Contracts.Line.{LineRecord, HasLineRecord}
 use Rattle.cursor.specs.declared.place.Place.the-variants.{Line as LinePlace}

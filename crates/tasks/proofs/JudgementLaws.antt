@@ -12,16 +12,16 @@ use Rattle.scanning.specs.declared.known.Known.{Known}
 use Rattle.scanning.specs.Contracts.Scan.{known-arities}
 use Rattle.solving.specs.Line.{Line}
 use Rattle.solving.specs.Walk.{solve}
-use Rattle.solver.specs.declared.positions.WalkEnd.the-variants.{Solved, Refused}
-use Rattle.solver.specs.declared.positions.WalkResult.{WalkResult as Reported}
-use Rattle.solver.specs.Contracts.Reports.{Leaves}
-use Rattle.judging.specs.declared.trimmed.Kept.{Kept}
-use Rattle.judging.specs.declared.trimmed.Kept.the-variants.{Full, End}
-use Rattle.judging.specs.Contracts.Trimmed.{RecordsAre, HasRecords, KeptAs}
+use Rattle.solve_equation.specs.declared.positions.WalkEnd.the-variants.{Solved, Refused}
+use Rattle.solve_equation.specs.declared.positions.WalkResult.{WalkResult as Reported}
+use Rattle.solve_equation.specs.Contracts.Reports.{Leaves}
+use Rattle.kept_lines.specs.declared.trimmed.Kept.{Kept}
+use Rattle.kept_lines.specs.declared.trimmed.Kept.the-variants.{Full, End}
+use Rattle.kept_lines.specs.Contracts.Trimmed.{RecordsAre, HasRecords, KeptAs}
 use Rattle.rules.specs.Contracts.Rows.{RuleIs, HasRuleIn}
 use Rattle.rules.specs.Theory.Kept.{leaves-refused, records-there}
 use Rattle.rules.specs.Theory.Front.{front-fits, front-kept}
-use Rattle.judgements.specs.Contracts.JudgeTask.{ValuesIn, HasValues}
+use Rattle.judge_task.specs.Contracts.JudgeTask.{ValuesIn, HasValues}
 use Rattle.tasks.specs.Contracts.Task.{JudgementAt}
 
 module _ {sheet : List ℕ} {known : Known} {from end : ℕ} {equations lengths : List ℕ} {rule i : ℕ} {e : Equation} {d : Direction} {ts : Terms}

@@ -15,14 +15,14 @@ use Rattle.sheet.specs.Sheet.{run}
 use Rattle.reducing.specs.Run.{Step, ending-number}
 use Rattle.outcomes.specs.Outcome.{log-of}
 use Rattle.outcomes.specs.Theory.Outcomes.{length-log}
-use Rattle.running.specs.declared.course.Course.{Course}
-use Rattle.running.specs.Contracts.Course.{the-run, last-of}
-use Rattle.reductions.specs.Contracts.RunTerm.{RunCourse}
+use Rattle.run_steps.specs.declared.course.Course.{Course}
+use Rattle.run_steps.specs.Contracts.Course.{the-run, last-of}
+use Rattle.run_term.specs.Contracts.RunTerm.{RunCourse}
 use Rattle.listing.specs.Listing.{printed, run-kind, step-frame, run-frames, task-frames}
 use Rattle.rules.specs.Contracts.Walks.{LinesReady}
-use Rattle.printing.specs.Contracts.Appended.{Appended}
-use Rattle.printing.specs.Theory.Printed.{printed-append}
-use Rattle.printing.specs.Theory.Appended.{appended-join, appended-text}
+use Rattle.listing.specs.Contracts.Appended.{Appended}
+use Rattle.listing.specs.Theory.Printed.{printed-append}
+use Rattle.listing.specs.Theory.Appended.{appended-join, appended-text}
 use Rattle.cursor.specs.Theory.Rest.{task-steps}
 use Rattle.tasks.specs.Contracts.Task.{TaskGiven}
 use Rattle.tasks.proofs.TaskLaws.{appended-within}

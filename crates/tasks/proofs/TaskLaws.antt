@@ -24,12 +24,12 @@ use Rattle.reading.specs.Contracts.Seek.{Accepts, TaskIn, TaskAt, Spans, task-t
 use Rattle.reading.specs.Theory.Found.{is-run, is-judgement, is-comparison}
 use Rattle.reducing.specs.Test.{holding-line, given-values, BothSolve}
 use Rattle.reducing.specs.Theory.Rules.{rule-below}
-use Rattle.reductions.specs.Contracts.RunTerm.{RunTermIs, HasRunTerm}
-use Rattle.comparisons.specs.Contracts.Comparison.{PairIn}
+use Rattle.run_term.specs.Contracts.RunTerm.{RunTermIs, HasRunTerm}
+use Rattle.compare_task.specs.Contracts.Comparison.{PairIn}
 use Rattle.listing.specs.Listing.{printed, judgement-frame, comparison-frame, holding, task-frames}
 use Rattle.rules.specs.Contracts.Walks.{LinesReady}
-use Rattle.printing.specs.Contracts.Appended.{Appended}
-use Rattle.printing.specs.Theory.Appended.{appended-text}
+use Rattle.listing.specs.Contracts.Appended.{Appended}
+use Rattle.listing.specs.Theory.Appended.{appended-text}
 use Rattle.cursor.specs.Contracts.Stands.{Ready}
 use Rattle.cursor.specs.Theory.Rest.{task-steps}
 use Rattle.tasks.specs.declared.task.TaskListed.{TaskListed}

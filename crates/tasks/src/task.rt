@@ -1,18 +1,18 @@
 // The frames of a task: a run's, a judgement's or a comparison's.
-use comparisons::compare::compare_terms;
+use compare_task::compare::compare_terms;
 use frames::fixed::put_comparison;
 use frames::fixed::put_judgement;
 use frames::steps::put_run;
 use frames::steps::put_steps;
-use judgements::judge_task::judge_values;
-use judging::trimmed::Kept;
-use judging::trimmed::keep_lines;
+use judge_task::task::judge_values;
+use kept_lines::trimmed::Kept;
+use kept_lines::trimmed::keep_lines;
 use reading::seek::TaskHead;
 use reading::seek::find_task;
-use reductions::run_term::run_course;
 use rules::keep::walk_rule;
+use run_term::term::run_course;
 use scanning::known::Known;
-use solver::positions::WalkEnd;
+use solve_equation::positions::WalkEnd;
 ghost use mathlib.Core.Path.{_≡_};
 ghost use mathlib.Core.Option.{some};
 ghost use mathlib.Core.List.{List, [], _∷_};
@@ -27,9 +27,9 @@ ghost use Rattle.scanning.specs.Contracts.Scan.{known-arities};
 ghost use Rattle.reducing.specs.Test.{EverySolves, holding-line, given-values};
 ghost use Rattle.listing.specs.Listing.{printed, judgement-frame};
 ghost use Rattle.rules.specs.Contracts.Walks.{LinesReady};
-ghost use Rattle.printing.specs.Contracts.Appended.{Appended};
+ghost use Rattle.listing.specs.Contracts.Appended.{Appended};
 ghost use Rattle.frames.specs.Contracts.Room.{judgement-room, task-room};
-ghost use Rattle.reductions.specs.Contracts.RunTerm.{RunTermIs, HasRunTerm};
+ghost use Rattle.run_term.specs.Contracts.RunTerm.{RunTermIs, HasRunTerm};
 ghost use Rattle.cursor.specs.Contracts.Stands.{Ready};
 ghost use Rattle.tasks.specs.Contracts.Task.{TaskGiven, HasTask, JudgementAt, HasJudgementAt};
 

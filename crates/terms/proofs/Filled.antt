@@ -33,10 +33,10 @@ middle a b c i end x y h =
     let l : length (a ++ b) ≡ end = length-append a b ∙ omega arith in
     rw (← append-assoc a b c, take-at (a ++ b) c end l, drop-at a b i x)
 
-pub record SizesFilled (arities nodes before : List ℕ) (from end : ℕ) (lengths : List ℕ) (i : ℕ) : Type 0 where
+pub record SizesFilled (arities nodes before : List ℕ) (from end : ℕ) (sizes : List ℕ) (i : ℕ) : Type 0 where
   pub low : from ≤ i
   pub high : i ≤ end
-  pub is : lengths ≡ take i before ++ (node-sizes arities (slice i end nodes) ++ drop end before)
+  pub is : sizes ≡ take i before ++ (node-sizes arities (slice i end nodes) ++ drop end before)
 
 module _ {arities nodes before : List ℕ} {from end : ℕ} (m : Measurable arities nodes before from end) where
   pub whole-from : (i : ℕ) → from ≤ i → i ≤ end → Whole arities (slice i end nodes)
@@ -54,39 +54,39 @@ module _ {arities nodes before : List ℕ} {from end : ℕ} (m : Measurable arit
   unfolding node-sizes
   filled-none = record { low = m .ordered; high = omega arith; is = rw (slice-empty end nodes) (sym (take-append-drop end before)) }
 
-  module _ {lengths : List ℕ} {i : ℕ} (f : SizesFilled arities nodes before from end lengths i) where
+  module _ {sizes : List ℕ} {i : ℕ} (f : SizesFilled arities nodes before from end sizes i) where
     taken : length (take i before) ≡ i
     taken = length-take-le i before (omega (arith, m .sizes-room, f .high))
 
-    pub filled-same-length : length lengths ≡ length before
+    pub filled-same-length : length sizes ≡ length before
     filled-same-length = ap length (f .is) ∙ simp length-append (omega (arith, taken, filled-length i (f .low) (f .high), length-drop end before, m .sizes-room, f .high))
 
-    pub filled-part : slice i end lengths ≡ node-sizes arities (slice i end nodes)
+    pub filled-part : slice i end sizes ≡ node-sizes arities (slice i end nodes)
     filled-part = ap (slice i end) (f .is) ∙ middle (take i before) (node-sizes arities (slice i end nodes)) (drop end before) i end taken (filled-length i (f .low) (f .high)) (f .high)
 
     -- What is asked for the size of the node before.
     pub first-asks : from < i
         → Whole arities (take (end - (i - 1)) (drop (i - 1) nodes))
         × ((0 < length (take (end - (i - 1)) (drop (i - 1) nodes))) × (length (take (end - (i - 1)) (drop (i - 1) nodes)) ≤ node-count))
-        × (take (end - i) (drop i lengths) ≡ node-sizes arities (drop 1 (take (end - (i - 1)) (drop (i - 1) nodes))))
+        × (take (end - i) (drop i sizes) ≡ node-sizes arities (drop 1 (take (end - (i - 1)) (drop (i - 1) nodes))))
     first-asks h =
         let l = length-slice (i - 1) end nodes (m .nodes-room) in
         let d : (i - 1) + 1 ≡ i = omega arith in
-        rw (← slice-part (i - 1) end nodes, ← slice-part i end lengths)
+        rw (← slice-part (i - 1) end nodes, ← slice-part i end sizes)
         (whole-from (i - 1) (omega arith) (omega (arith, f .high)), (omega (arith, l, f .high), omega (arith, l, m .few)), rw (slice-rest (i - 1) end nodes, d) filled-part)
 
-    pub filled-asks : {last : ℕ} → last ≡ getD (slice i end lengths) 0 0 → last ≡ getD (take (end - i) (drop i lengths)) 0 0
-    filled-asks e = rw (← slice-part i end lengths) e
+    pub filled-asks : {last : ℕ} → last ≡ getD (slice i end sizes) 0 0 → last ≡ getD (take (end - i) (drop i sizes)) 0 0
+    filled-asks e = rw (← slice-part i end sizes) e
 
-    pub filled-more : {r : ℕ} → from < i → node-sizes arities (take (end - (i - 1)) (drop (i - 1) nodes)) ≡ r ∷ take (end - i) (drop i lengths)
-        → SizesFilled arities nodes before from end (set lengths (i - 1) r) (i - 1)
+    pub filled-more : {r : ℕ} → from < i → node-sizes arities (take (end - (i - 1)) (drop (i - 1) nodes)) ≡ r ∷ take (end - i) (drop i sizes)
+        → SizesFilled arities nodes before from end (set sizes (i - 1) r) (i - 1)
     filled-more {r} h d = record { low = omega arith; high = omega (arith, f .high); is = stored }
       where
         j : ℕ
         j = i - 1
 
-        e : node-sizes arities (slice j end nodes) ≡ r ∷ slice i end lengths
-        e = rw (slice-part j end nodes, slice-part i end lengths) d
+        e : node-sizes arities (slice j end nodes) ≡ r ∷ slice i end sizes
+        e = rw (slice-part j end nodes, slice-part i end sizes) d
 
         rest : List ℕ
         rest = node-sizes arities (slice i end nodes) ++ drop end before
@@ -97,10 +97,10 @@ module _ {arities nodes before : List ℕ} {from end : ℕ} (m : Measurable arit
         one-more : take i before ≡ take j before ++ (getD before j 0 ∷ [])
         one-more = let d : i ≡ suc j = omega arith in ap (λ n. take n before) d ∙ take-suc before j 0 below
 
-        split : lengths ≡ take j before ++ (getD before j 0 ∷ rest)
+        split : sizes ≡ take j before ++ (getD before j 0 ∷ rest)
         split = f .is ∙ (ap (_++ rest) one-more ∙ append-assoc (take j before) (getD before j 0 ∷ []) rest)
 
-        stored : set lengths j r ≡ take j before ++ (node-sizes arities (slice j end nodes) ++ drop end before)
+        stored : set sizes j r ≡ take j before ++ (node-sizes arities (slice j end nodes) ++ drop end before)
         stored =
             let l : length (take j before) ≡ j = length-take-le j before (omega (arith, below)) in
             ap (λ q. set q j r) split
@@ -108,6 +108,6 @@ module _ {arities nodes before : List ℕ} {from end : ℕ} (m : Measurable arit
             ∙ ap (λ q. take j before ++ (q ++ drop end before)) (sym (e ∙ ap (r ∷_) filled-part)))
 
   -- The size that was put last is the first of those filled in.
-  pub filled-first : {lengths : List ℕ} {i : ℕ} (f : SizesFilled arities nodes before from end lengths i) {r : ℕ} → from < i
-      → node-sizes arities (take (end - (i - 1)) (drop (i - 1) nodes)) ≡ r ∷ take (end - i) (drop i lengths) → r ≡ getD (slice (i - 1) end (set lengths (i - 1) r)) 0 0
+  pub filled-first : {sizes : List ℕ} {i : ℕ} (f : SizesFilled arities nodes before from end sizes i) {r : ℕ} → from < i
+      → node-sizes arities (take (end - (i - 1)) (drop (i - 1) nodes)) ≡ r ∷ take (end - i) (drop i sizes) → r ≡ getD (slice (i - 1) end (set sizes (i - 1) r)) 0 0
   filled-first {i = i} f h d = sym (ap (λ l. getD l 0 0) (filled-part (filled-more f h d) ∙ (ap (node-sizes arities) (slice-part (i - 1) end nodes) ∙ d)))

@@ -5,11 +5,11 @@ use mathlib.Core.List.{List, _∷_, _++_, append-assoc}
 use lib.ListN.{length, getD, set, length-append, length-set}
 use native.Mathlib.Omega.{arith}
 use Rattle.solving.specs.Walk.{argument-choices}
-use Rattle.lines.specs.Contracts.Resting.{equality-mark}
-use Rattle.lines.specs.Contracts.Layout.{line-bytes, placed}
+use Rattle.line_bytes.specs.Contracts.Resting.{equality-mark}
+use Rattle.line_bytes.specs.Contracts.Layout.{line-bytes, placed}
 use Rattle.treating.specs.Contracts.Choices.{choices-bytes, ArgumentsFit, PushesArguments}
-use Rattle.unifying.specs.Theory.PrefixForm.{row-ordered, row-empty, row-next, row-first-some}
-use Rattle.lines.specs.Theory.Placed.{placed-none, placed-behind, gap-filled}
+use Rattle.bindings.specs.Theory.PrefixForm.{row-ordered, row-empty, row-next, row-first-some}
+use Rattle.line_bytes.specs.Theory.Placed.{placed-none, placed-behind, gap-filled}
 
 module _ (sizes : List ℕ) (at q end : ℕ) (line : List ℕ) where
   -- The lines of the first argument are put into the memory.

@@ -7,12 +7,12 @@ use native.Mathlib.Decide.{ℕ-discrete, decLt}
 use native.Mathlib.Omega.{arith}
 use Rattle.solving.specs.Line.{Element, equal}
 use Rattle.solving.specs.Walk.{argument-choices, exceeds-each, lexicographic-choices, precedence-choices, same-symbol-choices, choices}
-use Rattle.lines.specs.Contracts.Resting.{marks, padding, resting-bytes}
-use Rattle.lines.specs.Contracts.Room.{lines-bytes, front-bytes, back-bytes}
+use Rattle.line_bytes.specs.Contracts.Resting.{marks, padding, resting-bytes}
+use Rattle.line_bytes.specs.Contracts.Room.{lines-bytes, front-bytes, back-bytes}
 use Rattle.treating.specs.Contracts.Choices.{choices-bytes}
 use Rattle.treating.specs.Contracts.Children.{child}
 use Rattle.treating.specs.Contracts.Splitting.{AllLong, lesser}
-use Rattle.lines.specs.Theory.Resting.{marks-append}
+use Rattle.line_bytes.specs.Theory.Resting.{marks-append}
 
 -- 1. Their bytes, where all choices have `n` elements.
 pub child-bytes : (bs : List ℕ) (pre post cs : List Element) → resting-bytes (child bs pre post cs)

@@ -5,10 +5,10 @@ use mathlib.Core.List.{List, [], _∷_, _++_, append-assoc}
 use lib.ListN.{length, getD, set, length-append, length-set}
 use native.Mathlib.Omega.{arith}
 use Rattle.solving.specs.Walk.{exceeds-each}
-use Rattle.lines.specs.Contracts.Resting.{marks}
+use Rattle.line_bytes.specs.Contracts.Resting.{marks}
 use Rattle.treating.specs.Contracts.Choices.{ExceedingFit, FillsExceeding}
-use Rattle.unifying.specs.Theory.PrefixForm.{row-ordered, row-empty, row-next, row-first-some}
-use Rattle.lines.specs.Theory.Placed.{set-pair, two-bytes, no-bytes}
+use Rattle.bindings.specs.Theory.PrefixForm.{row-ordered, row-empty, row-next, row-first-some}
+use Rattle.line_bytes.specs.Theory.Placed.{set-pair, two-bytes, no-bytes}
 
 module _ (sizes : List ℕ) (p end : ℕ) where
   pub exceeding-done : (k at : ℕ) (line : List ℕ) → end ≤ k → FillsExceeding sizes at p k end line line

@@ -7,13 +7,13 @@ use lib.ListN.{length, getD, set, length-append, length-set, length-map}
 use native.Mathlib.Omega.{arith}
 use Rattle.solving.specs.Line.{Element, equal, greater}
 use Rattle.solving.specs.Walk.{exceeds-each, lexicographic-choices}
-use Rattle.lines.specs.Contracts.Resting.{equality-mark, marks}
-use Rattle.unifying.specs.Contracts.PrefixForm.{Row, none}
-use Rattle.lines.specs.Contracts.Layout.{line-bytes, placed}
+use Rattle.line_bytes.specs.Contracts.Resting.{equality-mark, marks}
+use Rattle.bindings.specs.Contracts.PrefixForm.{Row, none}
+use Rattle.line_bytes.specs.Contracts.Layout.{line-bytes, placed}
 use Rattle.treating.specs.Contracts.Choices.{choices-bytes, marked-equal, EqualFit, MarksEqual, LexicographicFit, PushesLexicographic}
 use Rattle.treating.proofs.Marked.{length-marked, marked-last, marked-set, marked-placed, row-last}
-use Rattle.unifying.specs.Theory.PrefixForm.{row-ordered, row-empty, row-next, row-first-some}
-use Rattle.lines.specs.Theory.Placed.{placed-none, placed-behind, set-pair}
+use Rattle.bindings.specs.Theory.PrefixForm.{row-ordered, row-empty, row-next, row-first-some}
+use Rattle.line_bytes.specs.Theory.Placed.{placed-none, placed-behind, set-pair}
 
 pub marks-first : (e : Element) (es : List Element) → marks (e ∷ es) ≡ marks (e ∷ []) ++ marks es
 unfolding marks

@@ -5,12 +5,12 @@ use mathlib.Core.List.{List, [], _∷_, _++_}
 use lib.ListN.{length, getD, set, length-set}
 use lib.Seq.{set-comm}
 use native.Mathlib.Omega.{arith}
-use Rattle.unifying.specs.Contracts.PrefixForm.{Row, none, more}
-use Rattle.lines.specs.Contracts.Resting.{equality-mark}
-use Rattle.lines.specs.Contracts.Layout.{placed}
+use Rattle.bindings.specs.Contracts.PrefixForm.{Row, none, more}
+use Rattle.line_bytes.specs.Contracts.Resting.{equality-mark}
+use Rattle.line_bytes.specs.Contracts.Layout.{placed}
 use Rattle.treating.specs.Contracts.Choices.{marked-equal, EqualFit, MarksEqual}
-use Rattle.unifying.specs.Theory.PrefixForm.{row-ordered, row-empty, row-next, row-first-some}
-use Rattle.lines.specs.Theory.Placed.{set-placed}
+use Rattle.bindings.specs.Theory.PrefixForm.{row-ordered, row-empty, row-next, row-first-some}
+use Rattle.line_bytes.specs.Theory.Placed.{set-placed}
 
 pub length-marked : (ss : List ℕ) (at : ℕ) (l : List ℕ) → length (marked-equal ss at l) ≡ length l
 unfolding marked-equal

@@ -10,21 +10,21 @@ use native.Mathlib.Omega.{arith}
 use Rattle.format.specs.Limits.{max-elements}
 use Rattle.solving.specs.Line.{Element}
 use Rattle.solving.specs.Walk.{argument-choices, exceeds-each, lexicographic-choices, choices}
-use Rattle.unifying.specs.Contracts.PrefixForm.{arguments-of}
-use Rattle.unifying.specs.Contracts.Count.{HasRow, CountsRow}
+use Rattle.bindings.specs.Contracts.PrefixForm.{arguments-of}
+use Rattle.bindings.specs.Contracts.Count.{HasRow, CountsRow}
 use Rattle.treating.specs.declared.choices.CountedArguments.{CountedArguments}
 use Rattle.treating.specs.declared.treat.Sides.{Sides}
-use Rattle.lines.specs.Contracts.Resting.{marks, RestingLine, resting-bytes}
-use Rattle.lines.specs.Contracts.Layout.{first-element, reduced-place, count-place, line-bytes, placed}
-use Rattle.lines.specs.Contracts.Room.{lines-bytes, Gap, front-bytes, back-bytes, WideningFits, Widened}
+use Rattle.line_bytes.specs.Contracts.Resting.{marks, RestingLine, resting-bytes}
+use Rattle.line_bytes.specs.Contracts.Layout.{first-element, reduced-place, count-place, line-bytes, placed}
+use Rattle.line_bytes.specs.Contracts.Room.{lines-bytes, Gap, front-bytes, back-bytes, WideningFits, Widened}
 use Rattle.treating.specs.Contracts.Choices.{ExceedingFit, FillsExceeding, choices-bytes, ArgumentsFit, PushesArguments, LexicographicFit, PushesLexicographic}
 use Rattle.treating.specs.declared.split.Choices.{Choices}
 use Rattle.treating.specs.Contracts.Children.{child}
 use Rattle.treating.specs.Contracts.Splitting.{lesser, AllLong, CountsLastChoices, TooLong, span-of, HasArguments, ChoicesOf, Splitting, ChoicesFit}
-use Rattle.unifying.specs.Theory.PrefixForm.{row-unique}
-use Rattle.lines.specs.Theory.Resting.{length-marks, length-resting, count-there, set-reduced}
-use Rattle.lines.specs.Theory.Placed.{placed-behind, placed-length}
-use Rattle.lines.specs.Theory.InPlace.{lines-append}
+use Rattle.bindings.specs.Theory.PrefixForm.{row-unique}
+use Rattle.line_bytes.specs.Theory.Resting.{length-marks, length-resting, count-there, set-reduced}
+use Rattle.line_bytes.specs.Theory.Placed.{placed-behind, placed-length}
+use Rattle.line_bytes.specs.Theory.InPlace.{lines-append}
 use Rattle.treating.proofs.ChoiceLines.{child-bytes, children-bytes, exceeds-long, lexicographic-long, lexicographic-count, lesser-le, choices-less, choices-more, choices-same}
 use Rattle.treating.specs.Theory.Choices.{argument-long}
 

@@ -9,17 +9,17 @@ use Rattle.terms.specs.Position.{var-node, app-node}
 use Rattle.solving.specs.Line.{greater, line}
 use Rattle.solving.specs.Walk.{enough, reach, occurs, Treatment, fully-reduced, becomes, treat-greater, treat}
 use Rattle.solving.specs.Contracts.Within.{Within}
-use Rattle.lines.specs.declared.element.Relation.the-variants.{Equal, Greater}
-use Rattle.lines.specs.declared.element.Element.{Element as Held}
+use Rattle.line_bytes.specs.declared.element.Relation.the-variants.{Equal, Greater}
+use Rattle.line_bytes.specs.declared.element.Element.{Element as Held}
 use Rattle.treating.specs.declared.treat.Sides.{Sides}
 use Rattle.treating.specs.declared.treat.Treatment.{Treatment as Found}
-use Rattle.lines.specs.Contracts.Resting.{meaning}
-use Rattle.lines.specs.Theory.Element.{says-equal, says-greater}
+use Rattle.line_bytes.specs.Contracts.Resting.{meaning}
+use Rattle.line_bytes.specs.Theory.Element.{says-equal, says-greater}
 use Rattle.treating.specs.declared.treat.Treatment.the-variants.{Reduced, DropLine, DropElement, Unify, Split}
-use Rattle.unifying.specs.Contracts.PrefixForm.{view-of, arguments-of}
-use Rattle.unifying.specs.Contracts.Bindings.{bindings-of}
+use Rattle.bindings.specs.Contracts.PrefixForm.{view-of, arguments-of}
+use Rattle.bindings.specs.Contracts.Bindings.{bindings-of}
 use Rattle.treating.specs.Contracts.Treatment.{Treated}
-use Rattle.unifying.specs.Theory.PrefixForm.{symbol-there, variable-there}
+use Rattle.bindings.specs.Theory.PrefixForm.{symbol-there, variable-there}
 
 module _ (nodes sizes bs : List ℕ) (p q s : ℕ) (at-p : s ≡ reach enough (view-of nodes sizes) (bindings-of bs) p) where
   left-variable : (v : ℕ) → view-of nodes sizes s ≡ var-node v → (o : Bool) → occurs enough (view-of nodes sizes) (enough .occurs-depth) (bindings-of bs) v q ≡ o

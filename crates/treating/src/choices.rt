@@ -1,9 +1,9 @@
 // The lines of the choices of an inequality, put into the memory of the walk.
 use format::byte::wide;
-use lines::edit::put;
-use lines::edit::store_with;
-use lines::element::EQUALITY;
-use lines::layout::LINE;
+use line_bytes::edit::put;
+use line_bytes::edit::store_with;
+use line_bytes::element::EQUALITY;
+use line_bytes::layout::LINE;
 ghost use Rattle.treating.specs.Contracts.Choices.{ExceedingFit, FillsExceeding, ArgumentsFit, PushesArguments, EqualFit, MarksEqual, LexicographicFit, PushesLexicographic};
 
 // The arguments of a term: `count` terms, which stand one behind the other from `from` to `end`.

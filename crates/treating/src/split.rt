@@ -4,13 +4,13 @@ use crate::choices::fill_exceeding;
 use crate::choices::push_arguments;
 use crate::choices::push_lexicographic;
 use crate::treat::Sides;
+use bindings::count::row_count;
 use format::byte::wide;
 use format::limits::Limits;
-use lines::edit::make_room;
-use lines::edit::store;
-use lines::layout::FIRST_ELEMENT;
-use lines::layout::REDUCED;
-use unifying::count::row_count;
+use line_bytes::edit::make_room;
+use line_bytes::edit::store;
+use line_bytes::layout::FIRST_ELEMENT;
+use line_bytes::layout::REDUCED;
 ghost use mathlib.Core.Path.{_≡_};
 ghost use Rattle.treating.specs.Contracts.Splitting.{lesser, CountsLastChoices, TooLong, span-of, HasArguments, HasChoices, ChoicesOf, ChoicesFit, PushesChoices};
 

@@ -1,18 +1,18 @@
 // What an element asks for, seen through the bindings of its line.
+use bindings::occurs::occurs_at;
+use bindings::reach::reached;
 use format::byte::wide;
 use format::limits::Limits;
-use lines::element::Element;
-use lines::element::Relation;
-use unifying::occurs::occurs_at;
-use unifying::reach::reached;
+use line_bytes::element::Element;
+use line_bytes::element::Relation;
 ghost use mathlib.Core.Path.{_≡_};
 ghost use Prim.Native.Nat.{_<_};
 ghost use lib.ListN.{length};
 ghost use Rattle.solving.specs.Line.{greater};
 ghost use Rattle.solving.specs.Contracts.Within.{Within};
-ghost use Rattle.unifying.specs.Contracts.Bindings.{Readable};
-ghost use Rattle.unifying.specs.Contracts.Sets.{HasVariables};
-ghost use Rattle.lines.specs.Contracts.Resting.{meaning};
+ghost use Rattle.bindings.specs.Contracts.Bindings.{Readable};
+ghost use Rattle.bindings.specs.Contracts.Sets.{HasVariables};
+ghost use Rattle.line_bytes.specs.Contracts.Resting.{meaning};
 ghost use Rattle.treating.specs.Contracts.Treatment.{Treated};
 
 // The positions of an element's two sides, or of the terms reached from them.
@@ -30,7 +30,7 @@ pub enum Treatment {
     Split(Sides, Sides),
 }
 
-fn sides_of(p: u8, q: u8) -> Sides
+fn element_sides(p: u8, q: u8) -> Sides
     ensures { λ r. ⌜ r ≡ record { left = p; right = q } ⌝ }
 {
     Sides {
@@ -105,8 +105,8 @@ pub fn treatment_of(
             sizes,
             variables,
             bindings,
-            sides_of(p, q),
+            element_sides(p, q),
         ),
-        Relation::Equal(p, q) => Treatment::Unify(sides_of(p, q)),
+        Relation::Equal(p, q) => Treatment::Unify(element_sides(p, q)),
     }
 }

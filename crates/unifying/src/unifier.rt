@@ -1,16 +1,16 @@
 // A line's bindings with those of a unifier added, beside the line's own.
-use crate::unify::Answer;
+use crate::unify::UnifierAnswer;
 use crate::unify::unify_terms;
 use format::limits::Limits;
 ghost use Prim.Native.Nat.{_<_};
 ghost use lib.ListN.{length};
-ghost use Rattle.unifying.specs.Contracts.Bindings.{Readable};
-ghost use Rattle.unifying.specs.Contracts.Sets.{HasVariables};
+ghost use Rattle.bindings.specs.Contracts.Bindings.{Readable};
+ghost use Rattle.bindings.specs.Contracts.Sets.{HasVariables};
 ghost use Rattle.unifying.specs.Contracts.Unifier.{Unifies};
 
 // Whether there is a unifier, and the bindings that give it.
 pub struct Unifier {
-    pub answer: Answer,
+    pub answer: UnifierAnswer,
     pub bindings: [u8; Limits::VARIABLES],
 }
 

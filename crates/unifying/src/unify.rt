@@ -1,7 +1,7 @@
 // Unification, left argument first; bindings are changed in place.
 use crate::links::linked;
-use crate::occurs::occurs_at;
-use crate::reach::reached;
+use bindings::occurs::occurs_at;
+use bindings::reach::reached;
 use format::byte::wide;
 use format::limits::Limits;
 use terms::arguments::Arguments;
@@ -15,33 +15,33 @@ ghost use native.Mathlib.Decide.{ℕ-discrete, decLt};
 ghost use Rattle.format.specs.Limits.{first-variable, variable-count, no-position};
 ghost use Rattle.solving.specs.Line.{lookup};
 ghost use Rattle.solving.specs.Walk.{enough, occurs, bind-unless, unify-variables};
-ghost use Rattle.unifying.specs.Contracts.PrefixForm.{view-of};
-ghost use Rattle.unifying.specs.Contracts.Bindings.{bindings-of, Readable};
-ghost use Rattle.unifying.specs.Contracts.Sets.{HasVariables};
+ghost use Rattle.bindings.specs.Contracts.PrefixForm.{view-of};
+ghost use Rattle.bindings.specs.Contracts.Bindings.{bindings-of, Readable};
+ghost use Rattle.bindings.specs.Contracts.Sets.{HasVariables};
 ghost use Rattle.unifying.specs.Contracts.Links.{Linked};
-ghost use Rattle.unifying.specs.declared.unify.Answer.the-variants.{Unified};
+ghost use Rattle.unifying.specs.declared.unify.UnifierAnswer.the-variants.{Unified};
 ghost use Rattle.unifying.specs.Contracts.Unify.{answered, FreeAt, HasRows, BindsTo, UnifiesSymbols, UnifiesTo, UnifiesRows};
 
 // Whether there is a unifier; the bindings beside it are then those that give it.
-pub enum Answer {
+pub enum UnifierAnswer {
     Unified,
     Failed,
 }
 
 // "Two unbound variables: bind the smaller number to the other's position." `v` stands at `p`, `w` at `q`.
-fn bind_variables(bindings: &mut [u8], v: usize, w: usize, p: usize, q: usize) -> Answer
+fn bind_variables(bindings: &mut [u8], v: usize, w: usize, p: usize, q: usize) -> UnifierAnswer
     requires { ⌜ (v < length (now bindings)) × (w < length (now bindings)) × (p < no-position) × (q < no-position) ⌝ }
     ensures { λ r. ⌜ unify-variables (bindings-of (now (bindings .entry))) v w p q (ℕ-discrete v w) (decLt v w) ≡ answered r (bindings-of (now (bindings .exit))) ⌝ }
 {
     if v == w {
-        return Answer::Unified;
+        return UnifierAnswer::Unified;
     }
     if v < w {
         bindings[v] = q as u8;
-        return Answer::Unified;
+        return UnifierAnswer::Unified;
     }
     bindings[w] = p as u8;
-    Answer::Unified
+    UnifierAnswer::Unified
 }
 
 // "Variable and term: bind to the term's position unless it occurs there."
@@ -52,16 +52,16 @@ fn bind_term(
     bindings: &mut [u8],
     v: usize,
     p: usize,
-) -> Answer
+) -> UnifierAnswer
     requires { ⌜ Readable (now nodes) (now sizes) (now bindings) × HasVariables (now nodes) (now sizes) (now variables) × (p < length (now nodes)) ⌝ }
     requires { ⌜ (v < variable-count) × (lookup (bindings-of (now bindings)) v ≡ none) ⌝ }
     ensures { λ r. ⌜ bind-unless (occurs enough (view-of (now (nodes .entry)) (now (sizes .entry))) (enough .occurs-depth) (bindings-of (now (bindings .entry))) v p) (bindings-of (now (bindings .entry))) v p ≡ answered r (bindings-of (now (bindings .exit))) ⌝ }
 {
     if occurs_at(nodes, sizes, variables, bindings, v, p) {
-        return Answer::Failed;
+        return UnifierAnswer::Failed;
     }
     bindings[v] = p as u8;
-    Answer::Unified
+    UnifierAnswer::Unified
 }
 
 // Binds a variable at one of two positions that are reached.
@@ -72,7 +72,7 @@ fn bind_reached(
     bindings: &mut [u8],
     s: usize,
     t: usize,
-) -> Answer
+) -> UnifierAnswer
     requires { ⌜ Readable (now nodes) (now sizes) (now bindings) × HasVariables (now nodes) (now sizes) (now variables) ⌝ }
     requires { ⌜ FreeAt (now nodes) (now sizes) (now bindings) s × FreeAt (now nodes) (now sizes) (now bindings) t ⌝ }
     requires { ⌜ (getD (now nodes) s 0 < first-variable → first-variable ≤ getD (now nodes) t 0) ⌝ }
@@ -120,7 +120,7 @@ pub fn unify_terms(
     p: usize,
     q: usize,
     depth: usize,
-) -> Answer
+) -> UnifierAnswer
     requires { ⌜ Readable (now nodes) (now sizes) (now bindings) × HasVariables (now nodes) (now sizes) (now variables) ⌝ }
     requires { ⌜ (p < length (now nodes)) × (q < length (now nodes)) ⌝ }
     requires { ⌜ Linked (now nodes) (now sizes) (now bindings) (now links) ⌝ }
@@ -128,27 +128,27 @@ pub fn unify_terms(
     ensures { λ r. ⌜ (r ≡ Unified → Linked (now (nodes .entry)) (now (sizes .entry)) (now (bindings .exit)) (now (links .exit))) ⌝ }
 {
     if depth == 0 {
-        return Answer::Failed;
+        return UnifierAnswer::Failed;
     }
     let s = reached(nodes, sizes, bindings, p);
     let t = reached(nodes, sizes, bindings, q);
     if s == t {
-        return Answer::Unified;
+        return UnifierAnswer::Unified;
     }
     if nodes[s] < Limits::FIRST_VARIABLE {
         if nodes[t] < Limits::FIRST_VARIABLE {
             let a = linked(links, s);
             let b = linked(links, t);
             if a == b {
-                return Answer::Unified;
+                return UnifierAnswer::Unified;
             }
             let answer = unify_symbols(nodes, sizes, variables, bindings, links, s, t, depth - 1);
-            let Answer::Unified = answer else {
-                return Answer::Failed;
+            let UnifierAnswer::Unified = answer else {
+                return UnifierAnswer::Failed;
             };
             links[a] = b as u8;
             links[s] = b as u8;
-            return Answer::Unified;
+            return UnifierAnswer::Unified;
         }
     }
     bind_reached(nodes, sizes, variables, bindings, s, t)
@@ -164,7 +164,7 @@ fn unify_symbols(
     s: usize,
     t: usize,
     depth: usize,
-) -> Answer
+) -> UnifierAnswer
     requires { ⌜ Readable (now nodes) (now sizes) (now bindings) × HasVariables (now nodes) (now sizes) (now variables) ⌝ }
     requires { ⌜ (s < length (now nodes)) × (getD (now nodes) s 0 < first-variable) ⌝ }
     requires { ⌜ (t < length (now nodes)) × (getD (now nodes) t 0 < first-variable) ⌝ }
@@ -173,7 +173,7 @@ fn unify_symbols(
     ensures { λ r. ⌜ (r ≡ Unified → Linked (now (nodes .entry)) (now (sizes .entry)) (now (bindings .exit)) (now (links .exit))) ⌝ }
 {
     if nodes[s] != nodes[t] {
-        return Answer::Failed;
+        return UnifierAnswer::Failed;
     }
     let left = arguments_of(sizes, s);
     let right = arguments_of(sizes, t);
@@ -190,7 +190,7 @@ fn unify_rows(
     left: Arguments,
     right: Arguments,
     depth: usize,
-) -> Answer
+) -> UnifierAnswer
     requires { ⌜ Readable (now nodes) (now sizes) (now bindings) × HasVariables (now nodes) (now sizes) (now variables) ⌝ }
     requires { ⌜ HasRows (now nodes) (now sizes) left right ⌝ }
     requires { ⌜ Linked (now nodes) (now sizes) (now bindings) (now links) ⌝ }
@@ -209,8 +209,8 @@ fn unify_rows(
                 right.from,
                 depth,
             );
-            let Answer::Unified = answer else {
-                return Answer::Failed;
+            let UnifierAnswer::Unified = answer else {
+                return UnifierAnswer::Failed;
             };
             let others = other_arguments(sizes, left);
             let opposite = other_arguments(sizes, right);
@@ -225,10 +225,10 @@ fn unify_rows(
                 depth,
             );
         }
-        return Answer::Failed;
+        return UnifierAnswer::Failed;
     }
     if right.from < right.end {
-        return Answer::Failed;
+        return UnifierAnswer::Failed;
     }
-    Answer::Unified
+    UnifierAnswer::Unified
 }

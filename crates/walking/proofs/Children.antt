@@ -16,14 +16,14 @@ use Rattle.solving.specs.Walk.{enough, becomes, treat, treat-line, crowded}
 use Rattle.solving.specs.Theory.Reach.{enough-suffices}
 use Rattle.solving.specs.Contracts.Within.{Within, AllWithin}
 use Rattle.solving.specs.Theory.Table.{ProperTable, treat-proper}
-use Rattle.unifying.specs.Contracts.PrefixForm.{view-of}
-use Rattle.unifying.specs.Contracts.Bindings.{bindings-of, Readable}
-use Rattle.lines.specs.Contracts.Resting.{RestingLine, line-of}
+use Rattle.bindings.specs.Contracts.PrefixForm.{view-of}
+use Rattle.bindings.specs.Contracts.Bindings.{bindings-of, Readable}
+use Rattle.line_bytes.specs.Contracts.Resting.{RestingLine, line-of}
 use Rattle.walking.specs.Contracts.WellFormed.{KnownReduced, WellFormed}
 use Rattle.walking.specs.Contracts.Walking.{AllWellFormed}
 use Rattle.treating.specs.Contracts.Children.{child}
 use Rattle.treating.specs.Contracts.Splitting.{AllLong}
-use Rattle.unifying.specs.Theory.PrefixForm.{form-layout}
+use Rattle.bindings.specs.Theory.PrefixForm.{form-layout}
 use Rattle.walking.proofs.Turn.{around, leftmost-some}
 
 -- 1. What they say.

@@ -14,15 +14,15 @@ use Rattle.format.specs.Theory.Lists.{every-append, every-at}
 use Rattle.solving.specs.Line.{Element, greater, Line}
 use Rattle.solving.specs.Contracts.Within.{Within}
 use Rattle.solving.specs.Walk.{treat, enough, fully-reduced}
-use Rattle.unifying.specs.Contracts.Bindings.{Readable, bindings-of}
-use Rattle.unifying.specs.Theory.Bindings.{readable-slots}
-use Rattle.unifying.specs.Contracts.PrefixForm.{view-of}
-use Rattle.lines.specs.declared.element.Element.{Element as Held}
+use Rattle.bindings.specs.Contracts.Bindings.{Readable, bindings-of}
+use Rattle.bindings.specs.Theory.Bindings.{readable-slots}
+use Rattle.bindings.specs.Contracts.PrefixForm.{view-of}
+use Rattle.line_bytes.specs.declared.element.Element.{Element as Held}
 use Rattle.lines.specs.declared.line.Line.{Line as LineValue}
-use Rattle.lines.specs.Contracts.Layout.{count-place, first-element, reduced-place, line-bytes}
-use Rattle.lines.specs.Contracts.Resting.{said, meaning, marked, RestingLine, line-of, resting-bytes}
+use Rattle.line_bytes.specs.Contracts.Layout.{count-place, first-element, reduced-place, line-bytes}
+use Rattle.line_bytes.specs.Contracts.Resting.{said, meaning, marked, RestingLine, line-of, resting-bytes}
 use Rattle.lines.specs.Contracts.Line.{HasHead, elements-from, Carries}
-use Rattle.lines.specs.Theory.Resting.{count-there, reduced-there, element-there}
+use Rattle.line_bytes.specs.Theory.Resting.{count-there, reduced-there, element-there}
 use Rattle.lines.specs.Theory.Line.{unfilled, elements-hold}
 use Rattle.treating.specs.declared.treat.Treatment.{Treatment}
 use Rattle.treating.specs.declared.treat.Treatment.the-variants.{Reduced}

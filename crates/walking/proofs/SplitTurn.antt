@@ -17,17 +17,17 @@ use Rattle.treating.specs.declared.treat.Sides.{Sides}
 use Rattle.treating.specs.declared.treat.Treatment.the-variants.{Split}
 use Rattle.treating.specs.declared.split.Choices.{Choices}
 use Rattle.walking.specs.declared.walk.Walk.{Walk}
-use Rattle.unifying.specs.Contracts.PrefixForm.{view-of, arguments-of, Row, none, more}
-use Rattle.unifying.specs.Contracts.Bindings.{bindings-of}
-use Rattle.lines.specs.Contracts.Resting.{RestingLine, line-of, resting-bytes}
-use Rattle.lines.specs.Contracts.Layout.{line-bytes, placed}
-use Rattle.lines.specs.Contracts.Room.{lines-bytes}
+use Rattle.bindings.specs.Contracts.PrefixForm.{view-of, arguments-of, Row, none, more}
+use Rattle.bindings.specs.Contracts.Bindings.{bindings-of}
+use Rattle.line_bytes.specs.Contracts.Resting.{RestingLine, line-of, resting-bytes}
+use Rattle.line_bytes.specs.Contracts.Layout.{line-bytes, placed}
+use Rattle.line_bytes.specs.Contracts.Room.{lines-bytes}
 use Rattle.treating.specs.Contracts.Treatment.{BothSymbols}
 use Rattle.treating.specs.Contracts.Children.{child}
 use Rattle.treating.specs.Contracts.Splitting.{AllLong, LastChoices, HasChoices, ChoicesOf, Splitting, ChoicesFit, PushesChoices}
 use Rattle.walking.specs.Contracts.Walking.{AllWellFormed, Treating, TreatingCount, GoesOn, Earns}
-use Rattle.unifying.specs.Theory.PrefixForm.{arguments-there}
-use Rattle.unifying.specs.Theory.Bindings.{readable-slots}
+use Rattle.bindings.specs.Theory.PrefixForm.{arguments-there}
+use Rattle.bindings.specs.Theory.Bindings.{readable-slots}
 use Rattle.treating.specs.Theory.Choices.{argument-long, argument-count}
 use Rattle.treating.specs.Theory.Treatment.{split-becomes}
 use Rattle.walking.proofs.Turn.{around}

@@ -15,22 +15,22 @@ use Rattle.solving.specs.Line.{Bindings, Element, equal, greater, line as line-
 use Rattle.solving.specs.Walk.{enough, becomes, unified, unify, treat, treat-line}
 use Rattle.solving.specs.Contracts.Written.{Inequalities}
 use Rattle.solving.specs.Contracts.Within.{Within, AllWithin}
-use Rattle.unifying.specs.declared.unify.Answer.the-variants.{Unified, Failed}
+use Rattle.unifying.specs.declared.unify.UnifierAnswer.the-variants.{Unified, Failed}
 use Rattle.unifying.specs.declared.unifier.Unifier.{Unifier}
-use Rattle.unifying.specs.Contracts.PrefixForm.{view-of}
-use Rattle.unifying.specs.Contracts.Bindings.{bindings-of, Readable}
+use Rattle.bindings.specs.Contracts.PrefixForm.{view-of}
+use Rattle.bindings.specs.Contracts.Bindings.{bindings-of, Readable}
 use Rattle.unifying.specs.Contracts.Unify.{answered}
 use Rattle.unifying.specs.Contracts.Unifier.{Unifies}
-use Rattle.unifying.specs.Theory.Bindings.{readable-slots}
+use Rattle.bindings.specs.Theory.Bindings.{readable-slots}
 use Rattle.unifying.specs.Theory.Unify.{answered-unified, answered-failed, unified-readable}
 use Rattle.lines.specs.declared.line.Line.{Line as LineValue}
-use Rattle.lines.specs.Contracts.Layout.{reduced-place, line-bytes, placed}
-use Rattle.lines.specs.Contracts.Resting.{equality-mark, Markable, RestingLine, line-of, resting-bytes}
-use Rattle.lines.specs.Contracts.Room.{lines-bytes}
+use Rattle.line_bytes.specs.Contracts.Layout.{reduced-place, line-bytes, placed}
+use Rattle.line_bytes.specs.Contracts.Resting.{equality-mark, Markable, RestingLine, line-of, resting-bytes}
+use Rattle.line_bytes.specs.Contracts.Room.{lines-bytes}
 use Rattle.lines.specs.Contracts.Line.{RemovalFits, Removes}
-use Rattle.lines.specs.Theory.Placed.{placed-none}
-use Rattle.lines.specs.Theory.InPlace.{slice-is, rebound}
-use Rattle.lines.specs.Theory.Record.{record-written}
+use Rattle.line_bytes.specs.Theory.Placed.{placed-none}
+use Rattle.line_bytes.specs.Theory.InPlace.{slice-is, rebound}
+use Rattle.line_bytes.specs.Theory.Record.{record-written}
 use Rattle.treating.specs.declared.treat.Sides.{Sides}
 use Rattle.treating.specs.declared.treat.Treatment.{Treatment}
 use Rattle.treating.specs.declared.treat.Treatment.the-variants.{Reduced, DropLine, DropElement, Unify}

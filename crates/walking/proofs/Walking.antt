@@ -18,19 +18,19 @@ use Rattle.terms.specs.Position.{Node}
 use Rattle.solving.specs.Walk.{enough, treat-line, turn, crowded, over-limit}
 use Rattle.solving.specs.Turns.{table-after}
 use Rattle.walking.specs.declared.walk.Walk.{Walk}
-use Rattle.unifying.specs.Contracts.PrefixForm.{view-of, InPrefixForm}
-use Rattle.unifying.specs.Contracts.Bindings.{bindings-of}
-use Rattle.lines.specs.Contracts.Resting.{RestingLine, line-of, resting-bytes}
-use Rattle.lines.specs.Contracts.Layout.{line-bytes, placed}
-use Rattle.lines.specs.Contracts.Room.{lines-bytes}
+use Rattle.bindings.specs.Contracts.PrefixForm.{view-of, InPrefixForm}
+use Rattle.bindings.specs.Contracts.Bindings.{bindings-of}
+use Rattle.line_bytes.specs.Contracts.Resting.{RestingLine, line-of, resting-bytes}
+use Rattle.line_bytes.specs.Contracts.Layout.{line-bytes, placed}
+use Rattle.line_bytes.specs.Contracts.Room.{lines-bytes}
 use Rattle.walking.specs.Contracts.WellFormed.{KnownReduced, WellFormed}
 use Rattle.walking.specs.Contracts.Walking.{AllWellFormed, HoldsTable, table-reached, GoesOn, Earns, FinishedLine}
 use Rattle.solving.specs.Theory.Turns.{until-too-long, until-over, after-turn, same-table}
 use Rattle.solving.specs.Theory.Records.{length-record-of}
-use Rattle.unifying.specs.Theory.Bindings.{length-bindings, readable-slots}
-use Rattle.lines.specs.Theory.Placed.{placed-length, placed-back, drop-placed}
-use Rattle.lines.specs.Theory.InPlace.{slice-is, lines-append}
-use Rattle.lines.specs.Theory.Resting.{bindings-there}
+use Rattle.bindings.specs.Theory.Bindings.{length-bindings, readable-slots}
+use Rattle.line_bytes.specs.Theory.Placed.{placed-length, placed-back, drop-placed}
+use Rattle.line_bytes.specs.Theory.InPlace.{slice-is, lines-append}
+use Rattle.line_bytes.specs.Theory.Resting.{bindings-there}
 use Rattle.walking.proofs.Turn.{leftmost-none, turn-some, short-append, finished-short, crowded-middle, over-elements, over-lines, within-limits}
 use Rattle.walking.specs.Theory.Walking.{well-formed-length}
 

@@ -14,14 +14,14 @@
 use format::byte::wide;
 use format::limits::Limits;
 use format::refusal::Refusal;
-use lines::edit::load;
-use lines::element::element_at;
-use lines::layout::FIRST_ELEMENT;
-use lines::layout::LINE;
+use line_bytes::edit::load;
+use line_bytes::element::element_at;
+use line_bytes::layout::FIRST_ELEMENT;
+use line_bytes::layout::LINE;
+use line_bytes::rebind::differ;
+use line_bytes::rebind::rebind;
+use line_bytes::record::write_record;
 use lines::line::Line;
-use lines::rebind::differ;
-use lines::rebind::rebind;
-use lines::record::write_record;
 use treating::split::choices_of;
 use treating::split::push_choices;
 use treating::split::too_long;
@@ -29,13 +29,13 @@ use treating::treat::Sides;
 use treating::treat::Treatment;
 use treating::treat::treatment_of;
 use unifying::unifier::unify_positions;
-use unifying::unify::Answer;
+use unifying::unify::UnifierAnswer;
 ghost use mathlib.Core.Path.{_≡_};
 ghost use Prim.Native.Nat.{_+_, _<_};
 ghost use Rattle.format.specs.Limits.{max-lines, max-turns};
-ghost use Rattle.unifying.specs.Contracts.Sets.{HasVariables};
+ghost use Rattle.bindings.specs.Contracts.Sets.{HasVariables};
 ghost use Rattle.treating.specs.declared.treat.Treatment.the-variants.{DropElement, Reduced, Split, Unify};
-ghost use Rattle.walking.specs.declared.walk.Progress.the-variants.{Going};
+ghost use Rattle.walking.specs.declared.walk.WalkProgress.the-variants.{Going};
 ghost use Rattle.walking.specs.Contracts.Walking.{Walking, Finishing, TreatingLine, TreatingCount, GoesOn, Advances};
 
 // Where the walk stands: the two sides' positions, how many lines are finished, the place of the first unfinished line, and how many turns are taken.
@@ -48,13 +48,13 @@ pub struct Walk {
 }
 
 // Whether the walk goes on.
-pub enum Progress {
+pub enum WalkProgress {
     Going,
     Refused(Refusal),
 }
 
 pub struct Advanced {
-    pub progress: Progress,
+    pub progress: WalkProgress,
     pub walk: Walk,
 }
 
@@ -122,7 +122,7 @@ impl Walk {
         let bindings = line.bindings;
         let unifier = unify_positions(nodes, sizes, variables, &bindings, sides.left, sides.right);
         let answer = unifier.answer;
-        let Answer::Unified = answer else {
+        let UnifierAnswer::Unified = answer else {
             return self.turned(self.top + 1);
         };
         // The bytes at `place` are compared and not `line.bindings`, which they equal: local arrays that are compared the compiler splits into single bytes.
@@ -156,14 +156,14 @@ impl Walk {
         let last = choices.last;
         if too_long(last, count - 1 + right.count) {
             return Advanced {
-                progress: Progress::Refused(Refusal::TooManyElements),
+                progress: WalkProgress::Refused(Refusal::TooManyElements),
                 walk: self,
             };
         }
         let number = left.count + left.count + last;
         if self.top + 1 < self.done + number {
             return Advanced {
-                progress: Progress::Refused(Refusal::TooManyLines),
+                progress: WalkProgress::Refused(Refusal::TooManyLines),
                 walk: self,
             };
         }
@@ -190,7 +190,7 @@ impl Walk {
     {
         if self.turns == Limits::TURNS {
             return Advanced {
-                progress: Progress::Refused(Refusal::TooManyTurns),
+                progress: WalkProgress::Refused(Refusal::TooManyTurns),
                 walk: self,
             };
         }
@@ -252,7 +252,7 @@ pub fn going(walk: Walk) -> Advanced
     ensures { λ r. ⌜ r ≡ record { progress = Going; walk = walk } ⌝ }
 {
     Advanced {
-        progress: Progress::Going,
+        progress: WalkProgress::Going,
         walk: walk,
     }
 }

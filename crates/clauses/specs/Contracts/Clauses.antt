@@ -8,8 +8,8 @@ use Rattle.ordering.specs.declared.decision.Clause.{Clause}
 use Rattle.ordering.specs.declared.decision.Clause.the-variants.{L1 as by-L1}
 use Rattle.ordering.specs.declared.decision.Decision.{Decision}
 use Rattle.ordering.specs.Decision.{decision, verdict-of}
-use Rattle.comparing.specs.Contracts.Nodes.{TermAt}
-use Rattle.comparing.specs.Contracts.Cells.{BothGround}
+use Rattle.cells.specs.Contracts.Nodes.{TermAt}
+use Rattle.cells.specs.Contracts.Cells.{BothGround}
 use Rattle.comparing.specs.Contracts.Comparing.{Compares}
 
 -- The first clause that applies, where `other` does: by whether L1 applies.
@@ -17,8 +17,8 @@ unfoldable pub first-of : (reached : Bool) → (other : Clause) → Clause
 first-of true other = by-L1
 first-of false other = other
 
-module _ (nodes lengths values : List ℕ) where
+module _ (nodes sizes values : List ℕ) where
   -- The verdict is that of any two terms; the clause is promised of ground terms only.
   pub record DecisionOf (i j : ℕ) (r : Decision) : Type 0 where
-    pub verdict-is : Compares nodes lengths values i j (verdict-of r)
-    pub is : (s t : Term) → TermAt nodes lengths values i s → TermAt nodes lengths values j t → BothGround s t → r ≡ decision s t
+    pub verdict-is : Compares nodes sizes values i j (verdict-of r)
+    pub is : (s t : Term) → TermAt nodes sizes values i s → TermAt nodes sizes values j t → BothGround s t → r ≡ decision s t

@@ -6,7 +6,7 @@ use Rattle.ordering.specs.declared.decision.Clause.{Clause}
 use Rattle.ordering.specs.declared.decision.Decision.{Decision}
 use Rattle.ordering.specs.Verdict.{verdict, verdict-number}
 use Rattle.ordering.specs.Decision.{decision, verdict-of, clause-number, clause-number-of}
-use Rattle.comparing.specs.Contracts.Cells.{BothGround, clause-unit, Settles}
+use Rattle.cells.specs.Contracts.Cells.{BothGround, clause-unit, Settles}
 
 -- The cell of a decision.
 unfoldable pub cell-of : Decision → ℕ

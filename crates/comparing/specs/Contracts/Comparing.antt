@@ -14,7 +14,7 @@ use Rattle.ordering.specs.Verdict.{verdict}
 use Rattle.comparing.specs.declared.comparison.Difference.{Difference}
 use Rattle.comparing.specs.declared.constants.Told.{Told}
 use Rattle.comparing.specs.declared.constants.Told.the-variants.{Verdict as told-verdict}
-use Rattle.comparing.specs.Contracts.Nodes.{TermAt, TermsAt}
+use Rattle.cells.specs.Contracts.Nodes.{TermAt, TermsAt}
 
 -- The verdict of two terms that are not equal, by whether the first is greater.
 unfoldable pub greater-if : Bool → Verdict
@@ -27,15 +27,15 @@ LeftToAsk smaller s t ss ts = (¬ (s ≡ t)) × ((s ≻ t) ↔ SomeReaches ss t)
 LeftToAsk equal s t ss ts = s ≡ t
 LeftToAsk greater s t ss ts = (¬ (s ≡ t)) × ((s ≻ t) ↔ ExceedsAll s ts)
 
-module _ (nodes lengths values : List ℕ) where
+module _ (nodes stored-sizes values : List ℕ) where
   -- Some term stands at node `i`; some terms stand in the row.
   pub record HasTerm (i : ℕ) : Type 0 where
     pub term : Term
-    pub denotes : TermAt nodes lengths values i term
+    pub denotes : TermAt nodes stored-sizes values i term
 
   pub record HasTerms (row : Arguments) : Type 0 where
     pub terms : Terms
-    pub denote : TermsAt nodes lengths values (row .from) (row .end) terms
+    pub denote : TermsAt nodes stored-sizes values (row .from) (row .end) terms
 
   -- Some of a term's arguments stand in the row.
   pub record HasArguments (i : ℕ) (row : Arguments) : Type 0 where
@@ -44,15 +44,15 @@ module _ (nodes lengths values : List ℕ) where
     pub fewer : sizes (those .terms) < size (here .term)
 
   pub record Compares (i j : ℕ) (r : Verdict) : Type 0 where
-    pub is : (s t : Term) → TermAt nodes lengths values i s → TermAt nodes lengths values j t → r ≡ verdict s t
+    pub is : (s t : Term) → TermAt nodes stored-sizes values i s → TermAt nodes stored-sizes values j t → r ≡ verdict s t
 
   -- L1: "some si > t or si = t"
   pub record FindsReaching (row : Arguments) (j : ℕ) (r : Bool) : Type 0 where
-    pub tells : (ss : Terms) (t : Term) → TermsAt nodes lengths values (row .from) (row .end) ss → TermAt nodes lengths values j t → (r ≡ true) ↔ SomeReaches ss t
+    pub tells : (ss : Terms) (t : Term) → TermsAt nodes stored-sizes values (row .from) (row .end) ss → TermAt nodes stored-sizes values j t → (r ≡ true) ↔ SomeReaches ss t
 
   -- L2: "s > tj for every j"
   pub record ComparesWithAll (i : ℕ) (row : Arguments) (r : Bool) : Type 0 where
-    pub tells : (s : Term) (ts : Terms) → TermAt nodes lengths values i s → TermsAt nodes lengths values (row .from) (row .end) ts → (r ≡ true) ↔ ExceedsAll s ts
+    pub tells : (s : Term) (ts : Terms) → TermAt nodes stored-sizes values i s → TermsAt nodes stored-sizes values (row .from) (row .end) ts → (r ≡ true) ↔ ExceedsAll s ts
 
   -- L3: "f = g and for some k, si = ti for i < k"
   pub record FindsDifference (i j : ℕ) (d : Difference) : Type 0 where
@@ -62,5 +62,5 @@ module _ (nodes lengths values : List ℕ) where
     pub left : LeftToAsk (d .verdict) (first .here .term) (second .here .term) (first .those .terms) (second .those .terms)
 
 -- What is told of the terms at two nodes is their verdict, whatever the values of the variables are.
-pub record TellsConstants (nodes lengths : List ℕ) (i j : ℕ) (r : Told) : Type 0 where
-  pub is : (v : Verdict) → r ≡ told-verdict v → (values : List ℕ) → Compares nodes lengths values i j v
+pub record TellsConstants (nodes sizes : List ℕ) (i j : ℕ) (r : Told) : Type 0 where
+  pub is : (v : Verdict) → r ≡ told-verdict v → (values : List ℕ) → Compares nodes sizes values i j v

@@ -17,8 +17,8 @@ use Rattle.ordering.specs.Theory.Verdict.{means-verdict}
 use Rattle.ordering.specs.declared.verdict.Verdict.{Verdict}
 use Rattle.ordering.specs.Theory.Question.{greater-symbol, smaller-symbol}
 use Rattle.comparing.specs.Contracts.Comparing.{greater-if, Compares, FindsReaching, ComparesWithAll}
-use Rattle.comparing.specs.Contracts.Nodes.{TermAt}
-use Rattle.comparing.specs.Theory.Nodes.{symbol-at}
+use Rattle.cells.specs.Contracts.Nodes.{TermAt}
+use Rattle.cells.specs.Theory.Nodes.{symbol-at}
 
 pub false-not : {P : Type 0} → (P → false ≡ true) → ¬ P
 false-not k p = false-true (k p)
@@ -29,22 +29,22 @@ unfolding greater-if
 decides {s = s} {t = t} true n x h = means-verdict s t greater (x .1 (h .0 refl))
 decides {s = s} {t = t} false n x h = means-verdict s t smaller (n, λ g. false-not (h .1) (x .0 g))
 
-module _ {nodes lengths values : List ℕ} {i j : ℕ} where
+module _ {nodes sizes values : List ℕ} {i j : ℕ} where
   -- The symbols differ.
   module _ (x : getD nodes i 0 < first-variable) (y : getD nodes j 0 < first-variable) where
-    pub smaller-symbols : {p : Verdict} {q : Bool} → getD nodes i 0 < getD nodes j 0 → FindsReaching nodes lengths values (arguments-at lengths i) j q → p ≡ greater-if q → Compares nodes lengths values i j p
+    pub smaller-symbols : {p : Verdict} {q : Bool} → getD nodes i 0 < getD nodes j 0 → FindsReaching nodes sizes values (arguments-at sizes i) j q → p ≡ greater-if q → Compares nodes sizes values i j p
     smaller-symbols {p} {q} h o u = record { is = is }
       where
-        is : (s t : Term) → TermAt nodes lengths values i s → TermAt nodes lengths values j t → p ≡ verdict s t
+        is : (s t : Term) → TermAt nodes sizes values i s → TermAt nodes sizes values j t → p ≡ verdict s t
         is s t a b =
             let f = symbol-at a x in
             let g = symbol-at b y in
             u ∙ sym (rw (f .is, g .is) (decides q (λ e. let z : getD nodes i 0 ≡ getD nodes j 0 = cc in omega arith) (smaller-symbol (f .arguments) (g .arguments) h) (rw (g .is) at (o .tells (f .arguments) t (f .row) b))))
 
-    pub greater-symbols : {p : Verdict} {q : Bool} → getD nodes j 0 < getD nodes i 0 → ComparesWithAll nodes lengths values i (arguments-at lengths j) q → p ≡ greater-if q → Compares nodes lengths values i j p
+    pub greater-symbols : {p : Verdict} {q : Bool} → getD nodes j 0 < getD nodes i 0 → ComparesWithAll nodes sizes values i (arguments-at sizes j) q → p ≡ greater-if q → Compares nodes sizes values i j p
     greater-symbols {p} {q} h o u = record { is = is }
       where
-        is : (s t : Term) → TermAt nodes lengths values i s → TermAt nodes lengths values j t → p ≡ verdict s t
+        is : (s t : Term) → TermAt nodes sizes values i s → TermAt nodes sizes values j t → p ≡ verdict s t
         is s t a b =
             let f = symbol-at a x in
             let g = symbol-at b y in

@@ -7,8 +7,8 @@ use lib.ListN.{length}
 use Rattle.sheet.specs.Sheet.{Sheet}
 use Rattle.sheet.specs.Reading.{accepted, read}
 use Rattle.listing.specs.Listing.{printed}
-use Rattle.printing.specs.Contracts.Appended.{Appended}
-use Rattle.printing.specs.Theory.Printed.{printed-append}
+use Rattle.listing.specs.Contracts.Appended.{Appended}
+use Rattle.listing.specs.Theory.Printed.{printed-append}
 use Rattle.cursor.specs.declared.place.Place.{Place}
 use Rattle.cursor.specs.Contracts.Rest.{left-frames, rest, places-left, Gives}
 use Rattle.cursor.specs.Theory.Rest.{Begun, rest-left}

@@ -6,7 +6,7 @@ use Rattle.terms.specs.Equation.{Equation}
 use Rattle.terms.specs.Contracts.Limits.{positions}
 use Rattle.solving.specs.Line.{Bindings, Element, line, record-of}
 use Rattle.solving.specs.Contracts.Written.{WrittenLine}
-use Rattle.solver.specs.Contracts.Equation.{SidesAre}
+use Rattle.solve_equation.specs.Contracts.Equation.{SidesAre}
 
 -- A position of an equation that these are the bytes of.
 pub record HasTerm (nodes sizes : List ℕ) (p : ℕ) : Type 0 where

@@ -7,8 +7,8 @@ use lib.Seq.{slice}
 use Rattle.format.specs.Limits.{variable-count, max-elements, no-position}
 use Rattle.solving.specs.Line.{Element, greater}
 use Rattle.lines.specs.declared.line.Line.{Line}
-use Rattle.lines.specs.Contracts.Layout.{count-place, reduced-place, line-bytes, placed}
-use Rattle.lines.specs.Contracts.Resting.{meaning, Markable, RestingLine, resting-bytes}
+use Rattle.line_bytes.specs.Contracts.Layout.{count-place, reduced-place, line-bytes, placed}
+use Rattle.line_bytes.specs.Contracts.Resting.{meaning, Markable, RestingLine, resting-bytes}
 
 -- "up to 40 elements": the first `count` of its places.
 unfoldable pub resting-of : Line → RestingLine

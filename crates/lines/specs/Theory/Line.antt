@@ -7,11 +7,11 @@ use lib.Seq.{slice, length-slice, getD-take, getD-drop, ext-getD}
 use native.Mathlib.Omega.{arith}
 use Rattle.format.specs.Limits.{max-elements}
 use Rattle.solving.specs.Line.{greater, line, no-bindings}
-use Rattle.unifying.specs.Contracts.Bindings.{bindings-of}
-use Rattle.lines.specs.declared.element.Relation.the-variants.{Greater}
-use Rattle.lines.specs.declared.element.Element.{Element as Held}
+use Rattle.bindings.specs.Contracts.Bindings.{bindings-of}
+use Rattle.line_bytes.specs.declared.element.Relation.the-variants.{Greater}
+use Rattle.line_bytes.specs.declared.element.Element.{Element as Held}
 use Rattle.lines.specs.declared.line.Line.{Line as LineValue}
-use Rattle.lines.specs.Contracts.Resting.{said, meaning, RestingLine, line-of}
+use Rattle.line_bytes.specs.Contracts.Resting.{said, meaning, RestingLine, line-of}
 use Rattle.lines.specs.Contracts.Line.{opening-line, elements-from, Carries}
 
 -- The walk's first line.

@@ -15,8 +15,8 @@ use Rattle.solving.specs.Line.{Element, equal, greater, Line, line}
 use Rattle.solving.specs.Judge.{first-holding}
 use Rattle.solving.specs.Contracts.Written.{WrittenLines}
 use Rattle.reducing.specs.Test.{line-test}
-use Rattle.judging.specs.declared.trimmed.KeptLines.{KeptLines}
-use Rattle.judging.specs.Contracts.Trimmed.{trimmed-lines}
+use Rattle.kept_lines.specs.declared.trimmed.KeptLines.{KeptLines}
+use Rattle.kept_lines.specs.Contracts.Trimmed.{trimmed-lines}
 
 -- A variable stands at one of the two positions of each element.
 abbrev pub VariableAt : (ℕ → Node) → ℕ → Type 0

@@ -13,7 +13,7 @@ use Rattle.terms.specs.Contracts.Limits.{WithinLimits}
 use Rattle.terms.specs.Contracts.Fits.{Fits}
 use Rattle.terms.specs.Contracts.Stored.{PartAt, StoredAt}
 use Rattle.terms.specs.declared.arguments.Arguments.{Arguments}
-use Rattle.unifying.specs.Contracts.Equation.{equation-sizes}
+use Rattle.bindings.specs.Contracts.Equation.{equation-sizes}
 use Rattle.reducing.specs.Contracts.Rules.{rule-number}
 
 -- A row has a byte for each position of an equation, and there is one for each equation.

@@ -10,11 +10,11 @@ use Rattle.format.specs.Lists.{entry}
 use Rattle.terms.specs.Equation.{Equation, Direction}
 use Rattle.solving.specs.Line.{Line}
 use Rattle.solving.specs.Walk.{refused, solve, Solves}
-use Rattle.lines.specs.Contracts.Layout.{placed}
+use Rattle.line_bytes.specs.Contracts.Layout.{placed}
 use Rattle.reducing.specs.Test.{EverySolves}
 use Rattle.reducing.specs.Contracts.Rules.{rule-number}
 use Rattle.reducing.specs.Walks.{equation-line, first-refusal}
-use Rattle.judging.specs.Contracts.Trimmed.{trimmed-lines}
+use Rattle.kept_lines.specs.Contracts.Trimmed.{trimmed-lines}
 use Rattle.rules.specs.declared.keep.RuleKept.{RuleKept}
 use Rattle.rules.specs.declared.keep.RuleKept.the-variants.{Refused, Full, End}
 use Rattle.rules.specs.declared.walks.Walks.{Walks}

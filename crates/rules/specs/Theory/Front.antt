@@ -10,14 +10,14 @@ use Rattle.terms.specs.Equation.{Equation, Direction}
 use Rattle.terms.specs.Contracts.Limits.{WithinLimits}
 use Rattle.solving.specs.Line.{Line}
 use Rattle.solving.specs.Walk.{solved, solve, Solves}
-use Rattle.lines.specs.Contracts.Layout.{placed}
-use Rattle.lines.specs.Theory.Placed.{placed-length}
-use Rattle.solver.specs.declared.positions.WalkEnd.the-variants.{Solved}
-use Rattle.solver.specs.declared.positions.WalkResult.{WalkResult as Reported}
-use Rattle.solver.specs.Contracts.Reports.{LeavesEnd, Leaves}
-use Rattle.judging.specs.declared.trimmed.Kept.{Kept}
-use Rattle.judging.specs.declared.trimmed.Kept.the-variants.{Full, End}
-use Rattle.judging.specs.Contracts.Trimmed.{trimmed-lines, RecordsAre, KeptAs}
+use Rattle.line_bytes.specs.Contracts.Layout.{placed}
+use Rattle.line_bytes.specs.Theory.Placed.{placed-length}
+use Rattle.solve_equation.specs.declared.positions.WalkEnd.the-variants.{Solved}
+use Rattle.solve_equation.specs.declared.positions.WalkResult.{WalkResult as Reported}
+use Rattle.solve_equation.specs.Contracts.Reports.{LeavesEnd, Leaves}
+use Rattle.kept_lines.specs.declared.trimmed.Kept.{Kept}
+use Rattle.kept_lines.specs.declared.trimmed.Kept.the-variants.{Full, End}
+use Rattle.kept_lines.specs.Contracts.Trimmed.{trimmed-lines, RecordsAre, KeptAs}
 use Rattle.rules.specs.Contracts.Lines.{ProperLines, LinesAt}
 use Rattle.rules.specs.Theory.Proper.{walked-proper}
 use Rattle.rules.specs.Theory.Kept.{records-there, full-kept}

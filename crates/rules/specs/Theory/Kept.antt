@@ -13,16 +13,16 @@ use Rattle.terms.specs.Contracts.Limits.{WithinLimits, positions}
 use Rattle.solving.specs.Line.{Line, line}
 use Rattle.solving.specs.Walk.{Walked, refused, solve, Solves}
 use Rattle.solving.specs.Contracts.Written.{WrittenLines}
-use Rattle.unifying.specs.Contracts.Equation.{equation-sizes}
-use Rattle.unifying.specs.Theory.Equation.{length-nodes, length-sizes}
-use Rattle.solver.specs.declared.positions.WalkEnd.the-variants.{Solved, Refused}
-use Rattle.solver.specs.declared.positions.WalkResult.{WalkResult as Reported}
-use Rattle.solver.specs.Contracts.Equation.{SidesAre}
-use Rattle.solver.specs.Contracts.Reports.{LeavesEnd, Leaves}
-use Rattle.judging.specs.declared.trimmed.Kept.{Kept}
-use Rattle.judging.specs.declared.trimmed.Kept.the-variants.{Full}
-use Rattle.judging.specs.Contracts.Trimmed.{trimmed, trimmed-lines, RecordsAre, KeptAs}
-use Rattle.judging.specs.Theory.Lengths.{length-trimmed}
+use Rattle.bindings.specs.Contracts.Equation.{equation-sizes}
+use Rattle.bindings.specs.Theory.Equation.{length-nodes, length-sizes}
+use Rattle.solve_equation.specs.declared.positions.WalkEnd.the-variants.{Solved, Refused}
+use Rattle.solve_equation.specs.declared.positions.WalkResult.{WalkResult as Reported}
+use Rattle.solve_equation.specs.Contracts.Equation.{SidesAre}
+use Rattle.solve_equation.specs.Contracts.Reports.{LeavesEnd, Leaves}
+use Rattle.kept_lines.specs.declared.trimmed.Kept.{Kept}
+use Rattle.kept_lines.specs.declared.trimmed.Kept.the-variants.{Full}
+use Rattle.kept_lines.specs.Contracts.Trimmed.{trimmed, trimmed-lines, RecordsAre, KeptAs}
+use Rattle.kept_lines.specs.Theory.Lengths.{length-trimmed}
 use Rattle.rules.specs.Contracts.Rows.{RuleIs}
 use Rattle.rules.specs.Theory.Proper.{walked-proper}
 use Rattle.rules.specs.Theory.Rows.{row-start, rule-row, row-end, row-room}

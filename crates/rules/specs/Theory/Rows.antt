@@ -16,7 +16,7 @@ use Rattle.terms.specs.Theory.Positions.{left-at, right-at}
 use Rattle.terms.specs.Theory.Stored.{stored-element}
 use Rattle.reducing.specs.Contracts.Rules.{rule-number}
 use Rattle.reducing.specs.Theory.Rules.{RuleOf, rule-of}
-use Rattle.unifying.specs.Theory.Equation.{length-sizes, size-at}
+use Rattle.bindings.specs.Theory.Equation.{length-sizes, size-at}
 use Rattle.rules.specs.Contracts.Rows.{row-bytes, RowIs, RuleIs, RowsAre, HasRows, HasRuleIn}
 
 -- Where the row of a rule's equation starts.

@@ -5,8 +5,7 @@ use mathlib.Core.Option.{some}
 use mathlib.Core.List.{List}
 use lib.ListN.{length}
 use Rattle.format.specs.Limits.{max-symbols, max-arity, max-equations, max-tasks, max-task-nodes, max-steps}
-use Rattle.format.specs.Lists.{entry}
-use Rattle.format.specs.Lists.{Every}
+use Rattle.format.specs.Lists.{entry, Every}
 use Rattle.terms.specs.Term.{size, sizes, count, Ground, Grounds}
 use Rattle.terms.specs.Equation.{Equation}
 use Rattle.terms.specs.Contracts.Limits.{WithinLimits}

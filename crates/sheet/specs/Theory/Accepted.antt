@@ -14,8 +14,7 @@ use Rattle.format.specs.declared.kind.FrameKind.{FrameKind}
 use Rattle.format.specs.declared.kind.FrameKind.the-variants.{Symbols as symbols-kind, Equation as equation-kind, Run as run-kind, Judgement as judgement-kind, Comparison as comparison-kind, Unknown as unknown-kind}
 use Rattle.format.specs.Refusal.{Result, refuse, give}
 use Rattle.format.specs.declared.refusal.Refusal.the-variants.{SymbolFrame as symbol-frame, FrameOrder as frame-order, Digits as digits, TextLength as text-length}
-use Rattle.format.specs.Lists.{entry, any, all}
-use Rattle.format.specs.Lists.{Every}
+use Rattle.format.specs.Lists.{entry, any, all, Every}
 use Rattle.format.specs.Theory.Lists.{every-append, every-map, and-true, all-true, any-true}
 use Rattle.terms.specs.Term.{Terms, nil, cons, size, sizes, count, Ground, Grounds}
 use Rattle.terms.specs.Equation.{Equation, Direction, direction-of}

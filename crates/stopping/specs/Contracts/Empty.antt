@@ -8,9 +8,9 @@ use lib.Seq.{slice}
 use Rattle.format.specs.Limits.{variable-count}
 use Rattle.format.specs.Lists.{any}
 use Rattle.solving.specs.Always.{is-empty}
-use Rattle.lines.specs.Contracts.Resting.{RestingLine, line-of, resting-bytes}
-use Rattle.lines.specs.Contracts.Layout.{line-bytes}
-use Rattle.lines.specs.Contracts.Room.{lines-bytes}
+use Rattle.line_bytes.specs.Contracts.Resting.{RestingLine, line-of, resting-bytes}
+use Rattle.line_bytes.specs.Contracts.Layout.{line-bytes}
+use Rattle.line_bytes.specs.Contracts.Room.{lines-bytes}
 use Rattle.walking.specs.Contracts.Walking.{AllWellFormed}
 
 -- Whether the line that rests at `place` is empty.

@@ -8,11 +8,11 @@ use Rattle.format.specs.Limits.{variable-count, max-lines, max-turns}
 use Rattle.solving.specs.Line.{Line}
 use Rattle.solving.specs.Walk.{Walked, solved, refused, enough, over-limit, walk-within}
 use Rattle.solving.specs.Always.{has-empty}
-use Rattle.unifying.specs.Contracts.PrefixForm.{view-of}
-use Rattle.lines.specs.Contracts.Resting.{line-of}
+use Rattle.bindings.specs.Contracts.PrefixForm.{view-of}
+use Rattle.line_bytes.specs.Contracts.Resting.{line-of}
 use Rattle.walking.specs.declared.walk.Walk.{Walk}
-use Rattle.walking.specs.declared.walk.Progress.{Progress}
-use Rattle.walking.specs.declared.walk.Progress.the-variants.{Going, Refused}
+use Rattle.walking.specs.declared.walk.WalkProgress.{WalkProgress}
+use Rattle.walking.specs.declared.walk.WalkProgress.the-variants.{Going, Refused}
 use Rattle.walking.specs.declared.walk.Advanced.{Advanced}
 use Rattle.walking.specs.Contracts.Walking.{table-reached, Walking}
 
@@ -37,7 +37,7 @@ pub record EndsAt (nodes sizes memory : List ℕ) (stops : Bool) (source target 
   pub stopped : v .top < max-lines → (stops ≡ true) × (has-empty (walking .finished ++ map line-of (walking .unfinished)) ≡ true)
   pub not-stopped : max-lines ≤ v .top → stops ≡ true → has-empty (walking .finished ++ map line-of (walking .unfinished)) ≡ false
 
-abbrev pub EndsAs : (nodes sizes memory : List ℕ) (stops : Bool) (source target : ℕ) (v : Walk) → Progress → Type 0
+abbrev pub EndsAs : (nodes sizes memory : List ℕ) (stops : Bool) (source target : ℕ) (v : Walk) → WalkProgress → Type 0
 EndsAs nodes sizes memory stops source target v Going = EndsAt nodes sizes memory stops source target v
 EndsAs nodes sizes memory stops source target v (Refused r) = stopping-walk stops nodes sizes source target ≡ refused r
 

@@ -8,7 +8,7 @@ use Rattle.format.specs.Lists.{any}
 use Rattle.solving.specs.Walk.{enough, over-limit, opening}
 use Rattle.solving.specs.Turns.{table-after}
 use Rattle.solving.specs.Always.{is-empty, has-empty}
-use Rattle.unifying.specs.Contracts.PrefixForm.{view-of}
+use Rattle.bindings.specs.Contracts.PrefixForm.{view-of}
 use Rattle.walking.specs.declared.walk.Walk.{Walk}
 use Rattle.stopping.specs.Contracts.Ends.{NoneEmpty}
 

@@ -6,7 +6,7 @@ use lib.ListN.{length, take, drop}
 use Rattle.terms.specs.Equation.{Equation}
 use Rattle.rules.specs.Contracts.Rows.{RowsAre}
 use Rattle.listing.specs.Listing.{printed}
-use Rattle.printing.specs.Contracts.Appended.{Appended}
+use Rattle.listing.specs.Contracts.Appended.{Appended}
 use Rattle.cursor.specs.declared.place.Piece.{Piece}
 use Rattle.tables.specs.declared.table.LinesListed.{LinesListed}
 use Rattle.cursor.specs.declared.place.Place.the-variants.{Line}

@@ -12,11 +12,11 @@ use Rattle.sheet.specs.Sheet.{Task, Sheet, equation-width}
 use Rattle.scanning.specs.declared.known.Known.{Known}
 use Rattle.scanning.specs.Contracts.Scan.{known-arities}
 use Rattle.scanning.specs.Contracts.Known.{Roomy}
-use Rattle.loading.specs.Contracts.Loading.{TermsIn}
+use Rattle.reading.specs.Contracts.Loading.{TermsIn}
 use Rattle.solving.specs.Walk.{Solves}
 use Rattle.rules.specs.Contracts.Rows.{RuleIs}
 use Rattle.listing.specs.Listing.{printed, task-frames}
-use Rattle.printing.specs.Contracts.Appended.{Appended}
+use Rattle.listing.specs.Contracts.Appended.{Appended}
 use Rattle.cursor.specs.Contracts.Stands.{Ready}
 use Rattle.cursor.specs.Theory.Rest.{task-steps}
 use Rattle.tasks.specs.declared.task.TaskListed.{TaskListed}

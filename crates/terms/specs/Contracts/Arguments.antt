@@ -4,10 +4,10 @@ use mathlib.Core.List.{List}
 use lib.ListN.{getD}
 pub use Rattle.terms.specs.declared.arguments.Arguments.{Arguments}
 
--- The arguments of the term at `p`, where `lengths` has the number of nodes of the term that starts at each node.
-abbrev pub arguments-at : (lengths : List ℕ) → ℕ → Arguments
-arguments-at lengths p = record { from = p + 1; end = p + getD lengths p 0 }
+-- The arguments of the term at `p`, where `sizes` has the number of nodes of the term that starts at each node.
+abbrev pub arguments-at : (sizes : List ℕ) → ℕ → Arguments
+arguments-at sizes p = record { from = p + 1; end = p + getD sizes p 0 }
 
 -- The terms behind the first.
-abbrev pub behind-first : (lengths : List ℕ) → Arguments → Arguments
-behind-first lengths row = record { from = row .from + getD lengths (row .from) 0; end = row .end }
+abbrev pub behind-first : (sizes : List ℕ) → Arguments → Arguments
+behind-first sizes row = record { from = row .from + getD sizes (row .from) 0; end = row .end }

@@ -20,9 +20,9 @@ unfolding subterms-of terms-of size
 node-sizes arities bytes = map size (subterms-of (terms-of arities bytes))
 
 -- The nodes from `from` to `end` are whole terms, and there is room for their sizes.
-pub record Measurable (arities nodes lengths : List ℕ) (from end : ℕ) : Type 0 where
+pub record Measurable (arities nodes stored-sizes : List ℕ) (from end : ℕ) : Type 0 where
   pub ordered : from ≤ end
   pub few : end ≤ node-count
   pub nodes-room : end ≤ length nodes
-  pub sizes-room : end ≤ length lengths
+  pub sizes-room : end ≤ length stored-sizes
   pub terms : Whole arities (slice from end nodes)

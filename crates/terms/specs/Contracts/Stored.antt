@@ -14,11 +14,11 @@ pub record PartAt (all : List ℕ) (i : ℕ) (part : List ℕ) : Type 0 where
   pub rest : List ℕ
   pub is : drop i all ≡ part ++ rest
 
-module _ (nodes lengths : List ℕ) where
+module _ (nodes sizes : List ℕ) where
   -- The term starts at node `i`.
   pub record StoredAt (i : ℕ) (t : Term) : Type 0 where
     pub bytes : PartAt nodes i (prefix t)
-    pub lengths-there : PartAt lengths i (map size (subterms t))
+    pub sizes-there : PartAt sizes i (map size (subterms t))
 
   -- A ground term over symbols with these arities starts at node `i`, which stands behind an equation's.
   pub record GroundStored (arities : List ℕ) (i : ℕ) (t : Term) : Type 0 where
@@ -30,13 +30,13 @@ module _ (nodes lengths : List ℕ) where
 
 -- This ground term is the subject: it starts at the first node behind an equation's, and no variable stands from there on. Behind the subject's nodes stands
 -- the filling (document 02, W5).
-pub record SubjectIs (nodes lengths arities : List ℕ) (t : Term) : Type 0 where
+pub record SubjectIs (nodes sizes arities : List ℕ) (t : Term) : Type 0 where
   pub nodes-length : length nodes ≡ node-count
-  pub lengths-length : length lengths ≡ node-count
+  pub sizes-length : length sizes ≡ node-count
   pub symbols : (i : ℕ) → position-count ≤ i → getD nodes i 0 < first-variable
-  pub stored : GroundStored nodes lengths arities position-count t
+  pub stored : GroundStored nodes sizes arities position-count t
   pub inside : position-count + size t ≤ filling-node
-  pub filling-stored : GroundStored nodes lengths arities filling-node (filling arities)
+  pub filling-stored : GroundStored nodes sizes arities filling-node (filling arities)
 
 -- No byte is a variable's; nor is 0, which is read behind the end.
 unfoldable pub AllSymbols : List ℕ → Type 0

@@ -37,8 +37,8 @@ module _ (arities : List ℕ) (known : length arities ≤ max-symbols) (ts : Ter
   abbrev there : slice position-count (position-count + n) nodes ≡ prefixes ts
   there = placed-slice p n (e ∙ sym (length-prefixes ts))
 
-  pub placed-measurable : (lengths : List ℕ) → length nodes ≡ node-count → length lengths ≡ node-count → n ≤ max-task-nodes → Measurable arities nodes lengths position-count (position-count + n)
-  placed-measurable lengths x y h = record {
+  pub placed-measurable : (stored-sizes : List ℕ) → length nodes ≡ node-count → length stored-sizes ≡ node-count → n ≤ max-task-nodes → Measurable arities nodes stored-sizes position-count (position-count + n)
+  placed-measurable stored-sizes x y h = record {
     ordered = omega arith;
     few = omega arith;
     nodes-room = omega arith;
@@ -51,10 +51,10 @@ module _ (arities : List ℕ) (known : length arities ≤ max-symbols) (ts : Ter
   measured = ap (λ bs. map size (subterms-of (terms-of arities bs))) there ∙ ap (λ us. map size (subterms-of us)) (terms-of-spelled arities known ts fit)
 
   -- What `measure` leaves.
-  pub placed-sizes : (before lengths after : List ℕ) → position-count ≤ length before
-      → lengths ≡ take position-count before ++ (node-sizes arities (slice position-count (position-count + n) nodes) ++ after)
-      → PartAt lengths position-count (map size (subterms-of ts))
-  placed-sizes before lengths after h l = placed-stored (record {
+  pub placed-sizes : (before stored-sizes after : List ℕ) → position-count ≤ length before
+      → stored-sizes ≡ take position-count before ++ (node-sizes arities (slice position-count (position-count + n) nodes) ++ after)
+      → PartAt stored-sizes position-count (map size (subterms-of ts))
+  placed-sizes before stored-sizes after h l = placed-stored (record {
     before = take position-count before;
     after = after;
     at = length-take-le position-count before h;

@@ -34,24 +34,24 @@ module _ {all : List ℕ} {i : ℕ} where
   pub stored-room : {part : List ℕ} → PartAt all i part → 0 < length part → i + length part ≤ length all
   stored-room {part} s h = omega (arith, length-drop i all, length-append part (s .rest), ap length (s .is))
 
-module _ {nodes lengths arities : List ℕ} {i : ℕ} {t : Term} (g : GroundStored nodes lengths arities i t) where
-  pub ground-size : getD lengths i 0 ≡ size t
+module _ {nodes sizes arities : List ℕ} {i : ℕ} {t : Term} (g : GroundStored nodes sizes arities i t) where
+  pub ground-size : getD sizes i 0 ≡ size t
   unfolding subterms
-  ground-size = go t (g .stored .lengths-there)
+  ground-size = go t (g .stored .sizes-there)
     where
-      go : (t : Term) → PartAt lengths i (map size (subterms t)) → getD lengths i 0 ≡ size t
+      go : (t : Term) → PartAt sizes i (map size (subterms t)) → getD sizes i 0 ≡ size t
       go (var v) p = stored-head p
       go (app f ts) p = stored-head p
 
 -- What the code has to know of a node where a term starts: that its reads are in range.
-pub record Standing (nodes lengths : List ℕ) (i : ℕ) : Type 0 where
-  pub some : 1 ≤ getD lengths i 0
-  pub in-nodes : i + getD lengths i 0 ≤ length nodes
-  pub in-lengths : i < length lengths
+pub record Standing (nodes sizes : List ℕ) (i : ℕ) : Type 0 where
+  pub some : 1 ≤ getD sizes i 0
+  pub in-nodes : i + getD sizes i 0 ≤ length nodes
+  pub in-lengths : i < length sizes
   pub low : position-count ≤ i
-  pub within : i + getD lengths i 0 ≤ node-count
+  pub within : i + getD sizes i 0 ≤ node-count
 
-pub ground-standing : {nodes lengths arities : List ℕ} {i : ℕ} {t : Term} → GroundStored nodes lengths arities i t → Standing nodes lengths i
+pub ground-standing : {nodes sizes arities : List ℕ} {i : ℕ} {t : Term} → GroundStored nodes sizes arities i t → Standing nodes sizes i
 ground-standing {t = t} g =
     let z = ground-size g in
     let h = size-pos t in
@@ -60,7 +60,7 @@ ground-standing {t = t} g =
     record {
       some = omega arith;
       in-nodes = omega (arith, stored-room (g .stored .bytes) (omega arith));
-      in-lengths = omega (arith, stored-room (g .stored .lengths-there) (omega arith));
+      in-lengths = omega (arith, stored-room (g .stored .sizes-there) (omega arith));
       low = g .low;
       within = omega (arith, g .within);
     }
@@ -71,5 +71,5 @@ size-among [] p d h = absurd (omega arith)
 size-among (t ∷ ts) zero d h = refl
 size-among (t ∷ ts) (suc p) d h = size-among ts p d (omega arith)
 
-pub stored-size : {lengths : List ℕ} {i : ℕ} (s : Term) → PartAt lengths i (map size (subterms s)) → (p : ℕ) (d : Term) → p < size s → getD lengths (i + p) 0 ≡ size (getD (subterms s) p d)
+pub stored-size : {sizes : List ℕ} {i : ℕ} (s : Term) → PartAt sizes i (map size (subterms s)) → (p : ℕ) (d : Term) → p < size s → getD sizes (i + p) 0 ≡ size (getD (subterms s) p d)
 stored-size s l p d h = stored-element l p (omega (arith, length-map (subterms s) size, length-subterms s)) ∙ size-among (subterms s) p d (omega (arith, length-subterms s))

@@ -5,10 +5,10 @@ use mathlib.Core.List.{List, [], _∷_, _++_}
 use lib.ListN.{length, set}
 use Rattle.solving.specs.Line.{Element}
 use Rattle.solving.specs.Walk.{argument-choices, exceeds-each, lexicographic-choices}
-use Rattle.unifying.specs.Contracts.PrefixForm.{Row}
-use Rattle.lines.specs.Contracts.Layout.{line-bytes, placed}
-use Rattle.lines.specs.Contracts.Resting.{equality-mark, marks}
-use Rattle.lines.specs.Contracts.Room.{Gap}
+use Rattle.bindings.specs.Contracts.PrefixForm.{Row}
+use Rattle.line_bytes.specs.Contracts.Layout.{line-bytes, placed}
+use Rattle.line_bytes.specs.Contracts.Resting.{equality-mark, marks}
+use Rattle.line_bytes.specs.Contracts.Room.{Gap}
 
 -- Terms stand in the row from `k` to `end`, and the line has room for an element for each from `at` on.
 pub record ExceedingFit (sizes : List ℕ) (at k end : ℕ) (line : List ℕ) : Type 0 where

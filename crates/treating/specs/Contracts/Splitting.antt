@@ -8,13 +8,13 @@ use Rattle.format.specs.Limits.{variable-count, max-elements}
 use Rattle.format.specs.Lists.{Every}
 use Rattle.solving.specs.Line.{Element}
 use Rattle.solving.specs.Walk.{argument-choices, choices}
-use Rattle.unifying.specs.Contracts.PrefixForm.{Row, arguments-of}
+use Rattle.bindings.specs.Contracts.PrefixForm.{Row, arguments-of}
 use Rattle.treating.specs.declared.choices.CountedArguments.{CountedArguments}
 use Rattle.treating.specs.declared.treat.Sides.{Sides}
 use Rattle.treating.specs.declared.split.Choices.{Choices}
-use Rattle.lines.specs.Contracts.Resting.{equality-mark, resting-bytes}
-use Rattle.lines.specs.Contracts.Layout.{line-bytes, placed}
-use Rattle.lines.specs.Contracts.Room.{lines-bytes}
+use Rattle.line_bytes.specs.Contracts.Resting.{equality-mark, resting-bytes}
+use Rattle.line_bytes.specs.Contracts.Layout.{line-bytes, placed}
+use Rattle.line_bytes.specs.Contracts.Room.{lines-bytes}
 use Rattle.treating.specs.Contracts.Children.{child}
 
 unfoldable pub lesser : ℕ → ℕ → ℕ

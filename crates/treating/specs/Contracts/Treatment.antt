@@ -9,8 +9,8 @@ use Rattle.solving.specs.Walk.{enough, reach, fully-reduced, becomes, treat}
 use Rattle.treating.specs.declared.treat.Sides.{Sides}
 use Rattle.treating.specs.declared.treat.Treatment.{Treatment}
 use Rattle.treating.specs.declared.treat.Treatment.the-variants.{Reduced, DropLine, DropElement, Unify, Split}
-use Rattle.unifying.specs.Contracts.PrefixForm.{view-of}
-use Rattle.unifying.specs.Contracts.Bindings.{bindings-of}
+use Rattle.bindings.specs.Contracts.PrefixForm.{view-of}
+use Rattle.bindings.specs.Contracts.Bindings.{bindings-of}
 
 -- "both non-variables": the positions of the element l > r, and those of the terms reached.
 pub record BothSymbols (nodes sizes bindings : List ℕ) (e : Element) (sides terms : Sides) : Type 0 where

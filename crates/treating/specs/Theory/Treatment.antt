@@ -8,9 +8,9 @@ use lib.ListN.{getD}
 use Rattle.terms.specs.Position.{app-node}
 use Rattle.solving.specs.Line.{Bindings, Element, equal, greater, Line, line}
 use Rattle.solving.specs.Walk.{enough, reach, choices, fully-reduced, unified, becomes, unify, treat-greater, treat}
-use Rattle.unifying.specs.Contracts.PrefixForm.{view-of, arguments-of}
-use Rattle.unifying.specs.Contracts.Bindings.{bindings-of}
-use Rattle.unifying.specs.Theory.PrefixForm.{symbol-there}
+use Rattle.bindings.specs.Contracts.PrefixForm.{view-of, arguments-of}
+use Rattle.bindings.specs.Contracts.Bindings.{bindings-of}
+use Rattle.bindings.specs.Theory.PrefixForm.{symbol-there}
 use Rattle.treating.specs.declared.treat.Sides.{Sides}
 use Rattle.treating.specs.declared.treat.Treatment.{Treatment as Found}
 use Rattle.treating.specs.declared.treat.Treatment.the-variants.{Reduced, DropLine, DropElement, Unify, Split}

@@ -7,8 +7,8 @@ use Rattle.format.specs.Limits.{position-count, no-position}
 use Rattle.terms.specs.Position.{Node, var-node, app-node}
 use Rattle.solving.specs.Line.{Bindings}
 use Rattle.solving.specs.Contracts.Seen.{Reaches}
-use Rattle.unifying.specs.Contracts.PrefixForm.{view-of}
-use Rattle.unifying.specs.Contracts.Bindings.{bindings-of}
+use Rattle.bindings.specs.Contracts.PrefixForm.{view-of}
+use Rattle.bindings.specs.Contracts.Bindings.{bindings-of}
 
 -- The terms at two positions are the same, seen through the bindings.
 module _ (view : ℕ → Node) (θ : Bindings) where

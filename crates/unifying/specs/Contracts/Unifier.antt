@@ -6,8 +6,8 @@ use lib.ListN.{length}
 use Rattle.format.specs.Limits.{variable-count}
 use Rattle.solving.specs.Walk.{enough, unify}
 use Rattle.unifying.specs.declared.unifier.Unifier.{Unifier}
-use Rattle.unifying.specs.Contracts.PrefixForm.{view-of}
-use Rattle.unifying.specs.Contracts.Bindings.{bindings-of}
+use Rattle.bindings.specs.Contracts.PrefixForm.{view-of}
+use Rattle.bindings.specs.Contracts.Bindings.{bindings-of}
 use Rattle.unifying.specs.Contracts.Unify.{answered}
 
 -- "Equality: unify"

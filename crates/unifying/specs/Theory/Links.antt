@@ -12,9 +12,9 @@ use Rattle.solving.specs.Contracts.Seen.{Reaches, stays}
 use Rattle.solving.specs.Contracts.Unified.{Unified as Unification}
 use Rattle.solving.specs.Theory.Seen.{reaches-unbound}
 use Rattle.solving.specs.Theory.Unified.{Extends, unified-extends}
-use Rattle.unifying.specs.declared.unify.Answer.the-variants.{Unified}
-use Rattle.unifying.specs.Contracts.PrefixForm.{view-of}
-use Rattle.unifying.specs.Contracts.Bindings.{bindings-of, Readable}
+use Rattle.unifying.specs.declared.unify.UnifierAnswer.the-variants.{Unified}
+use Rattle.bindings.specs.Contracts.PrefixForm.{view-of}
+use Rattle.bindings.specs.Contracts.Bindings.{bindings-of, Readable}
 use Rattle.unifying.specs.Contracts.Unify.{UnifiesTo}
 use Rattle.unifying.specs.Contracts.Links.{Same, one-position, Leads, Followed, Linked}
 use Rattle.unifying.specs.Contracts.Links as links-contracts

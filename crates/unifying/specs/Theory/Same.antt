@@ -11,8 +11,8 @@ use Rattle.solving.specs.Contracts.Unified.{Unified as Unification, EachUnified
 use Rattle.solving.specs.Theory.Seen.{bound-variable, symbol-unbound, variable-bound, reaches-unique}
 use Rattle.solving.specs.Theory.Bind.{bind-same}
 use Rattle.solving.specs.Theory.Unified.{Extends, each-extends}
-use Rattle.unifying.specs.Contracts.PrefixForm.{view-of}
-use Rattle.unifying.specs.Contracts.Bindings.{bindings-of, Readable}
+use Rattle.bindings.specs.Contracts.PrefixForm.{view-of}
+use Rattle.bindings.specs.Contracts.Bindings.{bindings-of, Readable}
 use Rattle.unifying.specs.Contracts.Links.{Same, EachSame, one-position, one-variable, one-symbol, none-left, and-then}
 use Rattle.unifying.specs.Theory.Unify.{same-unified}
 

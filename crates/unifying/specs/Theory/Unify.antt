@@ -21,13 +21,13 @@ use Rattle.terms.specs.Theory.View.{In, head, tail}
 use Rattle.solving.specs.Theory.Reach.{enough-suffices, reach-reaches}
 use Rattle.solving.specs.Theory.Unified.{unified-proper, unify-gives}
 use Rattle.solving.specs.Contracts.Unified.{Unified as Unification, EachUnified, equal-variables, symbols, no-more, one-more}
-use Rattle.unifying.specs.declared.unify.Answer.{Answer}
-use Rattle.unifying.specs.declared.unify.Answer.the-variants.{Unified, Failed}
-use Rattle.unifying.specs.Contracts.PrefixForm.{view-of, arguments-of, InPrefixForm}
-use Rattle.unifying.specs.Contracts.Bindings.{bindings-of, Readable}
+use Rattle.unifying.specs.declared.unify.UnifierAnswer.{UnifierAnswer}
+use Rattle.unifying.specs.declared.unify.UnifierAnswer.the-variants.{Unified, Failed}
+use Rattle.bindings.specs.Contracts.PrefixForm.{view-of, arguments-of, InPrefixForm}
+use Rattle.bindings.specs.Contracts.Bindings.{bindings-of, Readable}
 use Rattle.unifying.specs.Contracts.Unify.{answered, FreeAt, HasRows, BindsTo, UnifiesSymbols, UnifiesTo, UnifiesRows}
-use Rattle.unifying.specs.Theory.PrefixForm.{symbol-there, variable-there, arguments-there, form-layout, row-empty, row-next, row-first-some}
-use Rattle.unifying.specs.Theory.Bindings.{bind-byte, length-bindings}
+use Rattle.bindings.specs.Theory.PrefixForm.{symbol-there, variable-there, arguments-there, form-layout, row-empty, row-next, row-first-some}
+use Rattle.bindings.specs.Theory.Bindings.{bind-byte, length-bindings}
 
 -- 1. Two variables.
 module _ (bs : List ℕ) (v w p q : ℕ) where
@@ -160,11 +160,11 @@ one-less zero h = absurd (h refl)
 one-less (suc d) h = omega arith
 
 -- What an answer tells.
-pub answered-unified : {o : Option Bindings} (r : Answer) (θ : Bindings) → o ≡ answered r θ → r ≡ Unified → o ≡ some θ
+pub answered-unified : {o : Option Bindings} (r : UnifierAnswer) (θ : Bindings) → o ≡ answered r θ → r ≡ Unified → o ≡ some θ
 unfolding answered
 answered-unified r θ e x = rw x at e
 
-pub answered-failed : {o : Option Bindings} (r : Answer) (θ : Bindings) → o ≡ answered r θ → r ≡ Failed → o ≡ none
+pub answered-failed : {o : Option Bindings} (r : UnifierAnswer) (θ : Bindings) → o ≡ answered r θ → r ≡ Failed → o ≡ none
 unfolding answered
 answered-failed r θ e x = rw x at e
 
@@ -175,7 +175,7 @@ pub not-unified : {A : Type 0} → Failed ≡ Unified → A
 not-unified e = let z : _≡_ {A = ℕ} 0 1 = cc in absurd (omega arith)
 
 -- What the definition tells, told by the code.
-pub told : {nodes sizes bs : List ℕ} (θ′ : Bindings) → Readable nodes sizes bs → (p q depth : ℕ) → p < length nodes → q < length nodes → (r : Answer)
+pub told : {nodes sizes bs : List ℕ} (θ′ : Bindings) → Readable nodes sizes bs → (p q depth : ℕ) → p < length nodes → q < length nodes → (r : UnifierAnswer)
     → unify enough (view-of nodes sizes) depth (bindings-of bs) p q ≡ answered r θ′ → UnifiesTo nodes sizes depth (bindings-of bs) p q r θ′
 told {nodes} {sizes} {bs} θ′ read p q depth i j r e = record {
   found = λ z. unify-gives (form-layout (read .laid)) (enough-suffices (read .laid .few)) depth (bindings-of bs) θ′ p q (read .proper) i j (answered-unified r θ′ e z);
@@ -190,11 +190,11 @@ module _ {nodes sizes bs : List ℕ} (read : Readable nodes sizes bs) (p q s t d
   unfolding unify
   unify-by-nodes = ap (λ d. unify enough (view-of nodes sizes) d (bindings-of bs) p q) (one-less depth some-depth) ∙ rw (sym at-p, sym at-q)
 
-  pub terms-bind : (θ′ : Bindings) (r : Answer) → p < length nodes → q < length nodes → BindsTo nodes sizes (bindings-of bs) s t r θ′
+  pub terms-bind : (θ′ : Bindings) (r : UnifierAnswer) → p < length nodes → q < length nodes → BindsTo nodes sizes (bindings-of bs) s t r θ′
       → UnifiesTo nodes sizes depth (bindings-of bs) p q r θ′
   terms-bind θ′ r i j b = told θ′ read p q depth i j r (unify-by-nodes ∙ b .tells (unify enough (view-of nodes sizes) (depth - 1)))
 
-  pub terms-symbols : (θ′ : Bindings) (r : Answer) → s < length nodes → t < length nodes → getD nodes s 0 < first-variable → getD nodes t 0 < first-variable
+  pub terms-symbols : (θ′ : Bindings) (r : UnifierAnswer) → s < length nodes → t < length nodes → getD nodes s 0 < first-variable → getD nodes t 0 < first-variable
       → UnifiesSymbols nodes sizes (depth - 1) (bindings-of bs) s t r θ′ → UnifiesTo nodes sizes depth (bindings-of bs) p q r θ′
   terms-symbols θ′ r i j h k u =
       let lay = form-layout (read .laid) in
@@ -214,7 +214,7 @@ module _ {nodes sizes : List ℕ} {depth : ℕ} {θ : Bindings} (laid : InPrefix
   pub symbols-differ : (θ′ : Bindings) → (getD nodes s 0 ≡ getD nodes t 0 → ⊥) → UnifiesSymbols nodes sizes depth θ s t Failed θ′
   symbols-differ θ′ n = record { found = λ z. not-unified z; none-found = λ z. nodes-other nodes sizes θ s t i j (unify enough (view-of nodes sizes) depth) h k n }
 
-  pub symbols-same : {θ′ : Bindings} {r : Answer} → getD nodes s 0 ≡ getD nodes t 0 → UnifiesRows nodes sizes depth θ (arguments-at sizes s) (arguments-at sizes t) r θ′
+  pub symbols-same : {θ′ : Bindings} {r : UnifierAnswer} → getD nodes s 0 ≡ getD nodes t 0 → UnifiesRows nodes sizes depth θ (arguments-at sizes s) (arguments-at sizes t) r θ′
       → UnifiesSymbols nodes sizes depth θ s t r θ′
   symbols-same e u =
       let left = arguments-there laid s i h in
@@ -282,7 +282,7 @@ module _ {nodes sizes bs : List ℕ} (read : Readable nodes sizes bs) where
     none-found = λ z. not-failed z;
   }
 
-pub told-enough : {nodes sizes bs : List ℕ} (θ′ : Bindings) → Readable nodes sizes bs → (p q : ℕ) → p < length nodes → q < length nodes → (r : Answer)
+pub told-enough : {nodes sizes bs : List ℕ} (θ′ : Bindings) → Readable nodes sizes bs → (p q : ℕ) → p < length nodes → q < length nodes → (r : UnifierAnswer)
     → UnifiesTo nodes sizes (enough .unify-depth) (bindings-of bs) p q r θ′ → unify enough (view-of nodes sizes) (enough .unify-depth) (bindings-of bs) p q ≡ answered r θ′
 unfolding answered
 told-enough θ′ read p q i j Unified u = unify-found (form-layout (read .laid)) (enough-suffices (read .laid .few)) (read .proper) i j (u .found refl)
@@ -301,7 +301,7 @@ module _ {nodes sizes : List ℕ} {depth : ℕ} {θ : Bindings} {left right : Ar
   unfolding unify-each
   rows-right θ′ h i = record { found = λ ps qs a b x. not-unified x; none-found = λ ps qs a b x. let (ys, e, c) = row-next b i in rw (row-empty a h, e, unify-each) }
 
-  pub rows-fail : (θ′ θ″ : Bindings) (r : Answer) → left .from < left .end → right .from < right .end → UnifiesTo nodes sizes depth θ (left .from) (right .from) r θ′ → r ≡ Failed → UnifiesRows nodes sizes depth θ left right Failed θ″
+  pub rows-fail : (θ′ θ″ : Bindings) (r : UnifierAnswer) → left .from < left .end → right .from < right .end → UnifiesTo nodes sizes depth θ (left .from) (right .from) r θ′ → r ≡ Failed → UnifiesRows nodes sizes depth θ left right Failed θ″
   unfolding unify-each
   rows-fail θ′ θ″ r h i u z = record {
     found = λ ps qs a b x. not-unified x;
@@ -309,7 +309,7 @@ module _ {nodes sizes : List ℕ} {depth : ℕ} {θ : Bindings} {left right : Ar
   }
 
   pub rows-more : {others opposite : Arguments} {bs : List ℕ} → Readable nodes sizes bs → θ ≡ bindings-of bs → left .from < length nodes → right .from < length nodes
-      → (θ′ θ″ : Bindings) (r answer : Answer) → left .from < left .end → right .from < right .end
+      → (θ′ θ″ : Bindings) (r answer : UnifierAnswer) → left .from < left .end → right .from < right .end
       → UnifiesTo nodes sizes depth θ (left .from) (right .from) r θ′ → r ≡ Unified → others ≡ behind-first sizes left → opposite ≡ behind-first sizes right
       → UnifiesRows nodes sizes depth θ′ others opposite answer θ″
       → UnifiesRows nodes sizes depth θ left right answer θ″

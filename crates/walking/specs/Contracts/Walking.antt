@@ -14,14 +14,14 @@ use Rattle.solving.specs.Walk.{enough, treat-line, crowded, refused, over-limit
 use Rattle.solving.specs.Turns.{table-after}
 use Rattle.treating.specs.declared.treat.Treatment.{Treatment}
 use Rattle.walking.specs.declared.walk.Walk.{Walk}
-use Rattle.walking.specs.declared.walk.Progress.{Progress}
-use Rattle.walking.specs.declared.walk.Progress.the-variants.{Going, Refused}
+use Rattle.walking.specs.declared.walk.WalkProgress.{WalkProgress}
+use Rattle.walking.specs.declared.walk.WalkProgress.the-variants.{Going, Refused}
 use Rattle.walking.specs.declared.walk.Advanced.{Advanced}
-use Rattle.unifying.specs.Contracts.PrefixForm.{view-of, InPrefixForm}
-use Rattle.lines.specs.Contracts.Resting.{RestingLine, line-of}
+use Rattle.bindings.specs.Contracts.PrefixForm.{view-of, InPrefixForm}
+use Rattle.line_bytes.specs.Contracts.Resting.{RestingLine, line-of}
 use Rattle.lines.specs.declared.line.Line.{Line as LineValue}
-use Rattle.lines.specs.Contracts.Layout.{line-bytes}
-use Rattle.lines.specs.Contracts.Room.{lines-bytes}
+use Rattle.line_bytes.specs.Contracts.Layout.{line-bytes}
+use Rattle.line_bytes.specs.Contracts.Room.{lines-bytes}
 use Rattle.lines.specs.Contracts.Line.{Carries}
 use Rattle.treating.specs.Contracts.Treatment.{Treated}
 use Rattle.walking.specs.Contracts.WellFormed.{KnownReduced, WellFormed}
@@ -131,7 +131,7 @@ Earns nodes sizes w r =
     (table : List Line) → table-reached nodes sizes w ≡ some table → (stop : List Line → Bool)
     → walk-until enough (view-of nodes sizes) over-limit stop (max-turns - w .turns) (w .turns) table ≡ refused r
 
-abbrev pub AdvancesAs : (nodes sizes memory : List ℕ) (w v : Walk) → Progress → Type 0
+abbrev pub AdvancesAs : (nodes sizes memory : List ℕ) (w v : Walk) → WalkProgress → Type 0
 AdvancesAs nodes sizes memory w v Going = GoesOn nodes sizes memory w v
 AdvancesAs nodes sizes memory w v (Refused r) = Earns nodes sizes w r
 

@@ -8,9 +8,9 @@ use Rattle.format.specs.Lists.{Every}
 use Rattle.solving.specs.Line.{Element}
 use Rattle.solving.specs.Walk.{enough, fully-reduced, treat}
 use Rattle.solving.specs.Contracts.Within.{AllWithin}
-use Rattle.unifying.specs.Contracts.PrefixForm.{view-of}
-use Rattle.unifying.specs.Contracts.Bindings.{bindings-of, Readable}
-use Rattle.lines.specs.Contracts.Resting.{RestingLine}
+use Rattle.bindings.specs.Contracts.PrefixForm.{view-of}
+use Rattle.bindings.specs.Contracts.Bindings.{bindings-of, Readable}
+use Rattle.line_bytes.specs.Contracts.Resting.{RestingLine}
 
 -- All of these elements are fully reduced under the bindings.
 abbrev pub KnownReduced : (nodes sizes bindings : List ℕ) → List Element → Type 0

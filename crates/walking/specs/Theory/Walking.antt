@@ -8,11 +8,11 @@ use lib.ListN.{length, take}
 use Rattle.format.specs.Limits.{max-lines, record-bytes}
 use Rattle.solving.specs.Line.{Line, records}
 use Rattle.solving.specs.Walk.{enough, turn}
-use Rattle.unifying.specs.Contracts.PrefixForm.{view-of}
-use Rattle.unifying.specs.Theory.Bindings.{readable-slots}
-use Rattle.lines.specs.Contracts.Resting.{RestingLine, line-of, resting-bytes}
-use Rattle.lines.specs.Contracts.Layout.{line-bytes}
-use Rattle.lines.specs.Theory.Resting.{length-resting}
+use Rattle.bindings.specs.Contracts.PrefixForm.{view-of}
+use Rattle.bindings.specs.Theory.Bindings.{readable-slots}
+use Rattle.line_bytes.specs.Contracts.Resting.{RestingLine, line-of, resting-bytes}
+use Rattle.line_bytes.specs.Contracts.Layout.{line-bytes}
+use Rattle.line_bytes.specs.Theory.Resting.{length-resting}
 use Rattle.walking.specs.declared.walk.Walk.{Walk}
 use Rattle.walking.specs.Contracts.WellFormed.{WellFormed}
 use Rattle.walking.specs.Contracts.Walking.{table-reached, Walking}

@@ -1,7 +1,7 @@
 -- `same_nodes` meets its contract.
 use native.Mathlib.Omega.{arith}
 use borrow.Author.Tests.{not-false}
-use Rattle.comparing.specs.Theory.Nodes.{within, ends-within}
+use Rattle.cells.specs.Theory.Nodes.{within, ends-within}
 use Rattle.clauses.proofs.Members.{not-told, told-equal}
 use borrow.Author.Needs.{needs}
 use Rattle.clauses.proofs.among.same_nodes.Statement.{statement}

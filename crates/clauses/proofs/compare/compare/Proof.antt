@@ -1,8 +1,8 @@
 -- `compare` gives the decision that is kept, or finds it and keeps it.
 use native.Mathlib.Omega.{arith}
 use borrow.Author.Needs.{needs}
-use Rattle.comparing.specs.Theory.Nodes.{within}
-use Rattle.comparing.specs.Theory.Cells.{made-ready-settled, cell-put}
+use Rattle.cells.specs.Theory.Nodes.{within}
+use Rattle.cells.specs.Theory.Cells.{made-ready-settled, cell-put}
 use Rattle.clauses.proofs.Keeping.{decision-settles, decision-kept}
 use Rattle.clauses.proofs.compare.compare.Statement.{statement}
 use Rattle.clauses.proofs.compare.compare.Tie as tie

@@ -1,7 +1,7 @@
 -- `decide` hands two terms on by their symbols.
 use native.Mathlib.Omega.{arith}
 use borrow.Author.Needs.{needs}
-use Rattle.comparing.specs.Theory.Nodes.{within}
+use Rattle.cells.specs.Theory.Nodes.{within}
 use Rattle.clauses.proofs.compare.decide.Statement.{statement}
 use Rattle.clauses.proofs.compare.decide.Tie as tie
 

@@ -1,7 +1,7 @@
 -- `decide_same_symbol` gives the verdict of two terms with the same symbol, and L1 where it applies, else L3.
 use native.Mathlib.Omega.{arith}
 use borrow.Author.Needs.{needs}
-use Rattle.comparing.specs.Theory.Resolved.{symbol-resolves, subject-resolves}
+use Rattle.comparing.specs.Theory.Resolves.{symbol-resolves, subject-resolves}
 use Rattle.clauses.proofs.Clauses.{same-smaller, same-equal, same-greater}
 use Rattle.clauses.proofs.compare.decide_same_symbol.Statement.{statement}
 use Rattle.clauses.proofs.compare.decide_same_symbol.Tie as tie

@@ -1,7 +1,7 @@
 -- `decide_greater_symbol` asks L1 of the first term, then whether that exceeds every argument of the second.
 use native.Mathlib.Omega.{arith}
 use borrow.Author.Needs.{needs}
-use Rattle.comparing.specs.Theory.Resolved.{symbol-resolves, subject-resolves}
+use Rattle.comparing.specs.Theory.Resolves.{symbol-resolves, subject-resolves}
 use Rattle.clauses.proofs.Clauses.{first-reaches, first-exceeds, first-fails}
 use Rattle.clauses.proofs.greater.decide_greater_symbol.Statement.{statement}
 use Rattle.clauses.proofs.greater.decide_greater_symbol.Tie as tie

@@ -7,7 +7,7 @@ use borrow.Author.Needs.{needs}
 use Rattle.ordering.specs.Verdict.{verdict-number}
 use Rattle.ordering.specs.Decision.{verdict-of}
 use Rattle.ordering.specs.Theory.Verdict.{number-few}
-use Rattle.comparing.specs.Contracts.Cells.{clause-unit}
+use Rattle.cells.specs.Contracts.Cells.{clause-unit}
 use Rattle.clauses.specs.Contracts.Kept.{cell-of}
 use Rattle.clauses.proofs.Keeping.{clause-few}
 use Rattle.clauses.proofs.kept.keep.Statement.{statement}

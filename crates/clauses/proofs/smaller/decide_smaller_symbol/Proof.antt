@@ -1,7 +1,7 @@
 -- `decide_smaller_symbol` asks L1 of the second term, then that of the first.
 use native.Mathlib.Omega.{arith}
 use borrow.Author.Needs.{needs}
-use Rattle.comparing.specs.Theory.Resolved.{symbol-resolves, subject-resolves}
+use Rattle.comparing.specs.Theory.Resolves.{symbol-resolves, subject-resolves}
 use Rattle.clauses.proofs.Clauses.{second-reaches, second-exceeds, second-fails}
 use Rattle.clauses.proofs.smaller.decide_smaller_symbol.Statement.{statement}
 use Rattle.clauses.proofs.smaller.decide_smaller_symbol.Tie as tie

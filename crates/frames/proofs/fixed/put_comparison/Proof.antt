@@ -5,7 +5,7 @@ use borrow.Author.Needs.{needs}
 use Rattle.ordering.specs.Verdict.{verdict-number}
 use Rattle.ordering.specs.Decision.{verdict-of}
 use Rattle.listing.specs.Listing.{printed, comparison-kind, comparison-frame}
-use Rattle.printing.specs.Theory.Appended.{appended-text}
+use Rattle.listing.specs.Theory.Appended.{appended-text}
 use Rattle.frames.proofs.fixed.put_comparison.Statement.{statement}
 use Rattle.frames.proofs.fixed.put_comparison.Tie as tie
 

@@ -3,7 +3,7 @@ use mathlib.Core.Path.{ap}
 use mathlib.Core.List.{[], _∷_}
 use borrow.Author.Needs.{needs}
 use Rattle.listing.specs.Listing.{printed}
-use Rattle.printing.specs.Theory.Appended.{appended-text}
+use Rattle.listing.specs.Theory.Appended.{appended-text}
 use Rattle.frames.proofs.Judgement.{no-frame, yes-frame}
 use Rattle.frames.proofs.fixed.put_judgement.Statement.{statement}
 use Rattle.frames.proofs.fixed.put_judgement.Tie as tie

@@ -5,8 +5,8 @@ use native.Mathlib.Omega.{arith}
 use lib.ListN.{take, drop}
 use borrow.Author.Needs.{needs}
 use Rattle.listing.specs.Listing.{digits}
-use Rattle.printing.specs.Theory.Printed.{length-digits}
-use Rattle.printing.specs.Theory.Appended.{appended-text}
+use Rattle.listing.specs.Theory.Printed.{length-digits}
+use Rattle.listing.specs.Theory.Appended.{appended-text}
 use Rattle.frames.proofs.LineLaws.{term-small, term-part, term-ends, term-length, position-there}
 use Rattle.frames.proofs.line.put_term.Statement.{statement}
 use Rattle.frames.proofs.line.put_term.Tie as tie

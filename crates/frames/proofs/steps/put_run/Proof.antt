@@ -4,8 +4,8 @@ use mathlib.Core.List.{[], _∷_}
 use native.Mathlib.Omega.{arith}
 use borrow.Author.Needs.{needs}
 use Rattle.listing.specs.Listing.{run-kind, digits, printed}
-use Rattle.printing.specs.Theory.Printed.{length-digits}
-use Rattle.printing.specs.Theory.Appended.{appended-join, appended-text}
+use Rattle.listing.specs.Theory.Printed.{length-digits}
+use Rattle.listing.specs.Theory.Appended.{appended-join, appended-text}
 use Rattle.reducing.specs.Theory.Runs.{ending-low}
 use Rattle.frames.proofs.steps.put_run.Statement.{statement}
 use Rattle.frames.proofs.steps.put_run.Tie as tie

@@ -4,7 +4,7 @@ use native.Mathlib.Omega.{arith}
 use lib.ListN.{drop}
 use borrow.Author.Needs.{needs}
 use Rattle.walking.specs.Contracts.Walking.{memory-bytes}
-use Rattle.solver.specs.Theory.Memory.{behind-kept, walk-room}
+use Rattle.solve_equation.specs.Theory.Memory.{behind-kept, walk-room}
 use Rattle.rules.proofs.KeepLaws.{rule-direction, leaves-longer}
 use Rattle.rules.proofs.keep.walk_rule.Statement.{statement}
 use Rattle.rules.proofs.keep.walk_rule.Tie as tie

@@ -2,7 +2,7 @@
 use Prim.Native.Nat.{_-_, _*_}
 use mathlib.Core.Path.{subst}
 use borrow.Author.Needs.{needs}
-use Rattle.lines.specs.Contracts.Layout.{line-bytes}
+use Rattle.line_bytes.specs.Contracts.Layout.{line-bytes}
 use Rattle.stopping.specs.Contracts.Empty.{EmptyAt}
 use Rattle.stopping.proofs.Looking.{Looking, looking-start, looking-found, looking-next, looking-done}
 use Rattle.stopping.proofs.empty.any_empty.Statement.{statement}

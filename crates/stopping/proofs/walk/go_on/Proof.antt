@@ -3,7 +3,7 @@ use mathlib.Core.Path.{sym, ap, _∙_}
 use native.Mathlib.Omega.{arith}
 use denote.Enum.Declared.{tagOf}
 use borrow.Author.Needs.{needs}
-use Rattle.walking.proofs.walk.Progress.{the-type}
+use Rattle.walking.proofs.walk.WalkProgress.{the-type}
 use Rattle.walking.specs.Contracts.Walking.{left-to-do}
 use Rattle.stopping.proofs.Stopping.{Underway, underway-start, underway-refused, underway-ends, underway-on, underway-past, underway-stops, going-falls, places-within}
 use Rattle.stopping.proofs.walk.go_on.Statement.{statement}

@@ -4,8 +4,8 @@ use mathlib.Core.List.{[], _∷_}
 use native.Mathlib.Omega.{arith}
 use borrow.Author.Needs.{needs}
 use Rattle.listing.specs.Listing.{printed, judgement-frame}
-use Rattle.judgements.specs.Theory.Holding.{holding-few}
-use Rattle.printing.specs.Theory.Appended.{appended-text}
+use Rattle.judge_task.specs.Theory.Holding.{holding-few}
+use Rattle.listing.specs.Theory.Appended.{appended-text}
 use Rattle.tasks.proofs.JudgementLaws.{judged-rule, never-refused, records-has, never-full, values-kept, values-has}
 use Rattle.tasks.proofs.task.list_judgement.Statement.{statement}
 use Rattle.tasks.proofs.task.list_judgement.Tie as tie

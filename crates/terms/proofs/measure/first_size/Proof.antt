@@ -9,10 +9,10 @@ use Rattle.terms.proofs.measure.first_size.Statement.{statement}
 use Rattle.terms.proofs.measure.first_size.Tie as tie
 
 abbrev Inv-loop : tie.InvT-loop
-Inv-loop nodes arities lengths last byte count next₀ k₀ next k = Added nodes arities lengths count next k
+Inv-loop nodes arities sizes last byte count next₀ k₀ next k = Added nodes arities sizes count next k
 
 abbrev μ-loop : tie.MeasureT-loop
-μ-loop nodes arities lengths last byte count next₀ k₀ next k = count - k
+μ-loop nodes arities sizes last byte count next₀ k₀ next k = count - k
 
 returns : tie.Need-returns Inv-loop μ-loop
 returns c =

@@ -2,7 +2,7 @@
 use Prim.Native.Nat.{_+_, _-_}
 use mathlib.Core.Path.{_∙_}
 use native.Mathlib.Omega.{arith}
-use Rattle.lines.specs.Contracts.Layout.{line-bytes}
+use Rattle.line_bytes.specs.Contracts.Layout.{line-bytes}
 use borrow.Author.Needs.{needs}
 use Rattle.treating.proofs.Arguments.{arguments-room, arguments-size, PushingArguments, pushing-start, pushing-next, pushing-done}
 use Rattle.treating.proofs.choices.push_arguments.Statement.{statement}

@@ -3,7 +3,7 @@
 use Prim.Native.Nat.{_+_, _-_}
 use mathlib.Core.Path.{_∙_}
 use native.Mathlib.Omega.{arith}
-use Rattle.lines.specs.Contracts.Layout.{line-bytes}
+use Rattle.line_bytes.specs.Contracts.Layout.{line-bytes}
 use borrow.Author.Needs.{needs}
 use Rattle.treating.proofs.Lexicographic.{lexicographic-room, lexicographic-sizes, PushingLexicographic, pushing-start, pushing-whole, pushing-marks, pushing-next, pushing-left-done, pushing-right-done}
 use Rattle.treating.proofs.choices.push_lexicographic.Statement.{statement}

@@ -3,7 +3,7 @@ use Prim.Native.Nat.{_+_, _*_}
 use mathlib.Core.Path.{_≡_, refl, _∙_}
 use native.Mathlib.Omega.{arith}
 use lib.ListN.{length, set, length-set}
-use Rattle.lines.specs.Contracts.Layout.{first-element, reduced-place}
+use Rattle.line_bytes.specs.Contracts.Layout.{first-element, reduced-place}
 use Rattle.treating.proofs.Splitting.{positive, room-for, line-long, arguments-fit, only-arguments, room-fits, exceeding-fits, one-more-fits, pushed-more, lexicographic-fits, pushed-same}
 use borrow.Author.Needs.{needs}
 use Rattle.treating.proofs.split.push_choices.Statement.{statement}

@@ -4,7 +4,7 @@ use native.Mathlib.Omega.{arith}
 use Rattle.format.specs.Limits.{position-count}
 use Rattle.unifying.specs.Contracts.Links.{Leads, stays, goes}
 use borrow.Author.Needs.{needs}
-use Rattle.unifying.specs.Theory.Bindings.{not-unbound}
+use Rattle.bindings.specs.Theory.Bindings.{not-unbound}
 use Rattle.unifying.proofs.links.linked.Statement.{statement}
 use Rattle.unifying.proofs.links.linked.Tie as tie
 

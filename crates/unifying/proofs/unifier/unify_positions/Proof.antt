@@ -5,7 +5,7 @@ use native.Mathlib.Omega.{arith}
 use Rattle.format.specs.Limits.{variable-count}
 use Rattle.format.specs.Theory.Front.{Fronting, fronting-start, fronting-length, fronting-next, fronting-whole}
 use Rattle.unifying.proofs.Copied.{copy-unified}
-use Rattle.unifying.specs.Theory.Bindings.{readable-slots}
+use Rattle.bindings.specs.Theory.Bindings.{readable-slots}
 use Rattle.unifying.specs.Theory.Links.{linked-start}
 use borrow.Author.Needs.{needs}
 use Rattle.unifying.proofs.unifier.unify_positions.Statement.{statement}

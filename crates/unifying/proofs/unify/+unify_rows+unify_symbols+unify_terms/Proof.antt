@@ -21,7 +21,7 @@ use Rattle.unifying.proofs.unify.unify_terms.Kinds as unify-terms-kinds
 use Rattle.unifying.proofs.unify.+unify_rows+unify_symbols+unify_terms.Lts-unify_terms as unify-terms-lts
 use Rattle.terms.proofs.arguments.arguments_of.Reads as arguments-of-reads
 use Rattle.terms.proofs.arguments.other_arguments.Reads as other-arguments-reads
-use Rattle.unifying.proofs.reach.reached.Reads as reached-reads
+use Rattle.bindings.proofs.reach.reached.Reads as reached-reads
 use Rattle.unifying.proofs.unify.bind_reached.Reads as bind-reached-reads
 use Rattle.unifying.proofs.unify.+unify_rows+unify_symbols+unify_terms.{statement}
 use Rattle.unifying.proofs.unify.+unify_rows+unify_symbols+unify_terms.Tie.{close}

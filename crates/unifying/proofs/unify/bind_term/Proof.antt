@@ -2,7 +2,7 @@
 use mathlib.Core.Path.{sym, _∙_}
 use native.Mathlib.Omega.{arith}
 use borrow.Author.Needs.{needs}
-use Rattle.unifying.specs.Theory.Bindings.{length-bindings}
+use Rattle.bindings.specs.Theory.Bindings.{length-bindings}
 use Rattle.unifying.specs.Theory.Unify.{term-fails, term-binds}
 use Rattle.unifying.proofs.unify.bind_term.Statement.{statement}
 use Rattle.unifying.proofs.unify.bind_term.Tie as tie

@@ -6,9 +6,9 @@ use mathlib.Core.Path.{_≡_}
 use mathlib.Core.Logic.{inl, inr}
 use mathlib.Core.Bool.{true, false}
 use native.Mathlib.Omega.{arith}
-use Rattle.comparing.specs.Theory.Nodes.{within}
+use Rattle.cells.specs.Theory.Nodes.{within}
+use Rattle.cells.specs.Theory.Passed.{behind-first-too}
 use Rattle.comparing.proofs.Rows.{reaching-none, reaching-first}
-use Rattle.comparing.proofs.Passed.{behind-first-too}
 use Rattle.comparing.proofs.Loops.{Reaching, reaching-start, reaching-again, reaching-passed, row-inside}
 use Rattle.comparing.proofs.comparison.+argument_reaches+compare_arguments+compare_symbols+exceeds+exceeds_arguments+first_difference.Proof.Measures.{argument-reaches-at, argument-reaches-calls}
 use Rattle.comparing.specs.Theory.Rows.{first-argument}

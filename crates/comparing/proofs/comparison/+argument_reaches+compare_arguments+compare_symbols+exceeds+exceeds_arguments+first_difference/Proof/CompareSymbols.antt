@@ -4,8 +4,8 @@ use Rattle.comparing.proofs.comparison.compare_symbols.Reads as compare
 use Rattle.comparing.proofs.comparison.+argument_reaches+compare_arguments+compare_symbols+exceeds+exceeds_arguments+first_difference.Lts-compare_symbols as compare-symbols-lts
 use native.Mathlib.Omega.{arith}
 use Rattle.comparing.proofs.comparison.+argument_reaches+compare_arguments+compare_symbols+exceeds+exceeds_arguments+first_difference.Proof.Measures.{compare-symbols-at, compare-symbols-calls}
-use Rattle.comparing.specs.Theory.Resolved.{symbol-resolves, subject-resolves}
 use Rattle.comparing.specs.Theory.Symbols.{smaller-symbols, greater-symbols}
+use Rattle.comparing.specs.Theory.Resolves.{symbol-resolves, subject-resolves}
 
 pub compare-symbols-shared-slice-read-f : (t : ℕ) → compare-symbols-lts.Need-shared-slice-read-f (compare-symbols-calls t) (compare-symbols-at t) compare-symbols.Post
 compare-symbols-shared-slice-read-f t c =

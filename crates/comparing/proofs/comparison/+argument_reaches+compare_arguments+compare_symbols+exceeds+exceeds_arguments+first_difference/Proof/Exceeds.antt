@@ -3,11 +3,12 @@ use Prim.Native.Nat.{ℕ}
 use Rattle.comparing.proofs.comparison.exceeds.Reads as exceeds
 use Rattle.comparing.proofs.comparison.+argument_reaches+compare_arguments+compare_symbols+exceeds+exceeds_arguments+first_difference.Lts-exceeds as exceeds-lts
 use native.Mathlib.Omega.{arith}
-use Rattle.comparing.specs.Theory.Nodes.{within}
+use Rattle.cells.specs.Theory.Nodes.{within}
 use Rattle.comparing.proofs.Pair.{told, known, settled}
-use Rattle.comparing.specs.Theory.Cells.{made-ready-settled}
-use Rattle.comparing.specs.Theory.Resolved.{byte-low, subject-resolves, resolves}
+use Rattle.cells.specs.Theory.Cells.{made-ready-settled}
+use Rattle.cells.specs.Theory.Resolved.{byte-low}
 use Rattle.comparing.proofs.comparison.+argument_reaches+compare_arguments+compare_symbols+exceeds+exceeds_arguments+first_difference.Proof.Measures.{exceeds-at, exceeds-calls}
+use Rattle.comparing.specs.Theory.Resolves.{subject-resolves, resolves}
 
 pub exceeds-resolve-requires : (t : ℕ) → exceeds-lts.Need-resolve-requires (exceeds-calls t) (exceeds-at t) exceeds.Post
 exceeds-resolve-requires t c κs =

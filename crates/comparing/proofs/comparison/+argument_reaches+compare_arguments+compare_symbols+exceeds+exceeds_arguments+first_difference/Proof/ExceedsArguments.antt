@@ -5,9 +5,9 @@ use mathlib.Core.Path.{_≡_}
 use mathlib.Core.Logic.{inl, inr}
 use mathlib.Core.Bool.{true, false}
 use native.Mathlib.Omega.{arith}
-use Rattle.comparing.specs.Theory.Nodes.{within}
+use Rattle.cells.specs.Theory.Nodes.{within}
+use Rattle.cells.specs.Theory.Passed.{behind-first-too}
 use Rattle.comparing.proofs.Rows.{all-none, all-not}
-use Rattle.comparing.proofs.Passed.{behind-first-too}
 use Rattle.comparing.proofs.Loops.{row-inside, Exceeding, exceeding-start, exceeding-again, exceeding-passed}
 use Rattle.comparing.proofs.comparison.+argument_reaches+compare_arguments+compare_symbols+exceeds+exceeds_arguments+first_difference.Lts-exceeds_arguments as exceeds-arguments-lts
 use Rattle.comparing.proofs.comparison.+argument_reaches+compare_arguments+compare_symbols+exceeds+exceeds_arguments+first_difference.Proof.Measures.{exceeds-arguments-at, argument-reaches-calls}

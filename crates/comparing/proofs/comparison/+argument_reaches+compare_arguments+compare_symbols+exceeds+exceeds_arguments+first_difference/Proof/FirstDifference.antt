@@ -8,8 +8,8 @@ use native.Mathlib.Omega.{arith}
 use Rattle.comparing.proofs.Arguments.{ComparingArguments, left-arguments, right-arguments, balanced, both-end, first-ends, second-ends, other-lists, difference}
 use Rattle.comparing.proofs.Pair.{comparing-start}
 use Rattle.comparing.proofs.comparison.+argument_reaches+compare_arguments+compare_symbols+exceeds+exceeds_arguments+first_difference.Proof.Measures.{first-difference-at, first-difference-calls}
-use Rattle.comparing.specs.Theory.Resolved.{symbol-resolves, subject-resolves}
 use Rattle.comparing.specs.Theory.Rows.{first-argument}
+use Rattle.comparing.specs.Theory.Resolves.{symbol-resolves, subject-resolves}
 
 abbrev pub first-difference-Inv-loop : first-difference-lts.InvT-loop
 first-difference-Inv-loop nodes sizes values ready₀ cells₀ i j first₀ second₀ ready cells first second = ComparingArguments nodes sizes values i j ready cells first second

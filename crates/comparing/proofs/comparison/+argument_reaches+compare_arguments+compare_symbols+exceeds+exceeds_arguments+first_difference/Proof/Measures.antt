@@ -22,15 +22,15 @@ use Rattle.comparing.proofs.comparison.exceeds_arguments.Kinds as excee
 use Rattle.comparing.proofs.comparison.first_difference.Reads as first-difference
 use Rattle.comparing.proofs.comparison.first_difference.Kinds as first-difference-kinds
 use Rattle.comparing.proofs.comparison.+argument_reaches+compare_arguments+compare_symbols+exceeds+exceeds_arguments+first_difference.Lts-first_difference as first-difference-lts
-use Rattle.comparing.proofs.cells.held.Reads as held-reads
-use Rattle.comparing.proofs.cells.make_ready.Reads as make-ready-reads
-use Rattle.comparing.proofs.cells.settle.Reads as settle-reads
+use Rattle.cells.proofs.settled.held.Reads as held-reads
+use Rattle.cells.proofs.settled.make_ready.Reads as make-ready-reads
+use Rattle.cells.proofs.settled.settle.Reads as settle-reads
 use Rattle.comparing.proofs.comparison.greater_if.Reads as greater-if-reads
 use Rattle.comparing.proofs.constants.tell_constants.Reads as tell-constants-reads
-use Rattle.comparing.proofs.nodes.resolve.Reads as resolve-reads
+use Rattle.cells.proofs.nodes.resolve.Reads as resolve-reads
 use Rattle.terms.proofs.arguments.arguments_of.Reads as arguments-of-reads
 use Rattle.terms.proofs.arguments.other_arguments.Reads as other-arguments-reads
-use Rattle.comparing.proofs.passing.behind_smaller.Reads as behind-smaller-reads
+use Rattle.cells.proofs.passing.behind_smaller.Reads as behind-smaller-reads
 use Rattle.format.proofs.byte.wide.Reads as wide-reads
 
 abbrev pub μ-argument-reaches : Measures 5 argument-reaches-kinds.ps ℕ

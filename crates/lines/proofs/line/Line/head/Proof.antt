@@ -3,7 +3,7 @@ use Prim.Native.Nat.{_-_}
 use native.Mathlib.Omega.{arith}
 use mathlib.Core.Path.{refl}
 use Rattle.format.specs.Limits.{variable-count}
-use Rattle.lines.specs.Theory.Placed.{Loading, loading-start, loading-next, loading-done}
+use Rattle.line_bytes.specs.Theory.Placed.{Loading, loading-start, loading-next, loading-done}
 use borrow.Author.Needs.{needs}
 use Rattle.lines.proofs.line.Line.head.Statement.{statement}
 use Rattle.lines.proofs.line.Line.head.Tie as tie

@@ -1,6 +1,6 @@
 -- `Line::put_without` deletes an element of a resting line: those behind it move, and the counts change.
 use Prim.Native.Nat.{_+_, _-_}
-use Rattle.lines.specs.Contracts.Layout.{count-place, reduced-place}
+use Rattle.line_bytes.specs.Contracts.Layout.{count-place, reduced-place}
 use mathlib.Core.Path.{refl, _∙_}
 use lib.ListN.{set, length-set}
 use native.Mathlib.Omega.{arith}

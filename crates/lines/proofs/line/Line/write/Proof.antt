@@ -2,7 +2,7 @@
 use mathlib.Core.Path.{refl, _∙_}
 use lib.ListN.{length-set}
 use native.Mathlib.Omega.{arith}
-use Rattle.lines.specs.Contracts.Layout.{count-place}
+use Rattle.line_bytes.specs.Contracts.Layout.{count-place}
 use Rattle.lines.proofs.Writing.{written-elements, line-written}
 use Rattle.lines.proofs.Sizes.{elements-places, bindings-slots}
 use borrow.Author.Needs.{needs}

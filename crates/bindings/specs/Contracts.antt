@@ -1,0 +1,6 @@
+-- What the contracts of the code cite.
+pub mod PrefixForm
+pub mod Bindings
+pub mod Count
+pub mod Equation
+pub mod Sets

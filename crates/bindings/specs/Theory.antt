@@ -1,0 +1,5 @@
+-- Laws.
+pub mod PrefixForm
+pub mod Bindings
+pub mod Equation
+pub mod Sets

@@ -1,0 +1,4 @@
+-- What the contracts of the code cite.
+pub mod Nodes
+pub mod Cells
+pub mod Passing

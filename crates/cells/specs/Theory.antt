@@ -1,0 +1,6 @@
+-- Laws.
+pub mod Nodes
+pub mod Cells
+pub mod Stored
+pub mod Resolved
+pub mod Passed

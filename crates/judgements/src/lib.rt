@@ -1,2 +1,0 @@
-// Judge on an accepted sheet: the first line of a direction that holds at the values of a task.
-pub mod judge_task;

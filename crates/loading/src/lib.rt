@@ -1,2 +1,0 @@
-// The terms of a task, stored as the subject's nodes.
-pub mod load;

@@ -1,5 +1,0 @@
-pub mod Ground
-pub mod Meeting
-pub mod Row
-pub mod Steps
-pub mod Progress

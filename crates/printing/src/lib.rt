@@ -1,3 +1,0 @@
-// Frames in the sheet's digits.
-pub mod digits;
-pub mod kinds;

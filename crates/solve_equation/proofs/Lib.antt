@@ -1,0 +1,4 @@
+pub mod Solving
+pub mod Begin
+pub mod Collected
+pub mod Deciding

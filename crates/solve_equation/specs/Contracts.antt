@@ -1,0 +1,4 @@
+-- What the contracts of the code cite.
+pub mod Equation
+pub mod Reports
+pub mod Decides

@@ -1,3 +1,0 @@
-pub mod Solving
-pub mod Begin
-pub mod Collected

@@ -1,3 +1,0 @@
--- What the contracts of the code cite.
-pub mod Equation
-pub mod Reports

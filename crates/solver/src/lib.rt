@@ -1,4 +1,0 @@
-// One direction of an equation, solved.
-pub mod positions;
-pub mod solve;
-pub mod variables;

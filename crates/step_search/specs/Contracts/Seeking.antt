@@ -1,0 +1,31 @@
+-- What the search for a step goes by.
+use Prim.Native.Nat.{ℕ, _*_}
+use mathlib.Core.Path.{_≡_}
+use mathlib.Core.Bool.{Bool, true, false}
+use mathlib.Core.List.{List}
+use lib.ListN.{length}
+use Rattle.terms.specs.Term.{Term, size}
+use Rattle.terms.specs.Equation.{Equation}
+use Rattle.terms.specs.Contracts.Stored.{SubjectIs}
+use Rattle.reducing.specs.Test.{EverySolves}
+use Rattle.rules.specs.Contracts.Rows.{RowsAre}
+use Rattle.step_by_position.specs.Contracts.Next.{RulesKept, NextIs}
+
+-- All rules solve; where their lines fit the table together they are kept there.
+abbrev pub RulesReady : (equations lengths : List ℕ) (rules : ℕ) (bounds next : List ℕ) → Bool → (table arities : List ℕ) (es : List Equation) → Type 0
+RulesReady equations lengths rules bounds next true table arities es = RulesKept equations lengths rules bounds table arities es × NextIs next rules es
+RulesReady equations lengths rules bounds next false table arities es = EverySolves es
+
+module _ (equations lengths : List ℕ) (rules : ℕ) (bounds next : List ℕ) (fits : Bool) (table nodes sizes : List ℕ) (n : ℕ) where
+  pub record RunIs (arities : List ℕ) (es : List Equation) (subject : Term) : Type 0 where
+    pub rows : RowsAre equations lengths arities es
+    pub counted : rules ≡ 2 * length es
+    pub ready : RulesReady equations lengths rules bounds next fits table arities es
+    pub subject-is : SubjectIs nodes sizes arities subject
+    pub size-is : n ≡ size subject
+
+  pub record HasRun : Type 0 where
+    pub arities : List ℕ
+    pub those : List Equation
+    pub subject : Term
+    pub is : RunIs arities those subject

@@ -1,0 +1,3 @@
+-- What the contracts of the code cite.
+pub mod Stepping
+pub mod Replacing

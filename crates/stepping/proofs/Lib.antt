@@ -1,3 +1,0 @@
--- Laws that the proofs of the functions share.
-pub mod StepLaws
-pub mod LogLaws

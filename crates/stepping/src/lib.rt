@@ -1,2 +1,0 @@
-// A step that was found: taken and logged.
-pub mod step;
