@@ -38,7 +38,7 @@ same-length c =
 same-length-2 : tie.Need-same-length-2
 same-length-2 c =
     let at-lengths = c .before .before .before .before .before .before .before .before .before .before .before .before .before .before .before .before .before .before .before .before .before in
-    at-lengths .sizes .given
+    at-lengths .lengths .given
 
 returns : tie.Need-returns
 returns c =
