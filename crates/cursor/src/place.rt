@@ -1,5 +1,5 @@
 // How far the listing has come.
-use scanning::known::Known;
+use rules::opened::Opened;
 ghost use mathlib.Core.Path.{_≡_};
 ghost use mathlib.Core.Logic.{_↔_};
 ghost use mathlib.Core.Bool.{true};
@@ -27,11 +27,10 @@ pub fn is_end(place: Place) -> bool
     }
 }
 
-// The place, what is known of the sheet, and whether the lines of all rules are kept together for its runs.
+// The place, and what is known of the sheet.
 pub struct Cursor {
     pub place: Place,
-    pub known: Known,
-    pub fits: bool,
+    pub opened: Opened,
 }
 
 // The next place, and how many bytes stand in the buffer.

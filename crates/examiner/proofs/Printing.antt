@@ -3,7 +3,7 @@ use Prim.Native.Nat.{ℕ}
 use mathlib.Core.Path.{_≡_}
 use mathlib.Core.List.{List}
 use lib.ListN.{length}
-use Rattle.format.specs.Limits.{table-bytes, scratch-bytes, term-bytes, log-bytes}
+use Rattle.format.specs.Limits.{table-bytes, scratch-bytes}
 use Rattle.rules.specs.Contracts.Rows.{row-bytes, bound-count}
 use Rattle.cursor.specs.declared.place.Cursor.{Cursor}
 use Rattle.cursor.specs.declared.place.Place.the-variants.{End}
@@ -13,15 +13,12 @@ use Rattle.cursor.specs.Contracts.Stands.{StandsAt}
 abbrev pub out-bytes : ℕ
 out-bytes = 65536
 
-pub record Printing (input equations lengths bounds table lines scratch term log out : List ℕ) (cursor : Cursor) : Type 0 where
-  pub stands : StandsAt input (cursor .known) (cursor .fits) equations lengths bounds table scratch (cursor .place)
+pub record Printing (input equations lengths bounds table scratch out : List ℕ) (cursor : Cursor) : Type 0 where
+  pub stands : StandsAt input (cursor .opened .known) (cursor .opened .fits) equations lengths bounds table scratch (cursor .place)
   pub more : cursor .place ≡ End → ⊥
   pub equations-room : length equations ≡ row-bytes
   pub lengths-room : length lengths ≡ row-bytes
   pub bounds-room : length bounds ≡ bound-count
   pub table-room : length table ≡ table-bytes
-  pub lines-room : length lines ≡ table-bytes
   pub scratch-room : length scratch ≡ scratch-bytes
-  pub term-room : length term ≡ term-bytes
-  pub log-room : length log ≡ log-bytes
   pub out-room : length out ≡ out-bytes

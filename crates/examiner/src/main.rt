@@ -6,6 +6,7 @@ use format::limits::Limits;
 use libc::STDIN_FILENO;
 use libc::STDOUT_FILENO;
 use pieces::next::next_piece;
+use rules::opened::Opened;
 use rules::rows::ROWS;
 use rules::walks::BOUNDS;
 use scanning::known::Known;
@@ -22,15 +23,15 @@ fn print_listing(input: &[u8]) {
     let mut lengths = [0u8; ROWS];
     let mut bounds = [0usize; BOUNDS];
     let mut table = [0u8; Limits::TABLE];
-    let mut lines = [0u8; Limits::TABLE];
     let mut scratch = [0u8; Limits::SCRATCH];
-    let mut term = [0u8; Limits::TERM];
-    let mut log = [0u8; Limits::LOG];
     let mut out = [0u8; OUT];
-    let mut cursor = Cursor {
-        place: Place::Start,
+    let opened = Opened {
         known: Known::nothing(),
         fits: false,
+    };
+    let mut cursor = Cursor {
+        place: Place::Start,
+        opened: opened,
     };
     loop {
         let listed = next_piece(
@@ -40,10 +41,7 @@ fn print_listing(input: &[u8]) {
             &mut lengths,
             &mut bounds,
             &mut table,
-            &mut lines,
             &mut scratch,
-            &mut term,
-            &mut log,
             &mut out,
         );
         let bytes = listed.bytes;

@@ -14,6 +14,7 @@ use reading::seek::find_task;
 use rules::rows::ROWS;
 use rules::rows::store_equations;
 use scanning::known::Known;
+use scanning::text::Span;
 ghost use mathlib.Core.Path.{_≡_};
 ghost use mathlib.Core.Bool.{true};
 ghost use mathlib.Core.List.{List};
@@ -28,12 +29,11 @@ ghost use Rattle.outcomes.specs.Outcome.{judge-answer};
 ghost use Rattle.reducing.specs.Test.{holding-line, given-values};
 ghost use Rattle.judge_task.specs.Contracts.JudgeTask.{JudgementIn, HasJudgement, ValuesIn, HasValues, JudgedIn, HasJudged, JudgedNumber};
 
-// The first line that holds at the values that the digits from `from` to `end` write, over the kept lines of the judged rule.
+// The first line that holds at the values that the digits write, over the kept lines of the judged rule.
 pub fn judge_values(
     sheet: &[u8],
     known: Known,
-    from: usize,
-    end: usize,
+    digits: Span,
     equations: &[u8],
     lengths: &[u8],
     rule: usize,
@@ -41,8 +41,8 @@ pub fn judge_values(
     filled: usize,
     scratch: &mut [u8],
 ) -> usize
-    requires { ⌜ HasValues (now sheet) known from end (now equations) (now lengths) rule (now table) filled × (scratch-bytes ≤ length (now scratch)) ⌝ }
-    ensures { λ r. ⌜ ((i : ℕ) (e : Equation) (d : Direction) (ts : Terms) → ValuesIn (now (sheet .entry)) known from end (now (equations .entry)) (now (lengths .entry)) rule (now (table .entry)) filled i e d ts → r ≡ holding-line e d (given-values ts)) ⌝ }
+    requires { ⌜ HasValues (now sheet) known (digits .from) (digits .end) (now equations) (now lengths) rule (now table) filled × (scratch-bytes ≤ length (now scratch)) ⌝ }
+    ensures { λ r. ⌜ ((i : ℕ) (e : Equation) (d : Direction) (ts : Terms) → ValuesIn (now (sheet .entry)) known (digits .from) (digits .end) (now (equations .entry)) (now (lengths .entry)) rule (now (table .entry)) filled i e d ts → r ≡ holding-line e d (given-values ts)) ⌝ }
     ensures { λ _. ⌜ drop scratch-bytes (now (scratch .exit)) ≡ drop scratch-bytes (now (scratch .entry)) ⌝ }
 {
     let mut nodes = [0u8; Limits::NODES];
@@ -50,8 +50,8 @@ pub fn judge_values(
     let arities = known.arities;
     let n = load_terms(
         sheet,
-        from,
-        end,
+        digits.from,
+        digits.end,
         &arities[..known.symbols],
         &mut nodes,
         &mut sizes,
@@ -73,12 +73,11 @@ pub fn judge_values(
     )
 }
 
-// The number that judge returns: the refusal of a walk, or whether a line holds at the values that the digits from `from` to `end` write, and the first that does.
+// The number that judge returns: the refusal of a walk, or whether a line holds at the values that the digits write, and the first that does.
 fn judge_walked(
     sheet: &[u8],
     known: Known,
-    from: usize,
-    end: usize,
+    digits: Span,
     equations: &[u8],
     lengths: &[u8],
     rule: usize,
@@ -86,8 +85,8 @@ fn judge_walked(
     table: &[u8],
     scratch: &mut [u8],
 ) -> u64
-    requires { ⌜ HasJudged (now sheet) known from end (now equations) (now lengths) rule judged (now table) × (scratch-bytes ≤ length (now scratch)) ⌝ }
-    ensures { λ r. ⌜ ((es : List Equation) (i : ℕ) (e : Equation) (d : Direction) (ts : Terms) → JudgedIn (now (sheet .entry)) known from end (now (equations .entry)) (now (lengths .entry)) rule judged (now (table .entry)) es i e d ts → JudgedNumber judged e d (given-values ts) r) ⌝ }
+    requires { ⌜ HasJudged (now sheet) known (digits .from) (digits .end) (now equations) (now lengths) rule judged (now table) × (scratch-bytes ≤ length (now scratch)) ⌝ }
+    ensures { λ r. ⌜ ((es : List Equation) (i : ℕ) (e : Equation) (d : Direction) (ts : Terms) → JudgedIn (now (sheet .entry)) known (digits .from) (digits .end) (now (equations .entry)) (now (lengths .entry)) rule judged (now (table .entry)) es i e d ts → JudgedNumber judged e d (given-values ts) r) ⌝ }
     ensures { λ _. ⌜ drop scratch-bytes (now (scratch .exit)) ≡ drop scratch-bytes (now (scratch .entry)) ⌝ }
 {
     match judged {
@@ -99,8 +98,7 @@ fn judge_walked(
             let line = judge_values(
                 sheet,
                 known,
-                from,
-                end,
+                digits,
                 equations,
                 lengths,
                 rule,
@@ -134,11 +132,14 @@ fn judge_found(
     let mut lengths = [0u8; ROWS];
     store_equations(sheet, known, &mut equations, &mut lengths);
     let judged = walk_judged(&equations, &lengths, known.equations, rule, table, scratch);
+    let digits = Span {
+        from: from,
+        end: end,
+    };
     let number = judge_walked(
         sheet,
         known,
-        from,
-        end,
+        digits,
         &equations,
         &lengths,
         rule,

@@ -66,10 +66,10 @@ module _ (input : List ℕ) (known : Known) (a : Accepts input known) (equations
     equation-low {why} {number} e = let (s, r, k) = a in let x = refusal-low 0 (s .equations) (record { refusal = why; line = number + 2 }) (subst (WalksAs (s .equations) bounds table) e walked) in omega (arith, rows s r .few)
 
 abbrev refusal-piece : Known → ℕ → Listed
-refusal-piece known bytes = record { cursor = record { place = End; known = known; fits = false }; bytes = bytes }
+refusal-piece known bytes = record { cursor = record { place = End; opened = record { known = known; fits = false } }; bytes = bytes }
 
 abbrev opening-piece : Known → Bool → Listed
-opening-piece known fits = record { cursor = record { place = Table 0; known = known; fits = fits }; bytes = 0 }
+opening-piece known fits = record { cursor = record { place = Table 0; opened = record { known = known; fits = fits } }; bytes = 0 }
 
 module _ {input equations lengths bounds table scratch out : List ℕ} where
   -- A refusal is printed, and nothing is left.

@@ -6,6 +6,7 @@ use format::limits::Limits;
 use frames::fixed::put_refusal;
 use reading::read::SheetStatus;
 use reading::read::read_sheet;
+use rules::opened::Opened;
 use rules::rows::store_equations;
 use rules::walks::Walks;
 use rules::walks::keep_rules;
@@ -23,13 +24,16 @@ ghost use Rattle.frames.specs.Contracts.Room.{refusal-room};
 
 // Nothing is left to print behind a refusal.
 fn refused(known: Known, bytes: usize) -> Listed
-    ensures { λ r. ⌜ r ≡ record { cursor = record { place = Place.End; known = known; fits = false }; bytes = bytes } ⌝ }
+    ensures { λ r. ⌜ r ≡ record { cursor = record { place = Place.End; opened = record { known = known; fits = false } }; bytes = bytes } ⌝ }
 {
+    let opened = Opened {
+        known: known,
+        fits: false,
+    };
     Listed {
         cursor: Cursor {
             place: Place::End,
-            known: known,
-            fits: false,
+            opened: opened,
         },
         bytes: bytes,
     }
@@ -37,13 +41,16 @@ fn refused(known: Known, bytes: usize) -> Listed
 
 // The table of the first rule comes next.
 fn opened(known: Known, fits: bool) -> Listed
-    ensures { λ r. ⌜ r ≡ record { cursor = record { place = Place.Table 0; known = known; fits = fits }; bytes = 0 } ⌝ }
+    ensures { λ r. ⌜ r ≡ record { cursor = record { place = Place.Table 0; opened = record { known = known; fits = fits } }; bytes = 0 } ⌝ }
 {
+    let opened = Opened {
+        known: known,
+        fits: fits,
+    };
     Listed {
         cursor: Cursor {
             place: Place::Table(0),
-            known: known,
-            fits: fits,
+            opened: opened,
         },
         bytes: 0,
     }

@@ -37,7 +37,7 @@ use Rattle.tasks.specs.declared.task.TaskListed.{TaskListed}
 use Rattle.tasks.specs.Contracts.Task.{TaskGiven}
 
 abbrev moved-to : Known → Bool → Place → ℕ → Listed
-moved-to known fits place bytes = record { cursor = record { place = place; known = known; fits = fits }; bytes = bytes }
+moved-to known fits place bytes = record { cursor = record { place = place; opened = record { known = known; fits = fits } }; bytes = bytes }
 
 -- A rule that is not behind the last one.
 pub table-low : {rule n : ℕ} {m : ℕ} → rule ≤ 2 * n → m ≡ n → (rule ≡ m + m → ⊥) → rule < 2 * n

@@ -3,7 +3,7 @@ use cursor::place::Cursor;
 use cursor::place::Listed;
 use cursor::place::Place;
 use frames::fixed::put_total;
-use scanning::known::Known;
+use rules::opened::Opened;
 use tables::table::list_lines;
 use tables::table::list_table;
 use tasks::task::list_task;
@@ -11,21 +11,20 @@ ghost use mathlib.Core.Path.{_≡_};
 ghost use mathlib.Core.List.{List};
 ghost use Prim.Native.Nat.{ℕ, _≤_};
 ghost use lib.ListN.{length};
-ghost use Rattle.format.specs.Limits.{table-bytes, scratch-bytes, term-bytes, log-bytes};
+ghost use Rattle.format.specs.Limits.{table-bytes, scratch-bytes};
 ghost use Rattle.sheet.specs.Sheet.{Sheet};
 ghost use Rattle.frames.specs.Contracts.Room.{line-room};
 ghost use Rattle.cursor.specs.Contracts.Stands.{Ready, AtPlace, Progress};
 ghost use Rattle.places.specs.Contracts.Step.{HasPlace};
 
 // The cursor at another place, and how many bytes stand in the buffer.
-fn moved(known: Known, fits: bool, place: Place, bytes: usize) -> Listed
-    ensures { λ r. ⌜ r ≡ record { cursor = record { place = place; known = known; fits = fits }; bytes = bytes } ⌝ }
+fn moved(opened: Opened, place: Place, bytes: usize) -> Listed
+    ensures { λ r. ⌜ r ≡ record { cursor = record { place = place; opened = opened }; bytes = bytes } ⌝ }
 {
     Listed {
         cursor: Cursor {
             place: place,
-            known: known,
-            fits: fits,
+            opened: opened,
         },
         bytes: bytes,
     }
@@ -34,31 +33,30 @@ fn moved(known: Known, fits: bool, place: Place, bytes: usize) -> Listed
 // The table of a rule, or the first task behind the last rule.
 pub fn from_table(
     input: &[u8],
-    known: Known,
-    fits: bool,
+    opened: Opened,
     rule: usize,
     equations: &[u8],
     lengths: &[u8],
     scratch: &mut [u8],
     out: &mut [u8],
 ) -> Listed
-    requires { ⌜ HasPlace (now input) known fits (now equations) (now lengths) (now scratch) (Place.Table rule) ⌝ }
+    requires { ⌜ HasPlace (now input) (opened .known) (opened .fits) (now equations) (now lengths) (now scratch) (Place.Table rule) ⌝ }
     requires { ⌜ (scratch-bytes ≤ length (now scratch)) × (line-room ≤ length (now out)) ⌝ }
-    ensures { λ r. ⌜ ((bounds table : List ℕ) (s : Sheet) → Ready (now (input .entry)) known fits (now (equations .entry)) (now (lengths .entry)) bounds table s → AtPlace s (now (scratch .entry)) (Place.Table rule) → Progress (now (input .entry)) (Place.Table rule) (now (equations .entry)) (now (lengths .entry)) bounds table (now (scratch .exit)) (now (out .exit)) r) ⌝ }
+    ensures { λ r. ⌜ ((bounds table : List ℕ) (s : Sheet) → Ready (now (input .entry)) (opened .known) (opened .fits) (now (equations .entry)) (now (lengths .entry)) bounds table s → AtPlace s (now (scratch .entry)) (Place.Table rule) → Progress (now (input .entry)) (Place.Table rule) (now (equations .entry)) (now (lengths .entry)) bounds table (now (scratch .exit)) (now (out .exit)) r) ⌝ }
 {
+    let known = opened.known;
     if rule == known.equations + known.equations {
-        return moved(known, fits, Place::Task(0, 0), 0);
+        return moved(opened, Place::Task(0, 0), 0);
     }
     let piece = list_table(rule, equations, lengths, scratch, out);
     let place = piece.place;
-    moved(known, fits, place, piece.bytes)
+    moved(opened, place, piece.bytes)
 }
 
 // Lines of a rule, or the table of the next rule behind the last line.
 pub fn from_line(
     input: &[u8],
-    known: Known,
-    fits: bool,
+    opened: Opened,
     rule: usize,
     line: usize,
     lines: usize,
@@ -67,66 +65,58 @@ pub fn from_line(
     scratch: &[u8],
     out: &mut [u8],
 ) -> Listed
-    requires { ⌜ HasPlace (now input) known fits (now equations) (now lengths) (now scratch) (Place.Line rule line lines) ⌝ }
+    requires { ⌜ HasPlace (now input) (opened .known) (opened .fits) (now equations) (now lengths) (now scratch) (Place.Line rule line lines) ⌝ }
     requires { ⌜ line-room ≤ length (now out) ⌝ }
-    ensures { λ r. ⌜ ((bounds table : List ℕ) (s : Sheet) → Ready (now (input .entry)) known fits (now (equations .entry)) (now (lengths .entry)) bounds table s → AtPlace s (now (scratch .entry)) (Place.Line rule line lines) → Progress (now (input .entry)) (Place.Line rule line lines) (now (equations .entry)) (now (lengths .entry)) bounds table (now (scratch .entry)) (now (out .exit)) r) ⌝ }
+    ensures { λ r. ⌜ ((bounds table : List ℕ) (s : Sheet) → Ready (now (input .entry)) (opened .known) (opened .fits) (now (equations .entry)) (now (lengths .entry)) bounds table s → AtPlace s (now (scratch .entry)) (Place.Line rule line lines) → Progress (now (input .entry)) (Place.Line rule line lines) (now (equations .entry)) (now (lengths .entry)) bounds table (now (scratch .entry)) (now (out .exit)) r) ⌝ }
 {
     if line == lines {
-        return moved(known, fits, Place::Table(rule + 1), 0);
+        return moved(opened, Place::Table(rule + 1), 0);
     }
     let listed = list_lines(rule, line, lines, equations, lengths, scratch, out);
-    moved(
-        known,
-        fits,
-        Place::Line(rule, listed.line, lines),
-        listed.bytes,
-    )
+    moved(opened, Place::Line(rule, listed.line, lines), listed.bytes)
+}
+
+// The tasks that are printed, and the steps of their runs.
+pub struct Done {
+    pub tasks: usize,
+    pub steps: usize,
 }
 
 // A task, or the last frame behind the last task.
 pub fn from_task(
     input: &[u8],
-    known: Known,
-    fits: bool,
-    task: usize,
-    steps: usize,
+    opened: Opened,
+    done: Done,
     equations: &[u8],
     lengths: &[u8],
     bounds: &[usize],
     table: &mut [u8],
-    lines: &mut [u8],
     scratch: &mut [u8],
-    term: &mut [u8],
-    log: &mut [u8],
     out: &mut [u8],
 ) -> Listed
-    requires { ⌜ ((s : Sheet) × Ready (now input) known fits (now equations) (now lengths) (now bounds) (now table) s × AtPlace s (now scratch) (Place.Task task steps)) ⌝ }
-    requires { ⌜ (table-bytes ≤ length (now table)) × (table-bytes ≤ length (now lines)) × (scratch-bytes ≤ length (now scratch)) × (term-bytes ≤ length (now term)) × (log-bytes ≤ length (now log)) × (line-room ≤ length (now out)) ⌝ }
-    ensures { λ r. ⌜ Progress (now (input .entry)) (Place.Task task steps) (now (equations .entry)) (now (lengths .entry)) (now (bounds .entry)) (now (table .exit)) (now (scratch .exit)) (now (out .exit)) r ⌝ }
+    requires { ⌜ ((s : Sheet) × Ready (now input) (opened .known) (opened .fits) (now equations) (now lengths) (now bounds) (now table) s × AtPlace s (now scratch) (Place.Task (done .tasks) (done .steps))) ⌝ }
+    requires { ⌜ (table-bytes ≤ length (now table)) × (scratch-bytes ≤ length (now scratch)) × (line-room ≤ length (now out)) ⌝ }
+    ensures { λ r. ⌜ Progress (now (input .entry)) (Place.Task (done .tasks) (done .steps)) (now (equations .entry)) (now (lengths .entry)) (now (bounds .entry)) (now (table .exit)) (now (scratch .exit)) (now (out .exit)) r ⌝ }
 {
-    if task == known.tasks {
-        let bytes = put_total(steps, out, 0);
-        return moved(known, fits, Place::End, bytes);
+    let known = opened.known;
+    if done.tasks == known.tasks {
+        let bytes = put_total(done.steps, out, 0);
+        return moved(opened, Place::End, bytes);
     }
     let listed = list_task(
         input,
-        known,
-        task,
+        opened,
+        done.tasks,
         equations,
         lengths,
         bounds,
-        fits,
         table,
-        lines,
         scratch,
-        term,
-        log,
         out,
     );
     moved(
-        known,
-        fits,
-        Place::Task(task + 1, steps + listed.steps),
+        opened,
+        Place::Task(done.tasks + 1, done.steps + listed.steps),
         listed.bytes,
     )
 }

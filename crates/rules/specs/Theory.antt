@@ -3,3 +3,4 @@ pub mod Proper
 pub mod Rows
 pub mod Kept
 pub mod Front
+pub mod Walks

@@ -1,7 +1,7 @@
 -- A run: the definition's, its log, and what holds before each search.
 use Prim.Native.Nat.{ℕ, zero, suc, _+_, _-_, _*_, _/_, _%_, _≤_, _<_}
 use mathlib.Core.Path.{_≡_, refl, sym, ap, subst, _∙_}
-use mathlib.Core.Bool.{Bool, true, false}
+use mathlib.Core.Bool.{Bool, true}
 use mathlib.Core.Option.{none, some}
 use mathlib.Core.List.{List, [], _∷_, _++_, append-assoc, append-nil}
 use native.Mathlib.Omega.{arith}
@@ -21,6 +21,7 @@ use Rattle.reducing.specs.Theory.Runs.{stopped, at-limit, unless-large, below-l
 use Rattle.reducing.specs.Theory.Rules.{rule-parts}
 use Rattle.outcomes.specs.Outcome.{log-of}
 use Rattle.outcomes.specs.Theory.Outcomes.{length-log}
+use Rattle.rules.specs.Theory.Walks.{lines-stay}
 use Rattle.step_take.specs.Contracts.Replacing.{ReplacedAs}
 use Rattle.step_take.specs.declared.part.Replaced.the-variants.{TooLarge}
 use Rattle.step_by_position.specs.Contracts.Searching.{StepAt}
@@ -32,12 +33,11 @@ use Rattle.run_steps.specs.Contracts.Course.{CourseIs}
 -- 1. The next search goes by the same rules, and by the same subject in the nodes that a search left.
 module _ {equations lengths : List ℕ} {rules : ℕ} {bounds next : List ℕ} {fits : Bool} {table nodes sizes : List ℕ} {n : ℕ} {arities : List ℕ} {es : List Equation} {subject : Term}
     (is : RunIs equations lengths rules bounds next fits table nodes sizes n arities es subject) {table′ : List ℕ} where
-  ready-kept : (b : Bool) → (b ≡ true → table′ ≡ table) → RulesReady equations lengths rules bounds next b table arities es → RulesReady equations lengths rules bounds next b table′ arities es
-  ready-kept true h r = subst (λ t. RulesReady equations lengths rules bounds next true t arities es) (sym (h refl)) r
-  ready-kept false h r = r
+  ready-kept : (fits ≡ true → table′ ≡ table) → RulesReady rules bounds next fits table′ es
+  ready-kept h = record { lines = lines-stay fits bounds es h (is .ready .lines); bounds-length = is .ready .bounds-length; next-is = is .ready .next-is }
 
   pub run-kept : {nodes′ sizes′ : List ℕ} {n′ : ℕ} {subject′ : Term} → (fits ≡ true → table′ ≡ table) → SubjectIs nodes′ sizes′ arities subject′ → n′ ≡ size subject′ → RunIs equations lengths rules bounds next fits table′ nodes′ sizes′ n′ arities es subject′
-  run-kept h s x = record { rows = is .rows; counted = is .counted; ready = ready-kept fits h (is .ready); subject-is = s; size-is = x }
+  run-kept h s x = record { rows = is .rows; counted = is .counted; ready = ready-kept h; subject-is = s; size-is = x }
 
 -- 2. The definition's run, by what is found before its first step.
 module _ (c : Term) (es : List Equation) where
@@ -115,7 +115,7 @@ module _ {equations lengths : List ℕ} {rules : ℕ} {bounds next : List ℕ} {
   module _ {es : List Equation} {subject : Term} {table nodes sizes log : List ℕ} {n steps : ℕ} (h : Halfway equations lengths rules bounds next fits arities limit log₀ es subject table nodes sizes log n steps) where
     -- 5. The endings.
     ended : {nodes′ sizes′ : List ℕ} (ending : Ending) → line-run (filling arities) es (limit - steps) (h .current) ≡ stopped ending → SubjectIs nodes′ sizes′ arities (h .current)
-        → CourseIs arities es limit subject nodes′ sizes′ log₀ log (record { steps = steps; ending = ending; size = n })
+        → CourseIs arities es limit subject log₀ log (record { steps = steps; ending = ending; size = n; nodes = nodes′ })
     unfolding last-term
     ended {nodes′} {sizes′} ending x s =
         let whole : line-run (filling arities) es limit subject ≡ steps-then (h .done) (stopped ending) = h .goes-on ∙ ap (steps-then (h .done)) x in
@@ -126,22 +126,23 @@ module _ {equations lengths : List ℕ} {rules : ℕ} {bounds next : List ℕ} {
           steps-are = h .counted ∙ ap length (sym same);
           ending-is = sym (ap (λ r. r .ending) whole);
           size-is = h .is .size-is ∙ ap size (sym final);
+          sizes = sizes′;
           last-is = subst (SubjectIs nodes′ sizes′ arities) (sym final) s;
           logged = h .logged ∙ ap (λ l. written (log-of l) log₀) (sym same);
         }
 
     module _ {nodes′ sizes′ : List ℕ} (s : SubjectIs nodes′ sizes′ arities (h .current)) where
-      pub none-ends : step (filling arities) line-test es (h .current) ≡ none → CourseIs arities es limit subject nodes′ sizes′ log₀ log (record { steps = steps; ending = none-found; size = n })
+      pub none-ends : step (filling arities) line-test es (h .current) ≡ none → CourseIs arities es limit subject log₀ log (record { steps = steps; ending = none-found; size = n; nodes = nodes′ })
       none-ends x = ended none-found (run-without (filling arities) es (limit - steps) (h .current) x) s
 
       module _ {rule node : ℕ} (found : StepAt arities es (h .current) rule node) where
-        pub limit-ends : steps ≡ limit → CourseIs arities es limit subject nodes′ sizes′ log₀ log (record { steps = steps; ending = limit-reached; size = n })
+        pub limit-ends : steps ≡ limit → CourseIs arities es limit subject log₀ log (record { steps = steps; ending = limit-reached; size = n; nodes = nodes′ })
         limit-ends x =
             let none-left : limit - steps ≡ 0 = omega arith in
             ended limit-reached (ap (λ k. line-run (filling arities) es k (h .current)) none-left ∙ run-at-limit (filling arities) es (h .current) (found .this) (found .first)) s
 
         pub size-ends : (nodes″ sizes″ : List ℕ) → steps < limit → ReplacedAs arities nodes′ sizes′ nodes″ sizes″ (found .this .result) TooLarge
-            → CourseIs arities es limit subject nodes″ sizes″ log₀ log (record { steps = steps; ending = result-too-large; size = n })
+            → CourseIs arities es limit subject log₀ log (record { steps = steps; ending = result-too-large; size = n; nodes = nodes″ })
         size-ends nodes″ sizes″ x (large, a, b) =
             let more-left : limit - steps ≡ suc (limit - (steps + 1)) = omega arith in
             let left-as-is : SubjectIs nodes″ sizes″ arities (h .current) = subst (λ l. SubjectIs l sizes″ arities (h .current)) (sym a) (subst (λ l. SubjectIs nodes′ l arities (h .current)) (sym b) s) in

@@ -20,15 +20,16 @@ use Rattle.sheet.specs.Sheet.{Task, run, judgement, comparison, Sheet}
 use Rattle.sheet.specs.Reading.{accepted, read}
 use Rattle.sheet.specs.Contracts.Valid.{ValidTask}
 use Rattle.sheet.specs.Theory.Accepted.{accepted-valid}
-use Rattle.reducing.specs.Walks.{equation-line, first-refusal}
 use Rattle.scanning.specs.declared.known.Known.{Known}
 use Rattle.scanning.specs.Contracts.Scan.{known-arities}
 use Rattle.reading.specs.declared.seek.TaskFound.{TaskFound}
 use Rattle.reading.specs.declared.seek.TaskHead.the-variants.{Run, Judgement, Comparison}
 use Rattle.reading.specs.Contracts.Seek.{Accepts, TaskIn, TaskAt, Spans, task-terms}
 use Rattle.reading.specs.Theory.Found.{task-asked, is-run, is-judgement, is-comparison}
+use Rattle.reducing.specs.Run.{ending-number}
+use Rattle.reducing.specs.Walks.{equation-line, first-refusal}
 use Rattle.reading.specs.Contracts.Loading.{TermsIn}
-use Rattle.outcomes.specs.Buffer.{refusal-number, cleared, blanked}
+use Rattle.outcomes.specs.Buffer.{fields, refusal-number, cleared, blanked}
 use Rattle.outcomes.specs.Asked.{found, find, asked, reduction-in, reduction-task}
 use Rattle.reducing.specs.Theory.Walks.{refusal-low}
 use Rattle.outcomes.specs.Outcome.{RunOutcome, run-done, run-walked, run-answer}
@@ -38,7 +39,9 @@ use Rattle.rules.specs.declared.walks.Walks.{Walks}
 use Rattle.rules.specs.declared.walks.Walks.the-variants.{Refused, Full, Kept}
 use Rattle.rules.specs.Contracts.Rows.{RowsAre, bound-count}
 use Rattle.rules.specs.Contracts.Walks.{WalksAs, LinesReady}
-use Rattle.run_term.specs.Contracts.RunTerm.{RunTermIs, Ran}
+use Rattle.run_steps.specs.declared.course.Course.{Course}
+use Rattle.run_steps.specs.Contracts.Course.{the-run}
+use Rattle.run_term.specs.Contracts.RunTerm.{RunTermIs, RunCourse, Ran}
 use Rattle.run_task.specs.Contracts.RunTask.{fit-together, RanAs, ReductionIn}
 
 -- 1. The walks.
@@ -57,6 +60,19 @@ pub ran-as : {arities : List ℕ} {es : List Equation} {k : ℕ} {subject : Term
 ran-as (Refused why number) other d = absurd (other why number refl)
 ran-as Full other d = d
 ran-as Kept other d = d
+
+-- The run of a term, and the number that is made of it.
+pub number-ran : {arities : List ℕ} {es : List Equation} {k : ℕ} {subject : Term} {term term-after log log-after : List ℕ} {c : Course} (r : ℕ) → RunCourse arities es k subject term term-after log log-after c
+    → r ≡ fields (c .steps) (ending-number (c .ending)) (c .size) → Ran arities es k subject term term-after log log-after r
+number-ran {arities} {es} {k} {subject} {c = c} r i z = record {
+  returned =
+      z
+      ∙ ap (λ s. fields s (ending-number (c .ending)) (c .size)) (i .steps-are)
+      ∙ ap (λ m. fields (length (the-run arities es k subject .steps)) m (c .size)) (ap ending-number (i .ending-is))
+      ∙ ap (λ m. fields (length (the-run arities es k subject .steps)) (ending-number (the-run arities es k subject .ending)) m) (i .size-is);
+  term-is = i .term-is;
+  log-is = i .log-is;
+}
 
 pub refused-as : {walks : Walks} (arities : List ℕ) (es : List Equation) (k : ℕ) (subject : Term) (term log : List ℕ) {r : ℕ} {why : Refusal} {number : ℕ} → walks ≡ Refused why number → r ≡ refusal-number why (number + 2)
     → RanAs walks arities es k subject term term log log r

@@ -5,28 +5,26 @@ use outcomes::buffer::fill;
 use outcomes::number::refusal_number;
 use reading::seek::TaskHead;
 use reading::seek::find_task;
+use rules::opened::Opened;
 use rules::rows::ROWS;
 use rules::rows::store_equations;
 use rules::walks::BOUNDS;
 use rules::walks::Walks;
 use rules::walks::keep_rules;
-use run_term::term::run_term;
+use run_term::term::RunAsked;
+use run_term::term::course_number;
+use run_term::term::run_course;
 use scanning::known::Known;
 ghost use mathlib.Core.Path.{_≡_};
 ghost use mathlib.Core.Bool.{true};
-ghost use mathlib.Core.List.{List};
 ghost use Prim.Native.Nat.{ℕ, _≤_};
-ghost use lib.ListN.{length, drop};
-ghost use Rattle.format.specs.Limits.{max-steps, table-bytes, scratch-bytes, term-bytes, log-bytes};
-ghost use Rattle.terms.specs.Term.{Term};
-ghost use Rattle.terms.specs.Equation.{Equation};
-ghost use Rattle.scanning.specs.Contracts.Scan.{known-arities};
+ghost use lib.ListN.{length};
+ghost use Rattle.format.specs.Limits.{no-position, table-bytes, scratch-bytes, term-bytes, log-bytes};
 ghost use Rattle.reading.specs.Contracts.Seek.{Accepts};
+ghost use Rattle.outcomes.specs.Buffer.{filled};
 ghost use Rattle.outcomes.specs.Asked.{asked, reduction-task};
 ghost use Rattle.outcomes.specs.Outcome.{run-answer};
-ghost use Rattle.rules.specs.Contracts.Walks.{WalksAs};
-ghost use Rattle.run_term.specs.Contracts.RunTerm.{RunTermIs};
-ghost use Rattle.run_task.specs.Contracts.RunTask.{fit-together, HasWalked, RanAs, ReductionIn, HasReduction};
+ghost use Rattle.run_task.specs.Contracts.RunTask.{fit-together, ReductionIn, HasReduction};
 
 // Whether the lines of all rules fit the table together.
 fn lines_fit(walks: Walks) -> bool
@@ -39,46 +37,13 @@ fn lines_fit(walks: Walks) -> bool
     }
 }
 
-// The run of the term that the digits from `from` to `end` write, if no walk is refused.
-fn run_walked(
-    sheet: &[u8],
-    known: Known,
-    limit: usize,
-    from: usize,
-    end: usize,
-    equations: &[u8],
-    lengths: &[u8],
-    bounds: &[usize],
-    walks: Walks,
-    table: &mut [u8],
-    scratch: &mut [u8],
-    term: &mut [u8],
-    log: &mut [u8],
-) -> u64
-    requires { ⌜ HasWalked (now sheet) known from end (now equations) (now lengths) (now bounds) walks (now table) × (limit ≤ max-steps) ⌝ }
-    requires { ⌜ (table-bytes ≤ length (now table)) × (scratch-bytes ≤ length (now scratch)) × (term-bytes ≤ length (now term)) × (log-bytes ≤ length (now log)) ⌝ }
-    ensures { λ r. ⌜ ((es : List Equation) (subject : Term) → RunTermIs (now (sheet .entry)) known from end (now (equations .entry)) (now (lengths .entry)) (now (bounds .entry)) es subject → WalksAs es (now (bounds .entry)) (now (table .entry)) walks → RanAs walks (known-arities known) es limit subject (now (term .entry)) (now (term .exit)) (now (log .entry)) (now (log .exit)) r) ⌝ }
-    ensures { λ _. ⌜ drop table-bytes (now (table .exit)) ≡ drop table-bytes (now (table .entry)) ⌝ }
-    ensures { λ _. ⌜ drop scratch-bytes (now (scratch .exit)) ≡ drop scratch-bytes (now (scratch .entry)) ⌝ }
+// What run leaves in the table and in scratch: ff, and 00.
+fn clear(table: &mut [u8], scratch: &mut [u8])
+    requires { ⌜ (table-bytes ≤ length (now table)) × (scratch-bytes ≤ length (now scratch)) ⌝ }
+    ensures { λ _. ⌜ (now (table .exit) ≡ filled table-bytes no-position (now (table .entry))) × (now (scratch .exit) ≡ filled scratch-bytes 0 (now (scratch .entry))) ⌝ }
 {
-    if let Walks::Refused(why, equation) = walks {
-        return refusal_number(why, equation + Limits::FIRST_EQUATION_LINE);
-    }
-    run_term(
-        sheet,
-        known,
-        limit,
-        from,
-        end,
-        equations,
-        lengths,
-        bounds,
-        lines_fit(walks),
-        table,
-        scratch,
-        term,
-        log,
-    )
+    fill(table, Limits::TABLE, Limits::NO_POSITION);
+    fill(scratch, Limits::SCRATCH, 0);
 }
 
 // Run on a task that is a run.
@@ -109,24 +74,33 @@ fn run_found(
         table,
         scratch,
     );
-    let number = run_walked(
+    if let Walks::Refused(why, equation) = walks {
+        clear(table, scratch);
+        return refusal_number(why, equation + Limits::FIRST_EQUATION_LINE);
+    }
+    let opened = Opened {
+        known: known,
+        fits: lines_fit(walks),
+    };
+    let asked = RunAsked {
+        opened: opened,
+        limit: limit,
+        from: from,
+        end: end,
+    };
+    let course = run_course(
         sheet,
-        known,
-        limit,
-        from,
-        end,
+        asked,
         &equations,
         &lengths,
         &bounds,
-        walks,
         table,
         scratch,
         term,
         log,
     );
-    fill(table, Limits::TABLE, Limits::NO_POSITION);
-    fill(scratch, Limits::SCRATCH, 0);
-    number
+    clear(table, scratch);
+    course_number(course)
 }
 
 // Run on an accepted sheet.

@@ -1,6 +1,6 @@
 -- Laws for the run of a task's term: what its code hands on, and what it gives.
 use Prim.Native.Nat.{ℕ, _+_, _-_, _≤_}
-use mathlib.Core.Path.{_≡_, refl, sym, ap, subst, _∙_}
+use mathlib.Core.Path.{_≡_, sym, ap, subst, _∙_}
 use mathlib.Core.Bool.{Bool, true, false}
 use mathlib.Core.List.{List}
 use lib.ListN.{length, take, drop, length-drop}
@@ -17,18 +17,16 @@ use Rattle.terms.specs.Theory.Prefix.{length-prefix}
 use Rattle.scanning.specs.declared.known.Known.{Known}
 use Rattle.scanning.specs.Contracts.Scan.{known-arities}
 use Rattle.reading.specs.Contracts.Loading.{TermsIn, HasTermsIn, Loaded}
-use Rattle.reducing.specs.Run.{ending-number}
 use Rattle.reducing.specs.Test.{line-test, line-run}
 use Rattle.reducing.specs.Theory.Runs.{run-few}
-use Rattle.outcomes.specs.Buffer.{fields}
 use Rattle.rules.specs.Contracts.Rows.{RowsAre}
 use Rattle.rules.specs.Contracts.Walks.{RulesAt, LinesReady}
 use Rattle.step_by_position.specs.Contracts.Next.{NextIs, RulesKept, HasRulesKept}
 use Rattle.step_search.specs.Contracts.Seeking.{RulesReady, RunIs}
 use Rattle.run_steps.specs.declared.course.Course.{Course}
-use Rattle.run_steps.specs.Contracts.Course.{CourseIs, the-run, last-of}
+use Rattle.run_steps.specs.Contracts.Course.{CourseIs, last-of}
 use Rattle.scanning.specs.Theory.Arities.{symbols-room, symbols-taken, arities-taken}
-use Rattle.run_term.specs.Contracts.RunTerm.{RunTermIs, RunCourse, Ran}
+use Rattle.run_term.specs.Contracts.RunTerm.{RunTermIs, RunCourse}
 
 -- 1. What the run starts from.
 abbrev taken-arities : Known → List ℕ
@@ -67,9 +65,12 @@ module _ {sheet : List ℕ} {known : Known} {from end : ℕ} {equations lengths 
 
   rules-ready : (fits : Bool) (table next : List ℕ) → LinesReady fits bounds table es
       → NextReady fits table next
-      → RulesReady equations lengths rule-count bounds next fits table (taken-arities known) es
-  rules-ready true table next r h = let k = rules-kept table r in (k, h refl (taken-arities known) es k)
-  rules-ready false table next r h = r
+      → RulesReady rule-count bounds next fits table es
+  rules-ready fits table next r h = record {
+    lines = r;
+    bounds-length = t .bounds-length;
+    next-is = λ e. h e (taken-arities known) es (rules-kept table (subst (λ b. LinesReady b bounds table es) e r));
+  }
 
   terms-taken : TermsIn sheet (taken-arities known) from end (cons subject nil)
   terms-taken = subst (λ a. TermsIn sheet a from end (cons subject nil)) arities-are (t .term-in)
@@ -107,8 +108,8 @@ module _ {sheet : List ℕ} {known : Known} {from end : ℕ} {equations lengths 
 abbrev subject-room : ℕ
 subject-room = node-count - position-count
 
-module _ {es : List Equation} {k : ℕ} {subject : Term} {arities nodes sizes log log-after : List ℕ} {c : Course}
-    (i : CourseIs arities es k subject nodes sizes log log-after c) where
+module _ {es : List Equation} {k : ℕ} {subject : Term} {arities log log-after : List ℕ} {c : Course}
+    (i : CourseIs arities es k subject log log-after c) where
   pub course-small : c .size ≤ max-task-nodes
   course-small = omega (arith, i .size-is, i .last-is .inside)
 
@@ -116,19 +117,19 @@ module _ {es : List Equation} {k : ℕ} {subject : Term} {arities nodes sizes lo
   unfolding line-run
   course-few h = omega (arith, i .steps-are, run-few (filling arities) line-test es k subject)
 
-  pub course-front : c .size ≤ length (take subject-room (drop position-count nodes))
+  pub course-front : c .size ≤ length (take subject-room (drop position-count (c .nodes)))
   course-front =
-      let behind : subject-room ≤ length (drop position-count nodes) = omega (arith, length-drop position-count nodes, i .last-is .nodes-length) in
-      omega (arith, course-small, length-take-le subject-room (drop position-count nodes) behind)
+      let behind : subject-room ≤ length (drop position-count (c .nodes)) = omega (arith, length-drop position-count (c .nodes), i .last-is .nodes-length) in
+      omega (arith, course-small, length-take-le subject-room (drop position-count (c .nodes)) behind)
 
-  last-bytes : take (c .size) (take subject-room (drop position-count nodes)) ≡ prefix (last-of arities es k subject)
+  last-bytes : take (c .size) (take subject-room (drop position-count (c .nodes))) ≡ prefix (last-of arities es k subject)
   last-bytes =
       let there = i .last-is .stored .stored .bytes in
-      take-take (c .size) subject-room (drop position-count nodes) (omega (arith, course-small))
+      take-take (c .size) subject-room (drop position-count (c .nodes)) (omega (arith, course-small))
       ∙ ap (take (c .size)) (there .is)
       ∙ take-at (prefix (last-of arities es k subject)) (there .rest) (c .size) (length-prefix (last-of arities es k subject) ∙ sym (i .size-is))
 
-  pub course-ran : (term term-after : List ℕ) → term-after ≡ written (take (c .size) (take subject-room (drop position-count nodes))) term → RunCourse arities es k subject term term-after log log-after c
+  pub course-ran : (term term-after : List ℕ) → term-after ≡ written (take (c .size) (take subject-room (drop position-count (c .nodes)))) term → RunCourse arities es k subject term term-after log log-after c
   course-ran term term-after x = record {
     steps-are = i .steps-are;
     few-steps = course-few;
@@ -138,15 +139,3 @@ module _ {es : List Equation} {k : ℕ} {subject : Term} {arities nodes sizes lo
     term-is = x ∙ ap (λ bs. written bs term) last-bytes;
     log-is = i .logged;
   }
-
-pub number-ran : {arities : List ℕ} {es : List Equation} {k : ℕ} {subject : Term} {term term-after log log-after : List ℕ} {c : Course} (n r : ℕ) → RunCourse arities es k subject term term-after log log-after c
-    → n ≡ ending-number (c .ending) → r ≡ fields (c .steps) n (c .size) → Ran arities es k subject term term-after log log-after r
-number-ran {arities} {es} {k} {subject} {c = c} n r i y z = record {
-  returned =
-      z
-      ∙ ap (λ s. fields s n (c .size)) (i .steps-are)
-      ∙ ap (λ m. fields (length (the-run arities es k subject .steps)) m (c .size)) (y ∙ ap ending-number (i .ending-is))
-      ∙ ap (λ m. fields (length (the-run arities es k subject .steps)) (ending-number (the-run arities es k subject .ending)) m) (i .size-is);
-  term-is = i .term-is;
-  log-is = i .log-is;
-}

@@ -15,7 +15,7 @@ use Rattle.terms.specs.Filling.{filling}
 use Rattle.terms.specs.Equation.{Equation, Direction}
 use Rattle.terms.specs.Contracts.Stored.{GroundStored, SubjectIs}
 use Rattle.terms.specs.Theory.Stored.{stored-head, ground-size}
-use Rattle.reducing.specs.Run.{try, step}
+use Rattle.reducing.specs.Run.{Step, try, step}
 use Rattle.reducing.specs.Test.{line-test}
 use Rattle.reducing.specs.Contracts.Rules.{rule-number}
 use Rattle.reducing.specs.Theory.First.{NoneAt, step-none, step-first}
@@ -26,9 +26,9 @@ use Rattle.kept_lines.specs.declared.trimmed.KeptLines.{KeptLines}
 use Rattle.rules.specs.Contracts.Rows.{bound-count}
 use Rattle.rules.specs.Contracts.Lines.{LinesAt}
 use Rattle.rules.specs.Contracts.Walks.{RuleAt}
-use Rattle.step_by_position.specs.Contracts.Next.{next-at, SearchIs, HasSearch, HasSearchAt}
+use Rattle.step_by_position.specs.Contracts.Next.{next-at, SearchIs, HasSearch}
 use Rattle.step_try.specs.Contracts.Trying.{Settled, Applies, TryIs, HasTry}
-use Rattle.step_by_position.specs.Contracts.Searching.{FirstRule, StepAt}
+use Rattle.step_by_position.specs.Contracts.Searching.{StepAt}
 use Rattle.cells.specs.Theory.Stored.{part-stored}
 
 -- The term starts with this symbol, which is one of the sheet's.
@@ -53,10 +53,26 @@ symbol-at {nodes} {sizes} {arities} {subject} {node} {p} s h e = go (part-at sub
 same-size : {nodes sizes arities others : List ℕ} {s t : Term} → SubjectIs nodes sizes arities s → SubjectIs nodes sizes others t → size s ≡ size t
 same-size a b = sym (ground-size (a .stored)) ∙ ground-size (b .stored)
 
--- All that `first_rule` goes by, and what holds before each turn of its loop: no rule that is passed can step at the node.
+-- The first rule that can step at a node; `rules` if there is none.
+pub record FirstRule (arities : List ℕ) (es : List Equation) (subject : Term) (rules node r : ℕ) : Type 0 where
+  pub within : r ≤ rules
+  pub none-earlier : (p j : ℕ) (e : Equation) (c : Direction) → node ≡ position-count + p → entry es j ≡ some e → rule-number j c < r → try (filling arities) line-test subject p (part-at subject p) j e c ≡ none
+  pub can : (p : ℕ) → node ≡ position-count + p → r < rules
+      → (i : ℕ) × (e : Equation) × (d : Direction) × (s : Step) × (r ≡ rule-number i d) × (entry es i ≡ some e) × (try (filling arities) line-test subject p (part-at subject p) i e d ≡ some s)
+
+-- All that the loop over rules goes by, and what holds before each of its turns: no rule that is passed can step at the node.
 module _ (equations lengths : List ℕ) (rules : ℕ) (bounds next table nodes sizes : List ℕ) (node : ℕ) where
   abbrev Search : List ℕ → List Equation → Term → Type 0
   Search = SearchIs equations lengths rules bounds next table nodes sizes
+
+  pub record SearchAt : Type 0 where
+    pub arities : List ℕ
+    pub those : List Equation
+    pub subject : Term
+    pub position : ℕ
+    pub is : Search arities those subject
+    pub inside : position < size subject
+    pub there : node ≡ position-count + position
 
   pub record NoneBelow (arities : List ℕ) (es : List Equation) (subject : Term) (rule : ℕ) : Type 0 where
     pub within : rule ≤ rules
@@ -72,7 +88,7 @@ module _ (equations lengths : List ℕ) (rules : ℕ) (bounds next table nodes s
 abbrev lines-of : List ℕ → ℕ → KeptLines
 lines-of bounds rule = record { from = getD bounds rule 0; end = getD bounds (rule + 1) 0 }
 
-module _ {equations lengths : List ℕ} {rules : ℕ} {bounds next table nodes sizes : List ℕ} {node : ℕ} (h : HasSearchAt equations lengths rules bounds next table nodes sizes node) where
+module _ {equations lengths : List ℕ} {rules : ℕ} {bounds next table nodes sizes : List ℕ} {node : ℕ} (h : SearchAt equations lengths rules bounds next table nodes sizes node) where
   inside-all : {arities : List ℕ} {subject : Term} {p : ℕ} → SubjectIs nodes sizes arities subject → node ≡ position-count + p → p < size subject
   inside-all s e = omega (arith, same-size s (h .is .subject-is), h .inside, h .there, e)
 
@@ -225,7 +241,7 @@ module _ {equations lengths : List ℕ} {rules : ℕ} {bounds next table nodes s
     back : node ≡ position-count + (node - position-count)
     back = omega (arith, x .low)
 
-    pub search-there : HasSearchAt equations lengths rules bounds next table nodes-now sizes-now node
+    pub search-there : SearchAt equations lengths rules bounds next table nodes-now sizes-now node
     search-there = record {
       arities = h .arities;
       those = h .those;

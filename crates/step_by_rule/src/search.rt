@@ -7,6 +7,7 @@ use rules::keep::keep_rule;
 use rules::sides::sides_of;
 use step_by_position::positions::Found;
 use step_match::side::match_side;
+use step_try::applies::KeptRule;
 use step_try::applies::applies;
 use terms::arguments::Arguments;
 ghost use mathlib.Core.Path.{_≡_};
@@ -40,17 +41,16 @@ fn first_match(equations: &[u8], side: Arguments, nodes: &[u8], sizes: &[u8], en
 fn first_applying(
     equations: &[u8],
     lengths: &[u8],
-    rule: usize,
+    kept: KeptRule,
     table: &[u8],
-    lines: KeptLines,
     nodes: &mut [u8],
     sizes: &mut [u8],
     cells: &mut [u8],
     from: usize,
     end: usize,
 ) -> usize
-    requires { ⌜ HasKeptTry (now equations) (now lengths) rule (now table) lines (now nodes) (now sizes) from end × (length (now cells) ≡ cell-count) ⌝ }
-    ensures { λ r. ⌜ ((arities : List ℕ) (i : ℕ) (e : Equation) (d : Direction) (subject : Term) → KeptTry (now (equations .entry)) (now (lengths .entry)) rule (now (table .entry)) lines (now (nodes .entry)) (now (sizes .entry)) from end arities i e d subject → FirstFor arities subject i e d end r) ⌝ }
+    requires { ⌜ HasKeptTry (now equations) (now lengths) (kept .rule) (now table) (kept .lines) (now nodes) (now sizes) from end × (length (now cells) ≡ cell-count) ⌝ }
+    ensures { λ r. ⌜ ((arities : List ℕ) (i : ℕ) (e : Equation) (d : Direction) (subject : Term) → KeptTry (now (equations .entry)) (now (lengths .entry)) (kept .rule) (now (table .entry)) (kept .lines) (now (nodes .entry)) (now (sizes .entry)) from end arities i e d subject → FirstFor arities subject i e d end r) ⌝ }
     ensures { λ _. ⌜ ((arities : List ℕ) (subject : Term) → SubjectIs (now (nodes .entry)) (now (sizes .entry)) arities subject → SubjectIs (now (nodes .exit)) (now (sizes .exit)) arities subject) ⌝ }
 {
     let mut ready = [0u8; Limits::NODES];
@@ -59,9 +59,8 @@ fn first_applying(
         if applies(
             equations,
             lengths,
-            rule,
+            kept,
             table,
-            lines,
             nodes,
             sizes,
             &mut ready,
@@ -104,12 +103,15 @@ fn first_node(
         return end;
     };
     let lines = KeptLines { from: 0, end: last };
+    let kept_rule = KeptRule {
+        rule: rule,
+        lines: lines,
+    };
     first_applying(
         equations,
         lengths,
-        rule,
+        kept_rule,
         table,
-        lines,
         nodes,
         sizes,
         &mut scratch[..Limits::CELLS],

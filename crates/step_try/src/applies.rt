@@ -19,6 +19,12 @@ ghost use Rattle.reducing.specs.Match.{Match};
 ghost use Rattle.cells.specs.Contracts.Cells.{Cleared};
 ghost use Rattle.step_try.specs.Contracts.Trying.{Settled, TryIs, HasTry, Applies, MatchedTry, HasMatchedTry, LinesTell};
 
+// A rule, and where its lines are kept in the table.
+pub struct KeptRule {
+    pub rule: usize,
+    pub lines: KeptLines,
+}
+
 // No row of cells of the equation's nodes is ready.
 fn forget_rows(ready: &mut [u8; Limits::NODES])
     requires { ⌜ position-count ≤ length (now ready) ⌝ }
@@ -45,58 +51,55 @@ fn load_row(from: &[u8], to: &mut [u8])
 fn match_holds(
     equations: &[u8],
     lengths: &[u8],
-    rule: usize,
+    kept: KeptRule,
     table: &[u8],
-    lines: KeptLines,
     nodes: &mut [u8],
     sizes: &mut [u8],
     values: &[u8; Limits::VARIABLES],
     ready: &mut [u8; Limits::NODES],
     cells: &mut [u8],
 ) -> bool
-    requires { ⌜ HasMatchedTry (now equations) (now lengths) rule (now table) lines (now nodes) (now sizes) (now values) ⌝ }
+    requires { ⌜ HasMatchedTry (now equations) (now lengths) (kept .rule) (now table) (kept .lines) (now nodes) (now sizes) (now values) ⌝ }
     requires { ⌜ Settled (now nodes) (now sizes) (now ready) (now cells) ⌝ }
-    ensures { λ r. ⌜ ((arities : List ℕ) (i : ℕ) (e : Equation) (d : Direction) (subject : Term) (m : Match) → MatchedTry (now (equations .entry)) (now (lengths .entry)) rule (now (table .entry)) lines (now (nodes .entry)) (now (sizes .entry)) (now (values .entry)) arities i e d subject m → LinesTell (filling arities) e d m r) ⌝ }
+    ensures { λ r. ⌜ ((arities : List ℕ) (i : ℕ) (e : Equation) (d : Direction) (subject : Term) (m : Match) → MatchedTry (now (equations .entry)) (now (lengths .entry)) (kept .rule) (now (table .entry)) (kept .lines) (now (nodes .entry)) (now (sizes .entry)) (now (values .entry)) arities i e d subject m → LinesTell (filling arities) e d m r) ⌝ }
     ensures { λ _. ⌜ ((arities : List ℕ) (subject : Term) → SubjectIs (now (nodes .entry)) (now (sizes .entry)) arities subject → SubjectIs (now (nodes .exit)) (now (sizes .exit)) arities subject) ⌝ }
     ensures { λ _. ⌜ Settled (now (nodes .exit)) (now (sizes .exit)) (now (ready .exit)) (now (cells .exit)) ⌝ }
 {
-    let row = rule / 2 * Limits::POSITIONS;
+    let row = kept.rule / 2 * Limits::POSITIONS;
     load_row(&equations[row..], nodes);
     load_row(&lengths[row..], sizes);
     forget_rows(ready);
-    0 < first_holding(table, lines, nodes, sizes, values, ready, cells)
+    0 < first_holding(table, kept.lines, nodes, sizes, values, ready, cells)
 }
 
 // Whether the rule, whose lines are kept, can step at `node`.
 pub fn applies(
     equations: &[u8],
     lengths: &[u8],
-    rule: usize,
+    kept: KeptRule,
     table: &[u8],
-    lines: KeptLines,
     nodes: &mut [u8],
     sizes: &mut [u8],
     ready: &mut [u8; Limits::NODES],
     cells: &mut [u8],
     node: usize,
 ) -> bool
-    requires { ⌜ HasTry (now equations) (now lengths) rule (now table) lines (now nodes) (now sizes) node ⌝ }
+    requires { ⌜ HasTry (now equations) (now lengths) (kept .rule) (now table) (kept .lines) (now nodes) (now sizes) node ⌝ }
     requires { ⌜ Settled (now nodes) (now sizes) (now ready) (now cells) ⌝ }
-    ensures { λ r. ⌜ ((arities : List ℕ) (i : ℕ) (e : Equation) (d : Direction) (subject : Term) (p : ℕ) → TryIs (now (equations .entry)) (now (lengths .entry)) rule (now (table .entry)) lines (now (nodes .entry)) (now (sizes .entry)) node arities i e d subject p → Applies (filling arities) subject p i e d r) ⌝ }
+    ensures { λ r. ⌜ ((arities : List ℕ) (i : ℕ) (e : Equation) (d : Direction) (subject : Term) (p : ℕ) → TryIs (now (equations .entry)) (now (lengths .entry)) (kept .rule) (now (table .entry)) (kept .lines) (now (nodes .entry)) (now (sizes .entry)) node arities i e d subject p → Applies (filling arities) subject p i e d r) ⌝ }
     ensures { λ _. ⌜ ((arities : List ℕ) (subject : Term) → SubjectIs (now (nodes .entry)) (now (sizes .entry)) arities subject → SubjectIs (now (nodes .exit)) (now (sizes .exit)) arities subject) ⌝ }
     ensures { λ _. ⌜ Settled (now (nodes .exit)) (now (sizes .exit)) (now (ready .exit)) (now (cells .exit)) ⌝ }
 {
     let mut values = [0u8; Limits::VARIABLES];
-    let sides = sides_of(lengths, rule);
+    let sides = sides_of(lengths, kept.rule);
     if !match_side(equations, sides.source, nodes, sizes, node, &mut values) {
         return false;
     }
     match_holds(
         equations,
         lengths,
-        rule,
+        kept,
         table,
-        lines,
         nodes,
         sizes,
         &values,

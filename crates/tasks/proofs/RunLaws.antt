@@ -1,7 +1,6 @@
 -- The frames of a run, printed from its course.
 use Prim.Native.Nat.{ℕ, _*_, _≤_}
-use mathlib.Core.Path.{_≡_, refl, sym, ap, subst, _∙_}
-use mathlib.Core.Bool.{Bool, true, false}
+use mathlib.Core.Path.{_≡_, sym, ap, _∙_}
 use mathlib.Core.List.{List, [], _∷_, _++_, map}
 use lib.ListN.{length, take, drop}
 use lib.Seq.{take-at}
@@ -19,18 +18,12 @@ use Rattle.run_steps.specs.declared.course.Course.{Course}
 use Rattle.run_steps.specs.Contracts.Course.{the-run, last-of}
 use Rattle.run_term.specs.Contracts.RunTerm.{RunCourse}
 use Rattle.listing.specs.Listing.{printed, run-kind, step-frame, run-frames, task-frames}
-use Rattle.rules.specs.Contracts.Walks.{LinesReady}
 use Rattle.listing.specs.Contracts.Appended.{Appended}
 use Rattle.listing.specs.Theory.Printed.{printed-append}
 use Rattle.listing.specs.Theory.Appended.{appended-join, appended-text}
 use Rattle.cursor.specs.Theory.Rest.{task-steps}
 use Rattle.tasks.specs.Contracts.Task.{TaskGiven}
 use Rattle.tasks.proofs.TaskLaws.{appended-within}
-
--- Lines that are kept for all runs stay; else every rule is walked anew.
-pub lines-stay : (fits : Bool) (bounds : List ℕ) (es : List Equation) {table after : List ℕ} → (fits ≡ true → after ≡ table) → LinesReady fits bounds table es → LinesReady fits bounds after es
-lines-stay true bounds es h l = subst (λ t. LinesReady true bounds t es) (sym (h refl)) l
-lines-stay false bounds es h l = l
 
 module _ {arities : List ℕ} {es : List Equation} {k : ℕ} {subject : Term} {term term-after log log-after : List ℕ} {course : Course} (r : RunCourse arities es k subject term term-after log log-after course) where
   last-bytes : take (course .size) term-after ≡ prefix (last-of arities es k subject)

@@ -56,4 +56,4 @@ pub data StandsAt (input : List ℕ) (known : Known) (fits : Bool) (equations le
 -- A piece is given, and what the next one needs stands in the memory.
 pub record Progress (input : List ℕ) (place : Place) (equations lengths bounds table scratch out : List ℕ) (r : Listed) : Type 0 where
   pub gives : Gives input place out (r .bytes) (r .cursor .place)
-  pub stands : StandsAt input (r .cursor .known) (r .cursor .fits) equations lengths bounds table scratch (r .cursor .place)
+  pub stands : StandsAt input (r .cursor .opened .known) (r .cursor .opened .fits) equations lengths bounds table scratch (r .cursor .place)

@@ -21,9 +21,10 @@ module _ (arities : List ℕ) (es : List Equation) (k : ℕ) (subject : Term) wh
   abbrev pub last-of : Term
   last-of = last-term subject (the-run .steps)
 
-  pub record CourseIs (nodes sizes log log-after : List ℕ) (c : Course) : Type 0 where
+  pub record CourseIs (log log-after : List ℕ) (c : Course) : Type 0 where
     pub steps-are : c .steps ≡ length (the-run .steps)
     pub ending-is : c .ending ≡ the-run .ending
     pub size-is : c .size ≡ size last-of
-    pub last-is : SubjectIs nodes sizes arities last-of
+    pub sizes : List ℕ
+    pub last-is : SubjectIs (c .nodes) sizes arities last-of
     pub logged : log-after ≡ written (log-of (the-run .steps)) log

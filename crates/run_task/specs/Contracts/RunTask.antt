@@ -10,23 +10,15 @@ use Rattle.reducing.specs.Walks.{equation-line}
 use Rattle.scanning.specs.declared.known.Known.{Known}
 use Rattle.reading.specs.Contracts.Seek.{Accepts, TaskIn, Spans, task-terms}
 use Rattle.outcomes.specs.Buffer.{refusal-number}
-use Rattle.rules.specs.Contracts.Walks.{WalksAs}
 use Rattle.rules.specs.declared.walks.Walks.{Walks}
 use Rattle.rules.specs.declared.walks.Walks.the-variants.{Refused, Full, Kept}
-use Rattle.run_term.specs.Contracts.RunTerm.{RunTermIs, Ran}
+use Rattle.run_term.specs.Contracts.RunTerm.{Ran}
 
 -- Whether the lines of all rules fit the table together.
 abbrev pub fit-together : Walks → Bool
 fit-together (Refused why number) = false
 fit-together Full = false
 fit-together Kept = true
-
--- The term of a run, and the walks of all rules.
-pub record HasWalked (sheet : List ℕ) (known : Known) (from end : ℕ) (equations lengths bounds : List ℕ) (walks : Walks) (table : List ℕ) : Type 0 where
-  pub those : List Equation
-  pub subject : Term
-  pub is : RunTermIs sheet known from end equations lengths bounds those subject
-  pub walked : WalksAs those bounds table walks
 
 -- The run, or the refusal of a walk, which leaves term and log as they are.
 abbrev pub RanAs : Walks → (arities : List ℕ) (es : List Equation) (k : ℕ) (subject : Term) (term term-after log log-after : List ℕ) (r : ℕ) → Type 0

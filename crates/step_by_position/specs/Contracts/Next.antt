@@ -6,7 +6,7 @@ use mathlib.Core.Bool.{Bool, true, false}
 use mathlib.Core.Option.{none, some}
 use mathlib.Core.List.{List}
 use lib.ListN.{length, getD}
-use Rattle.format.specs.Limits.{max-symbols, first-variable, position-count}
+use Rattle.format.specs.Limits.{max-symbols, first-variable}
 use Rattle.format.specs.Lists.{entry}
 use Rattle.terms.specs.Term.{Term, Terms, app, size}
 use Rattle.terms.specs.Equation.{Equation, Direction}
@@ -68,12 +68,3 @@ module _ (equations lengths : List ℕ) (rules : ℕ) (bounds next table nodes s
     pub subject : Term
     pub is : SearchIs arities those subject
     pub counted : n ≡ size subject
-
-  pub record HasSearchAt (node : ℕ) : Type 0 where
-    pub arities : List ℕ
-    pub those : List Equation
-    pub subject : Term
-    pub position : ℕ
-    pub is : SearchIs arities those subject
-    pub inside : position < size subject
-    pub there : node ≡ position-count + position

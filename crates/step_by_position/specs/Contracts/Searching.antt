@@ -1,5 +1,5 @@
 -- What the search for a step asks and answers.
-use Prim.Native.Nat.{ℕ, _+_, _≤_, _<_}
+use Prim.Native.Nat.{ℕ, _+_, _<_}
 use mathlib.Core.Path.{_≡_}
 use mathlib.Core.Option.{none, some}
 use mathlib.Core.List.{List}
@@ -14,13 +14,6 @@ use Rattle.reducing.specs.Contracts.Rules.{rule-number}
 use Rattle.reducing.specs.Contracts.Part.{part-at}
 use Rattle.step_by_position.specs.declared.positions.Found.{Found}
 use Rattle.step_by_position.specs.declared.positions.Found.the-variants.{Nothing, Step as StepFound}
-
--- The first rule that can step at a node; `rules` if there is none.
-pub record FirstRule (arities : List ℕ) (es : List Equation) (subject : Term) (rules node r : ℕ) : Type 0 where
-  pub within : r ≤ rules
-  pub none-earlier : (p j : ℕ) (e : Equation) (c : Direction) → node ≡ position-count + p → entry es j ≡ some e → rule-number j c < r → try (filling arities) line-test subject p (part-at subject p) j e c ≡ none
-  pub can : (p : ℕ) → node ≡ position-count + p → r < rules
-      → (i : ℕ) × (e : Equation) × (d : Direction) × (s : Step) × (r ≡ rule-number i d) × (entry es i ≡ some e) × (try (filling arities) line-test subject p (part-at subject p) i e d ≡ some s)
 
 -- The step that a search finds is that of the definition.
 pub record StepAt (arities : List ℕ) (es : List Equation) (subject : Term) (rule node : ℕ) : Type 0 where

@@ -33,7 +33,7 @@ fill-requires-2 : tie.Need-fill-requires-2
 fill-requires-2 c κs =
     let at-judge = c .before .before .before .before .before .before .before in
     let at-walk = at-judge .before .before .before .before .before .before .before .before .before in
-    omega (arith, at-judge .judge-walked .kept .1 .1 .1 .1 .1 .1 .1 .1 .1 .0, at-walk .walk-judged .kept .1 .1 .1 .1 .1 .0, at-walk .before .before .before .before .before .before .before .before .before .before .before .before .before .pre .2)
+    omega (arith, at-judge .judge-walked .kept .1 .1 .1 .1 .1 .1 .1 .1 .0, at-walk .walk-judged .kept .1 .1 .1 .1 .1 .0, at-walk .before .before .before .before .before .before .before .before .before .before .before .before .before .pre .2)
 
 returns : tie.Need-returns
 returns c task j =
@@ -49,7 +49,7 @@ returns c task j =
     let scratch = start .args .scratch .now in
     let worked = walked .last .1 .1 .1 .1 .0 in
     judgement-told j (stored .last .1 .1 .0) (stored .last .1 .1 .1 .0) (stored .ensures) worked (walked .result) (walked .ensures .0) table scratch (judge .ensures .0)
-    ∙ left-over (judge .result) table worked (at-fill .fill .last .0) scratch (judge .last .1 .1 .1 .1 .1 .1 .1 .1 .1 .0) (c .before .before .fill2 .last .0) (walked .ensures .1 .0) (at-fill .fill .ensures)
+    ∙ left-over (judge .result) table worked (at-fill .fill .last .0) scratch (judge .last .1 .1 .1 .1 .1 .1 .1 .1 .0) (c .before .before .fill2 .last .0) (walked .ensures .1 .0) (at-fill .fill .ensures)
     (judge .ensures .1 ∙ walk-behind scratch (walked .last .1 .1 .1 .1 .1 .0) (walked .ensures .1 .1)) (c .before .before .fill2 .ensures)
 
 pub judge-found-spec : {M : Type 1} → statement M

@@ -55,11 +55,11 @@ judge-values-spec =
     (tie.spec
     array-share-prefix-arities
     slice-aggregate-load-terms
-    (λ c. refl)
-    (λ c. refl)
+    (λ c. search needs)
+    (λ c. search needs)
     load-terms-requires
-    (λ c. sym (c .before .before .before .load-terms .kept .1 .1 .1 .1 .0))
-    (λ c. sym (c .before .before .before .before .load-terms .kept .1 .1 .1 .1 .1 .0))
+    (λ c. search needs)
+    (λ c. search needs)
     (λ c. search needs)
     slice-aggregate-judge-lines-3
     judge-lines-requires

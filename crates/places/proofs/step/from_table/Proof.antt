@@ -7,13 +7,13 @@ use Rattle.places.proofs.step.from_table.Statement.{statement}
 use Rattle.places.proofs.step.from_table.Tie as tie
 
 add-if1 : tie.Need-add-if1
-add-if1 c = let h = c .before .before .before .before .before .before .pre .0 in omega (arith, equations-counted (h .ready), few-equations (h .ready))
+add-if1 c = let h = c .before .before .before .before .before .before .before .pre .0 in omega (arith, equations-counted (h .ready), few-equations (h .ready))
 
 returns : tie.Need-returns
 returns c = λ bounds table s r at. tables-done r _ (c .moved .ensures) (c .before .if1 .taken)
 
 list-table-requires : tie.Need-list-table-requires
-list-table-requires c κs = let start = c .before .before .before .before .before .before .before .before .before in
+list-table-requires c κs = let start = c .before .before .before .before .before .before .before .before .before .before in
     let h = start .pre .0 in
     let other = c .before .before .if1 .left in
     (rule-there (its-rows (h .ready)) (below (h .at) (equations-counted (h .ready)) other), omega (arith, start .pre .1 .0), omega (arith, start .pre .1 .1))

@@ -7,11 +7,11 @@ use Rattle.step_by_rule.proofs.search.first_applying.Statement.{stateme
 use Rattle.step_by_rule.proofs.search.first_applying.Tie as tie
 
 abbrev Inv-loop : tie.InvT-loop
-Inv-loop equations lengths rule table lines nodes₀ sizes₀ cells₀ from end ready₀ node₀ nodes sizes cells ready node =
-    Trying equations lengths rule table lines nodes₀ sizes₀ from end nodes sizes ready cells node
+Inv-loop equations lengths kept table nodes₀ sizes₀ cells₀ from end ready₀ node₀ nodes sizes cells ready node =
+    Trying equations lengths (kept .rule) table (kept .lines) nodes₀ sizes₀ from end nodes sizes ready cells node
 
 abbrev μ-loop : tie.MeasureT-loop
-μ-loop equations lengths rule table lines nodes₀ sizes₀ cells₀ from end ready₀ node₀ nodes sizes cells ready node = end - node
+μ-loop equations lengths kept table nodes₀ sizes₀ cells₀ from end ready₀ node₀ nodes sizes cells ready node = end - node
 
 loop-holds : tie.Need-loop-holds Inv-loop μ-loop
 loop-holds c = trying-start (c .before .before .before .before .before .before .pre .0) (c .before .before .before .before .before .before .pre .1) refl
@@ -33,13 +33,13 @@ applies-requires c κs =
     )
 
 same-length : tie.Need-same-length Inv-loop μ-loop
-same-length c = c .before .before .before .before .before .before .before .applies .kept .1 .1 .1 .1 .1 .0 ∙ trying-nodes (c .before .before .before .before .before .before .before .before .before .before .before .before .before .loop .inv) (c .before .before .before .before .before .before .before .before .before .before .before .before .before .before .before .before .before .before .before .before .pre .0)
+same-length c = c .before .before .before .before .before .before .before .applies .kept .1 .1 .1 .1 .0 ∙ trying-nodes (c .before .before .before .before .before .before .before .before .before .before .before .before .before .loop .inv) (c .before .before .before .before .before .before .before .before .before .before .before .before .before .before .before .before .before .before .before .before .pre .0)
 
 same-length-2 : tie.Need-same-length-2 Inv-loop μ-loop
-same-length-2 c = c .before .before .before .before .before .before .before .applies .kept .1 .1 .1 .1 .1 .1 .0 ∙ trying-sizes (c .before .before .before .before .before .before .before .before .before .before .before .before .before .loop .inv) (c .before .before .before .before .before .before .before .before .before .before .before .before .before .before .before .before .before .before .before .before .pre .0)
+same-length-2 c = c .before .before .before .before .before .before .before .applies .kept .1 .1 .1 .1 .1 .0 ∙ trying-sizes (c .before .before .before .before .before .before .before .before .before .before .before .before .before .loop .inv) (c .before .before .before .before .before .before .before .before .before .before .before .before .before .before .before .before .before .before .before .before .pre .0)
 
 same-length-3 : tie.Need-same-length-3 Inv-loop μ-loop
-same-length-3 c = c .before .before .before .before .before .before .before .applies .kept .1 .1 .1 .1 .1 .1 .1 .1 .0 ∙ (c .before .before .before .before .before .before .before .before .before .before .before .before .before .loop .inv .settled .are .cells-length ∙ sym (c .before .before .before .before .before .before .before .before .before .before .before .before .before .before .before .before .before .before .before .before .pre .1))
+same-length-3 c = c .before .before .before .before .before .before .before .applies .kept .1 .1 .1 .1 .1 .1 .1 .0 ∙ (c .before .before .before .before .before .before .before .before .before .before .before .before .before .loop .inv .settled .are .cells-length ∙ sym (c .before .before .before .before .before .before .before .before .before .before .before .before .before .before .before .before .before .before .before .before .pre .1))
 
 returns : tie.Need-returns Inv-loop μ-loop
 returns c =

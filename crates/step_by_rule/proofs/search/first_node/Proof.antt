@@ -101,10 +101,10 @@ same-length-7 : tie.Need-same-length-7
 same-length-7 c = c .before .before .before .before .before .before .before .before .before .before .before .before .before .before .before .before .before .before .keep-rule .kept .1 .1 .1 .0
 
 same-length-8 : tie.Need-same-length-8
-same-length-8 c = c .before .before .before .before .before .before .first-applying .kept .1 .1 .1 .1 .1 .0
+same-length-8 c = c .before .before .before .before .before .before .first-applying .kept .1 .1 .1 .1 .0
 
 same-length-9 : tie.Need-same-length-9
-same-length-9 c = c .before .before .before .before .before .before .first-applying .kept .1 .1 .1 .1 .1 .1 .0
+same-length-9 c = c .before .before .before .before .before .before .first-applying .kept .1 .1 .1 .1 .1 .0
 
 same-length-10 : tie.Need-same-length-10
 same-length-10 c = c .before .scratch2 .given .1 ∙ c .before .before .before .before .before .before .before .before .before .before .before .before .before .before .before .before .before .before .keep-rule .kept .1 .1 .1 .1 .1 .0
@@ -115,7 +115,7 @@ returns-3 c =
     let has = entry .pre .0 in
     let kept = c .before .before .before .before .before .before .before .before .before .before .before .before .before .before .before .before .before .before .keep-rule in
     let tried = c .before .before .before .before .before .before .first-applying in
-    let cells = tried .kept .1 .1 .1 .1 .1 .1 .1 .0 ∙ length-take-le cell-count (kept .last .1 .1 .1 .1 .1 .0) (omega (arith, kept .kept .1 .1 .1 .1 .1 .0, entry .pre .1 .1)) in (
+    let cells = tried .kept .1 .1 .1 .1 .1 .1 .0 ∙ length-take-le cell-count (kept .last .1 .1 .1 .1 .1 .0) (omega (arith, kept .kept .1 .1 .1 .1 .1 .0, entry .pre .1 .1)) in (
       λ arities i e d subject u.
           let (s, t) = c .before .before .before .before .before .before .before .before .before .before .before .before .before .before .before .before .before .before .before .before .before .before .before .before .before .sides-of .ensures (entry .args .equations .now) arities i e d (u .rule-is) in
           let matches = c .before .before .before .before .before .before .before .before .before .before .before .before .before .before .before .before .before .before .before .before .before .before .first-match .ensures arities _ subject (source-there u s) in
@@ -124,7 +124,7 @@ returns-3 c =
         tried .ensures .1,
         (
           front-behind has (entry .args .table .now) (kept .last .1 .1 .1 .0) (kept .result) (entry .pre .1 .0) (kept .ensures .0 (has .arities) (has .number) (has .equation) (has .direction) (has .is .rule-is)),
-          scratch-after-cells (tried .last .1 .1 .1 .1 .1 .1 .1 .0) (kept .last .1 .1 .1 .1 .1 .0) cells ∙ scratch-after-walk (entry .args .scratch .now) (kept .last .1 .1 .1 .1 .1 .0) (kept .ensures .1),
+          scratch-after-cells (tried .last .1 .1 .1 .1 .1 .1 .0) (kept .last .1 .1 .1 .1 .1 .0) cells ∙ scratch-after-walk (entry .args .scratch .now) (kept .last .1 .1 .1 .1 .1 .0) (kept .ensures .1),
         ),
       ),
     )

@@ -19,6 +19,12 @@ find-by-positions-requires c κs =
       cells-there (start .args .scratch .now) (start .pre .1 .1),
     )
 
+same-length-2 : tie.Need-same-length-2
+same-length-2 c = c .before .before .before .before .before .before .find-by-positions .kept .1 .1 .1 .1 .1 .1 .0
+
+same-length-3 : tie.Need-same-length-3
+same-length-3 c = c .before .before .before .before .before .before .find-by-positions .kept .1 .1 .1 .1 .1 .1 .1 .0
+
 returns : tie.Need-returns
 returns c =
     let start = c .before .before .before .before .before .before .before .before .before .before .before .before .before .before .before .before .before .before .before .before in
@@ -33,20 +39,6 @@ find-by-rules-requires c κs =
     let has = start .pre .0 in
     (record { arities = has .arities; those = has .those; subject = has .subject; are = by-rules (has .is) (c .before .before .before .before .if1 .left) }, start .pre .1)
 
-returns-2 : tie.Need-returns-2
-returns-2 c =
-    let left = c .before .before .before .before .before .before .before .before .before .before .before .before .before .if1 .left in
-    let found = c .before .before .before .before .before .before .before .before .find-by-rules in (
-      λ arities es subject is. found .ensures .0 arities es subject (by-rules is left),
-      (found .ensures .1 .0, (λ h. let z : _≡_ {A = ℕ} 0 1 = cc (h, left) in absurd (omega arith), found .ensures .1 .1)),
-    )
-
-same-length-2 : tie.Need-same-length-2
-same-length-2 c = c .before .before .before .before .before .before .find-by-positions .kept .1 .1 .1 .1 .1 .1 .0
-
-same-length-3 : tie.Need-same-length-3
-same-length-3 c = c .before .before .before .before .before .before .find-by-positions .kept .1 .1 .1 .1 .1 .1 .1 .0
-
 same-length-5 : tie.Need-same-length-5
 same-length-5 c = c .before .before .before .before .before .before .before .before .find-by-rules .kept .1 .1 .1 .0
 
@@ -58,6 +50,14 @@ same-length-7 c = c .before .before .before .before .before .before .before .bef
 
 same-length-8 : tie.Need-same-length-8
 same-length-8 c = c .before .before .before .before .before .before .before .before .find-by-rules .kept .1 .1 .1 .1 .1 .1 .0
+
+returns-2 : tie.Need-returns-2
+returns-2 c =
+    let left = c .before .before .before .before .before .before .before .before .before .before .before .before .before .if1 .left in
+    let found = c .before .before .before .before .before .before .before .before .find-by-rules in (
+      λ arities es subject is. found .ensures .0 arities es subject (by-rules is left),
+      (found .ensures .1 .0, (λ h. let z : _≡_ {A = ℕ} 0 1 = cc (h, left) in absurd (omega arith), found .ensures .1 .1)),
+    )
 
 pub find-step-spec : {M : Type 1} → statement M
 find-step-spec =

@@ -11,32 +11,32 @@ use Rattle.step_try.proofs.applies.match_holds.Tie as tie
 use Rattle.step_try.specs.Theory.Front.{equations-room, lengths-room, nodes-fronted, sizes-fronted}
 
 mul-row : tie.Need-mul-row
-mul-row c = let is = c .before .before .before .before .before .before .pre .0 .is .rule-is in omega (arith, rule-row is, is .row .inside, is .row .equations-length)
+mul-row c = let is = c .before .before .before .before .before .before .before .pre .0 .is .rule-is in omega (arith, rule-row is, is .row .inside, is .row .equations-length)
 
 sub-load-row : tie.Need-sub-load-row
-sub-load-row c = let is = c .before .before .before .before .before .before .pre .0 .is .rule-is in omega (arith, rule-row is, is .row .inside, is .row .equations-length)
+sub-load-row c = let is = c .before .before .before .before .before .before .before .pre .0 .is .rule-is in omega (arith, rule-row is, is .row .inside, is .row .equations-length)
 
 part-load-row-start : tie.Need-part-load-row-start
-part-load-row-start c = let is = c .before .before .before .before .before .before .pre .0 .is .rule-is in omega (arith, rule-row is, is .row .inside, is .row .equations-length)
+part-load-row-start c = let is = c .before .before .before .before .before .before .before .pre .0 .is .rule-is in omega (arith, rule-row is, is .row .inside, is .row .equations-length)
 
 load-row-requires : tie.Need-load-row-requires
-load-row-requires c κs = let is = c .before .before .before .before .before .before .before .before .pre .0 .is in (equations-room (is .rule-is), omega (arith, is .subject-is .nodes-length))
+load-row-requires c κs = let is = c .before .before .before .before .before .before .before .before .before .pre .0 .is in (equations-room (is .rule-is), omega (arith, is .subject-is .nodes-length))
 
 sub-load-row-2 : tie.Need-sub-load-row-2
-sub-load-row-2 c = let is = c .before .before .before .before .before .before .before .before .before .before .before .pre .0 .is .rule-is in omega (arith, rule-row is, is .row .inside, is .row .lengths-length)
+sub-load-row-2 c = let is = c .before .before .before .before .before .before .before .before .before .before .before .before .pre .0 .is .rule-is in omega (arith, rule-row is, is .row .inside, is .row .lengths-length)
 
 part-load-row-start-2 : tie.Need-part-load-row-start-2
-part-load-row-start-2 c = let is = c .before .before .before .before .before .before .before .before .before .before .before .pre .0 .is .rule-is in omega (arith, rule-row is, is .row .inside, is .row .lengths-length)
+part-load-row-start-2 c = let is = c .before .before .before .before .before .before .before .before .before .before .before .before .pre .0 .is .rule-is in omega (arith, rule-row is, is .row .inside, is .row .lengths-length)
 
 load-row-requires-2 : tie.Need-load-row-requires-2
-load-row-requires-2 c κs = let is = c .before .before .before .before .before .before .before .before .before .before .before .before .before .pre .0 .is in (lengths-room (is .rule-is), omega (arith, is .subject-is .sizes-length))
+load-row-requires-2 c κs = let is = c .before .before .before .before .before .before .before .before .before .before .before .before .before .before .pre .0 .is in (lengths-room (is .rule-is), omega (arith, is .subject-is .sizes-length))
 
 forget-rows-requires : tie.Need-forget-rows-requires
-forget-rows-requires c κs = omega (arith, c .before .before .before .before .before .before .before .before .before .before .before .before .before .before .before .before .before .pre .1 .are .ready-length)
+forget-rows-requires c κs = omega (arith, c .before .before .before .before .before .before .before .before .before .before .before .before .before .before .before .before .before .before .pre .1 .are .ready-length)
 
 first-holding-requires : tie.Need-first-holding-requires
 first-holding-requires c κs =
-    let start = c .before .before .before .before .before .before .before .before .before .before .before .before .before .before .before .before .before .before .before .before .before .before in
+    let start = c .before .before .before .before .before .before .before .before .before .before .before .before .before .before .before .before .before .before .before .before .before .before .before in
     let has = start .pre .0 in
     let is = has .is in
     let (n, bytes) = nodes-fronted (is .rule-is) (start .args .nodes .now) (c .before .before .before .before .before .before .before .before .before .before .before .before .before .load-row .last .1 .0) (is .subject-is .nodes-length) (c .before .before .before .before .before .before .before .before .before .before .before .before .before .load-row .ensures) in
@@ -47,7 +47,7 @@ first-holding-requires c κs =
 
 returns : tie.Need-returns
 returns c =
-    let start = c .before .before .before .before .before .before .before .before .before .before .before .before .before .before .before .before .before .before .before .before .before .before .before .before .before in
+    let start = c .before .before .before .before .before .before .before .before .before .before .before .before .before .before .before .before .before .before .before .before .before .before .before .before .before .before in
     let nodes = start .args .nodes .now in
     let sizes = start .args .sizes .now in
     let copied = c .before .before .before .before .before .before .before .before .before .before .before .before .before .before .before .before .load-row in
