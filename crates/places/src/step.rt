@@ -99,14 +99,16 @@ pub fn from_task(
     ensures { λ r. ⌜ Progress (now (input .entry)) (Place.Task (done .tasks) (done .steps)) (now (equations .entry)) (now (lengths .entry)) (now (bounds .entry)) (now (table .exit)) (now (scratch .exit)) (now (out .exit)) r ⌝ }
 {
     let known = opened.known;
-    if done.tasks == known.tasks {
-        let bytes = put_total(done.steps, out, 0);
+    let task = done.tasks;
+    let steps = done.steps;
+    if task == known.tasks {
+        let bytes = put_total(steps, out, 0);
         return moved(opened, Place::End, bytes);
     }
     let listed = list_task(
         input,
         opened,
-        done.tasks,
+        task,
         equations,
         lengths,
         bounds,
@@ -116,7 +118,7 @@ pub fn from_task(
     );
     moved(
         opened,
-        Place::Task(done.tasks + 1, done.steps + listed.steps),
+        Place::Task(task + 1, steps + listed.steps),
         listed.bytes,
     )
 }

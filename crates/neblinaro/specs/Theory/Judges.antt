@@ -1,5 +1,5 @@
 -- What judge gives: "1 or 0, first holding line counted from 1 or 0" (document 01, 'Calls and lent memory').
-use Prim.Native.Nat.{ℕ, zero, suc, _+_, _≤_, _<_}
+use Prim.Native.Nat.{ℕ, zero, suc, _+_, _<_}
 use mathlib.Core.Path.{_≡_, refl, sym, ap, _∙_}
 use mathlib.Core.Logic.{_↔_}
 use mathlib.Core.Bool.{Bool, true, false}
@@ -8,26 +8,23 @@ use mathlib.Core.List.{List}
 use lib.Dec.{ltb}
 use borrow.Author.Tests.{lt-ltb}
 use native.Mathlib.Omega.{arith}
-use lib.ListN.{length}
-use Rattle.format.specs.Limits.{max-lines}
 use Rattle.format.specs.declared.refusal.Refusal.the-variants.{ShortBuffer as short-buffer}
 use Rattle.format.specs.Lists.{entry}
-use Rattle.format.specs.Theory.Lists.{every-entry, entry-length}
-use Rattle.terms.specs.Term.{Term, Terms, Values}
+use Rattle.format.specs.Theory.Lists.{every-entry}
+use Rattle.terms.specs.Term.{Terms}
 use Rattle.terms.specs.Equation.{Direction}
 use Rattle.terms.specs.Contracts.Limits.{WithinLimits}
 use Rattle.sheet.specs.Sheet.{Task, run, judgement, comparison, Sheet}
 use Rattle.sheet.specs.Reading.{Reading, refused-at, accepted, read}
 use Rattle.sheet.specs.Contracts.Valid.{ValidTask}
 use Rattle.sheet.specs.Theory.Accepted.{accepted-valid}
-use Rattle.solving.specs.Line.{Line}
 use Rattle.solving.specs.Judge.{first-holding}
-use Rattle.solving.specs.Theory.Judge.{first-holding-pos, first-holding-is}
+use Rattle.solving.specs.Theory.Judge.{first-holding-pos, first-holding-is, first-holding-low}
 use Rattle.solving.specs.Theory.Solve.{solve-exact, solved-line-count}
 use Rattle.reducing.specs.Test.{BothSolve, holding-in, holding-line, line-test, EverySolves}
 use Rattle.reducing.specs.Theory.Reference.{line-test-is}
 use Rattle.reducing.specs.Walks.{equation-line, WalkRefusal, first-refusal}
-use Rattle.outcomes.specs.Buffer.{field-limit, fields, refusal-byte, cleared, blanked}
+use Rattle.outcomes.specs.Buffer.{fields, refusal-byte, cleared, blanked}
 use Rattle.outcomes.specs.Asked.{found, find, asked, Judgement, values-in, judgement-in, judgement-task}
 use Rattle.outcomes.specs.Outcome.{table-fits, table-unsolved, answer-number, judge-fields, judge-walked, judge-answer, judge-call}
 use Rattle.outcomes.specs.Theory.Number.{fields-byte, refused-not-zero}
@@ -79,14 +76,6 @@ before : (holding j : ℕ) → suc j < holding → (i : ℕ) × (holding ≡ suc
 before zero j l = absurd (omega arith)
 before (suc i) j l = (i, refl, omega arith)
 
--- The first line that holds is one of the table's.
-line-fits : (ρ : Values) (instances : ℕ → Term) (lines : List Line) → length lines ≤ max-lines → first-holding ρ instances lines < field-limit
-line-fits ρ instances lines few = go (first-holding ρ instances lines) refl
-  where
-    go : (holding : ℕ) → first-holding ρ instances lines ≡ holding → holding < field-limit
-    go zero h = omega arith
-    go (suc i) h = omega (arith, few, entry-length lines i (first-holding-is ρ instances lines i h .is-there))
-
 module _ (sheet : List ℕ) (task : ℕ) (table scratch : List ℕ) where
   -- 3. Where every direction solves, judge tells the test of a run, and the first line that holds.
   judge-gives : (n : JudgementNamed sheet task) → table-fits table scratch ≡ true → EverySolves (n .content .equations)
@@ -117,7 +106,7 @@ module _ (sheet : List ℕ) (task : ℕ) (table scratch : List ℕ) where
         answer = line-test (n .equation) (n .direction) ρ;
         holding = holding-line (n .equation) (n .direction) ρ;
         given = judge-gives n f every;
-        fits = rw first (line-fits ρ instances (w .table) (solved-line-count (n .equation) limits (n .direction) (w .table) (w .turns) (w .walked)));
+        fits = omega (arith, first, first-holding-low ρ instances (w .table), solved-line-count (n .equation) limits (n .direction) (w .table) (w .turns) (w .walked));
         exceeds = (λ h. exact .1 (told .0 h), λ h. told .1 (exact .0 h));
         some-line = told;
         line-holds = λ i h. let k = first-holding-is ρ instances (w .table) i (sym first ∙ h) in (k .line-there, k .is-there, k .holds);

@@ -15,7 +15,6 @@ table-outcome n table scratch = record { returned = n; table = table; scratch = 
 abbrev pub compare-outcome : ℕ → List ℕ → CompareOutcome
 compare-outcome n scratch = record { returned = n; scratch = scratch }
 
--- What run earns.
 abbrev pub run-outcome : ℕ → (table scratch term log : List ℕ) → RunOutcome
 run-outcome n table scratch term log = record { returned = n; table = table; scratch = scratch; term = term; log = log }
 
@@ -27,7 +26,7 @@ module _ (gives : Directed → TableOutcome) (sheet table scratch : List ℕ) (e
   abbrev pub directed-answered : TableOutcome
   directed-answered = directed-answer gives table scratch (asked true sheet (direction-asked equation direction))
 
--- The log of the steps done, and one more.
+-- Three bytes for each step.
 pub length-log : (steps : List Step) → length (log-of steps) ≡ 3 * length steps
 unfolding log-of
 length-log [] = refl

@@ -11,7 +11,6 @@ use Rattle.cursor.specs.declared.place.Listed.{Listed}
 use Rattle.cursor.specs.Contracts.Stands.{Ready, AtPlace, StandsAt, under-way, Progress}
 use Rattle.places.specs.Contracts.Step.{HasPlace}
 
--- What stands at the cursor's place.
 module _ {input : List ℕ} {known : Known} {fits : Bool} {equations lengths bounds table scratch : List ℕ} where
   under-way-place : {place : Place} (s : Sheet) → Ready input known fits equations lengths bounds table s → AtPlace s scratch place → HasPlace input known fits equations lengths scratch place
   under-way-place s r a = record { bounds = bounds; table = table; content = s; ready = r; at = a }

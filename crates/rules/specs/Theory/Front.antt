@@ -22,7 +22,6 @@ use Rattle.rules.specs.Contracts.Lines.{ProperLines, LinesAt}
 use Rattle.rules.specs.Theory.Proper.{walked-proper}
 use Rattle.rules.specs.Theory.Kept.{records-there, full-kept}
 
--- Lines kept from the front of the table.
 front-lines : (ls : List Line) {end : ℕ} (before : List ℕ) {after : List ℕ} → table-bytes ≤ length before → end ≡ 0 + length (trimmed-lines ls) → end ≤ table-bytes → after ≡ placed 0 (trimmed-lines ls) before
     → LinesAt after (record { from = 0; end = end }) ls
 unfolding placed

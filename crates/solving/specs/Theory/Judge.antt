@@ -1,12 +1,14 @@
 -- The first holding line of a table is what its name says (document 01, 'Calls and lent memory': "first holding line counted from 1 or 0").
-use Prim.Native.Nat.{ℕ, zero, suc, _<_}
+use Prim.Native.Nat.{ℕ, zero, suc, _<_, _≤_}
 use mathlib.Core.Path.{_≡_, refl}
 use mathlib.Core.Logic.{inl, inr, _↔_}
 use mathlib.Core.Option.{some}
 use mathlib.Core.List.{List, [], _∷_}
 use native.Mathlib.Omega.{arith}
+use lib.ListN.{length}
 use Rattle.format.specs.Lists.{entry}
 use Rattle.terms.specs.Term.{Term, Values}
+use Rattle.terms.specs.Equation.{value}
 use Rattle.solving.specs.Line.{Line}
 use Rattle.solving.specs.Holds.{LineHolds, SomeLineHolds}
 use Rattle.solving.specs.Judge.{line-holds?, first-holding}
@@ -120,3 +122,14 @@ module _ (ρ : Values) (value : ℕ → Term) where
       go : (d : Dec (ThisHolds l)) → first-holding ρ value ls ≡ suc i → counted l d (first-holding ρ value ls) ≡ suc (suc i)
       go (yes x) e = absurd (f .none-before 0 l (omega arith) refl x)
       go (no n) e = rw e
+
+-- It is the number of a line of the table, or 0.
+pub first-holding-low : (ρ : Values) (value : ℕ → Term) (ls : List Line) → first-holding ρ value ls ≤ length ls
+unfolding first-holding
+first-holding-low ρ value [] = omega arith
+first-holding-low ρ value (l ∷ ls) = go (line-holds? ρ value l) (first-holding ρ value ls) (first-holding-low ρ value ls)
+  where
+    go : (d : Dec (LineHolds ρ value l)) (n : ℕ) → n ≤ length ls → _≤_ (elim d [ yes h ↦ 1 | no x ↦ elim n [ zero ↦ 0 | suc i ↦ suc (suc i) ] ]) (suc (length ls))
+    go (yes h) n b = omega arith
+    go (no x) zero b = omega arith
+    go (no x) (suc i) b = omega arith

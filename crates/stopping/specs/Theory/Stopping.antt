@@ -1,4 +1,4 @@
--- No empty line at first.
+-- The first table of a walk.
 use Prim.Native.Nat.{ℕ}
 use mathlib.Core.Path.{_≡_, sym, ap, _∙_}
 use mathlib.Core.Option.{some}
@@ -12,7 +12,7 @@ use Rattle.bindings.specs.Contracts.PrefixForm.{view-of}
 use Rattle.walking.specs.declared.walk.Walk.{Walk}
 use Rattle.stopping.specs.Contracts.Ends.{NoneEmpty}
 
--- The first table has no empty line.
+-- It has no empty line.
 pub none-at-first : (nodes sizes : List ℕ) (w : Walk) → w .turns ≡ 0 → NoneEmpty nodes sizes w
 unfolding table-after opening has-empty is-empty any
 none-at-first nodes sizes w z table c =

@@ -7,7 +7,6 @@ use lib.ListN.{length}
 use Rattle.solving.specs.Walk.{argument-choices}
 use Rattle.treating.specs.Contracts.Splitting.{AllLong}
 
--- How many choices there are, and how long.
 pub argument-long : (ss : List ℕ) (q : ℕ) → AllLong 1 (argument-choices ss q)
 unfolding argument-choices
 argument-long [] q = tt

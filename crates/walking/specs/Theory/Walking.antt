@@ -1,4 +1,4 @@
--- What a walk that has ended leaves.
+-- The bytes of a resting line, and what a walk that has ended leaves.
 use Prim.Native.Nat.{ℕ, _*_, _≤_}
 use mathlib.Core.Path.{_≡_, refl, ap, _∙_}
 use mathlib.Core.Option.{none, some}
@@ -18,7 +18,6 @@ use Rattle.walking.specs.Contracts.WellFormed.{WellFormed}
 use Rattle.walking.specs.Contracts.Walking.{table-reached, Walking}
 use Rattle.walking.specs.Theory.Turn.{turn-none}
 
--- The stack of unfinished lines.
 pub well-formed-length : {nodes sizes : List ℕ} (l : RestingLine) → WellFormed nodes sizes l → length (resting-bytes l) ≡ line-bytes
 well-formed-length l s = length-resting l (readable-slots (s .readable)) (s .few)
 
