@@ -1,4 +1,6 @@
 // The terms of an equation in bytes, seen through the bindings: following them, and the occurs test.
+#![tactic(auto)]
+
 pub mod count;
 pub mod occurs;
 pub mod reach;

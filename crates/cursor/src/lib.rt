@@ -1,2 +1,4 @@
 // How far the listing has come.
+#![tactic(auto)]
+
 pub mod place;

@@ -1,1 +1,3 @@
 // Cases at the edges of document 01, checked by computation. They stand in specs/.
+#![tactic(auto)]
+

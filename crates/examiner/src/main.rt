@@ -1,4 +1,6 @@
 // The program: it reads a sheet from standard input and prints its listing. Everything but reading and writing is `pieces`.
+#![tactic(auto)]
+
 use cursor::place::{Cursor, Place, is_end};
 use format::limits::Limits;
 use libc::{STDIN_FILENO, STDOUT_FILENO};

@@ -1,4 +1,6 @@
 // The numbers of the format, the kinds of frames, the refusals, the classes of node bytes, and the copying and comparing of bytes.
+#![tactic(auto)]
+
 pub mod byte;
 pub mod copy;
 pub mod kind;

@@ -74,32 +74,32 @@ impl Limits {
 
     // Each number is the one of the definitions.
     pub fn stated()
-        ensures* do_value { do ⌜ (← (⟦Limits::TEXT⟧).entry) ≡ max_text ⌝ }
-        ensures* do_value_2 { do ⌜ (← (⟦Limits::LINE_DIGITS⟧).entry) ≡ max_line_digits ⌝ }
-        ensures* do_value_3 { do ⌜ (← (⟦Limits::SYMBOLS⟧).entry) ≡ max_symbols ⌝ }
-        ensures* do_value_4 { do ⌜ (← (⟦Limits::ARITY⟧).entry) ≡ max_arity ⌝ }
-        ensures* do_value_5 { do ⌜ (← (⟦Limits::FIRST_VARIABLE⟧).entry) ≡ first_variable ⌝ }
-        ensures* do_value_6 { do ⌜ (← (⟦Limits::VARIABLES⟧).entry) ≡ variable_count ⌝ }
-        ensures* do_value_7 { do ⌜ (← (⟦Limits::EQUATIONS⟧).entry) ≡ max_equations ⌝ }
-        ensures* do_value_8 { do ⌜ (← (⟦Limits::TASKS⟧).entry) ≡ max_tasks ⌝ }
-        ensures* do_value_9 { do ⌜ (← (⟦Limits::SIDE_NODES⟧).entry) ≡ max_side_nodes ⌝ }
-        ensures* do_value_10 { do ⌜ (← (⟦Limits::POSITIONS⟧).entry) ≡ position_count ⌝ }
-        ensures* do_value_11 { do ⌜ (← (⟦Limits::TASK_NODES⟧).entry) ≡ max_task_nodes ⌝ }
-        ensures* do_value_12 { do ⌜ (← (⟦Limits::SUBJECT⟧).entry) ≡ position_count ⌝ }
-        ensures* do_value_13 { do ⌜ (← (⟦Limits::FILLING_NODE⟧).entry) ≡ filling_node ⌝ }
-        ensures* do_value_14 { do ⌜ (← (⟦Limits::NODES⟧).entry) ≡ node_count ⌝ }
-        ensures* do_value_15 { do ⌜ (← (⟦Limits::ROW_CELLS⟧).entry) ≡ row_cells ⌝ }
-        ensures* do_value_16 { do ⌜ (← (⟦Limits::CELLS⟧).entry) ≡ cell_count ⌝ }
-        ensures* do_value_17 { do ⌜ (← (⟦Limits::FIRST_EQUATION_LINE⟧).entry) ≡ first_equation_line ⌝ }
-        ensures* do_value_18 { do ⌜ (← (⟦Limits::STEPS⟧).entry) ≡ max_steps ⌝ }
-        ensures* do_value_19 { do ⌜ (← (⟦Limits::ELEMENTS⟧).entry) ≡ max_elements ⌝ }
-        ensures* do_value_20 { do ⌜ (← (⟦Limits::LINES⟧).entry) ≡ max_lines ⌝ }
-        ensures* do_value_21 { do ⌜ (← (⟦Limits::TURNS⟧).entry) ≡ max_turns ⌝ }
-        ensures* do_value_22 { do ⌜ (← (⟦Limits::NO_POSITION⟧).entry) ≡ no_position ⌝ }
-        ensures* do_value_23 { do ⌜ (← (⟦Limits::RECORD⟧).entry) ≡ record_bytes ⌝ }
-        ensures* do_value_24 { do ⌜ (← (⟦Limits::TABLE⟧).entry) ≡ table_bytes ⌝ }
-        ensures* do_value_25 { do ⌜ (← (⟦Limits::SCRATCH⟧).entry) ≡ scratch_bytes ⌝ }
-        ensures* do_value_26 { do ⌜ (← (⟦Limits::TERM⟧).entry) ≡ term_bytes ⌝ }
-        ensures* do_value_27 { do ⌜ (← (⟦Limits::LOG⟧).entry) ≡ log_bytes ⌝ }
+        ensures text { Self.TEXT ≡ max_text }
+        ensures line_digits { Self.LINE_DIGITS ≡ max_line_digits }
+        ensures symbols { Self.SYMBOLS ≡ max_symbols }
+        ensures arity { Self.ARITY ≡ max_arity }
+        ensures first_variable { Self.FIRST_VARIABLE ≡ first_variable }
+        ensures variables { Self.VARIABLES ≡ variable_count }
+        ensures equations { Self.EQUATIONS ≡ max_equations }
+        ensures tasks { Self.TASKS ≡ max_tasks }
+        ensures side_nodes { Self.SIDE_NODES ≡ max_side_nodes }
+        ensures positions { Self.POSITIONS ≡ position_count }
+        ensures task_nodes { Self.TASK_NODES ≡ max_task_nodes }
+        ensures subject { Self.SUBJECT ≡ position_count }
+        ensures filling_node { Self.FILLING_NODE ≡ filling_node }
+        ensures nodes { Self.NODES ≡ node_count }
+        ensures row_cells { Self.ROW_CELLS ≡ row_cells }
+        ensures cells { Self.CELLS ≡ cell_count }
+        ensures first_equation_line { Self.FIRST_EQUATION_LINE ≡ first_equation_line }
+        ensures steps { Self.STEPS ≡ max_steps }
+        ensures elements { Self.ELEMENTS ≡ max_elements }
+        ensures lines { Self.LINES ≡ max_lines }
+        ensures turns { Self.TURNS ≡ max_turns }
+        ensures no_position { Self.NO_POSITION ≡ no_position }
+        ensures record { Self.RECORD ≡ record_bytes }
+        ensures table { Self.TABLE ≡ table_bytes }
+        ensures scratch { Self.SCRATCH ≡ scratch_bytes }
+        ensures term { Self.TERM ≡ term_bytes }
+        ensures log { Self.LOG ≡ log_bytes }
     {}
 }

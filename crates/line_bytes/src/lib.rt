@@ -1,4 +1,6 @@
 // Lines at rest in lent memory, and the records of finished ones: their bytes.
+#![tactic(auto)]
+
 pub mod edit;
 pub mod element;
 pub mod layout;

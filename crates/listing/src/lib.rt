@@ -1,3 +1,5 @@
 // The program's listing: frames in the sheet's digits.
+#![tactic(auto)]
+
 pub mod digits;
 pub mod kinds;

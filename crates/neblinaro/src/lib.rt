@@ -1,4 +1,6 @@
 // The calls for a marking host written in C. Each is lent the whole sheet and reads it afresh; nothing is kept between calls.
+#![tactic(auto)]
+
 pub mod always;
 pub mod check;
 pub mod compare;

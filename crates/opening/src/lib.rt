@@ -1,2 +1,4 @@
 // The start of the listing: the sheet is read and every direction walked.
+#![tactic(auto)]
+
 pub mod open;

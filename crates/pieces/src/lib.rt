@@ -1,2 +1,4 @@
 // The listing, piece by piece.
+#![tactic(auto)]
+
 pub mod next;

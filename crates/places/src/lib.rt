@@ -1,2 +1,4 @@
 // From place to place of the listing.
+#![tactic(auto)]
+
 pub mod step;

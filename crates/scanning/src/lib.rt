@@ -1,4 +1,6 @@
 // Reading the digits of a line, and the terms of a frame.
+#![tactic(auto)]
+
 pub mod frame;
 pub mod known;
 pub mod scan;

@@ -1,2 +1,4 @@
 // The search for a step, by positions or rule by rule.
+#![tactic(auto)]
+
 pub mod seek;

@@ -1,2 +1,4 @@
 // The tasks of the listing: what each prints.
+#![tactic(auto)]
+
 pub mod task;

@@ -1,4 +1,6 @@
 // Terms, their prefix form and their positions. The definitions stand in specs/.
 // Code: the number of nodes of the term that starts at each byte, and rows of arguments.
+#![tactic(auto)]
+
 pub mod arguments;
 pub mod measure;

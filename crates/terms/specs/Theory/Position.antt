@@ -52,6 +52,7 @@ replace_first t ts p u h = go (ltb p (size t)) (lt→ltb p (size t) h)
   where
     go : (b : Bool) → T b → elim b as (λ x. Terms) [ true ↦ cons (replace t p u) ts | false ↦ cons t (replace_in ts (p - size t) u) ] ≡ cons (replace t p u) ts
     go true h = refl
+    go false h = elim h [ ]
 
 pub replace_rest : (t : Term) (ts : Terms) (p : ℕ) (u : Term) → size t ≤ p → replace_in (cons t ts) p u ≡ cons t (replace_in ts (p - size t) u)
 unfolding replace

@@ -1,5 +1,5 @@
 -- Laws of the prefix form: what terms spell, and that `terms_of` reads it back.
-use Rattle.std.specs.Prelude.{ℕ, zero, suc, ◌+◌, ◌-◌, ◌≤◌, ◌<◌, ◌≡◌, refl, List, [], ◌∷◌, ◌++◌, length}
+use Rattle.std.specs.Prelude.{ℕ, zero, suc, ◌+◌, ◌-◌, ◌≤◌, ◌<◌, ◌≡◌, refl, List, [], ◌++◌, length}
 use Rattle.std.proofs.Common.{sym, ap, ◌∙◌, append_assoc, append-nil, length-append, arith}
 use Rattle.format.specs.Limits.{max_symbols, variable_count}
 use Rattle.format.specs.Theory.Byte.{symbol_class, variable_class}

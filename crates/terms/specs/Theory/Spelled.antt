@@ -65,4 +65,4 @@ module _ {bytes : List ℕ} {end : ℕ} {arities : List ℕ} {i : ℕ} where
   spelled_room {ss} s h = let e = length_prefixes ss in let d = s.ends in omega (arith, stored_room s.bytes_there (omega arith))
 
   pub variable_low : {ss : Terms} → Spelled bytes end arities i ss → i < end → first_variable ≤ get_or bytes i 0 → get_or bytes i 0 - first_variable < variable_count
-  variable_low {ss} s h l = elim (first_spelled ss s h) [ variable_first b k r ↦ omega arith | symbol_first b k c r ↦ absurd (omega arith) ]
+  variable_low {ss} s h l = elim (first_spelled ss s h) as (λ _ _. get_or bytes i 0 - first_variable < variable_count) [ variable_first b k r ↦ omega arith | symbol_first b k c r ↦ absurd (omega arith) ]
