@@ -99,6 +99,7 @@ class Function:
         self.need = {}
         self.place_of = {}
         self.asked = {}
+        self.places_named = set()
         for k, n in enumerate(info["needs"]):
             self.need[norm(n[0])] = n[1]
             at = info["asked_at"][k]
@@ -122,11 +123,8 @@ class Function:
             if self.arm.get(p):
                 arm, _, entries = self.arm[p]
                 for own, step, fields in entries:
-                    if fields:
-                        for f in fields:
-                            self.arm_field[norm(step), norm(f)] = f"{arm}.{own}"
-                    else:
-                        self.arm_field[norm(step), None] = f"{arm}.{own}"
+                    key = (norm(step), tuple(norm(f) for f in fields))
+                    self.arm_field.setdefault(key, f"{arm}.{own}")
         return m
 
     def find_need(self, old):
@@ -137,6 +135,10 @@ class Function:
 
 
 WORDS = {"well-formed": "well_formed", "type-inv": "type_inv", "ghost-name": "ghost_name", "ref-ptr": "ref_ptr"}
+
+
+def pre_fields(fn):
+    return (fn.info.get("pre") or {}).get("fields") or []
 
 
 def turn_context(text, fn, place, var, helpers, where):
@@ -150,18 +152,25 @@ def turn_context(text, fn, place, var, helpers, where):
             all_steps.setdefault(norm(old), (new, fn.clauses.get(p), p))
     pre = fn.info.get("pre")
     contexts = {var}
-    # aliases: let A = c.before.. in
-    while True:
-        m = re.search(r"\blet (" + NAME + r") = (" + NAME + r")((?:\.before)*) in\s*", text)
-        found = None
-        for m in re.finditer(r"let (" + NAME + r") = (" + NAME + r")((?:\.before)*) in\s*", text):
-            if m[2] in contexts:
-                found = m
-                break
-        if not found:
+    # aliases of contexts and of steps are written out
+    LET = re.compile(r"let (" + NAME + r") = (" + NAME + r")((?:\.[^\s(){}\[\];,.:\"`λ]+)*) in\s*")
+    again = True
+    while again:
+        again = False
+        for m in LET.finditer(text):
+            if m[2] not in contexts:
+                continue
+            fields = [f for f in m[3].split(".") if f]
+            k = 0
+            while k < len(fields) and fields[k] == "before":
+                k += 1
+            rest = fields[k:]
+            whole = len(rest) <= 1 or rest[-1] in ("ensures", "requires", "given") or (rest[-1].isdigit() and rest[0] == "requires" and norm(m[1]) != "" and len(pre_fields(fn)) > 2)
+            if not whole:
+                continue
+            text = text[: m.start()] + re.sub(r"(?<![^\s(){}\[\];,\"`λ→])" + re.escape(m[1]) + r"(?=[\s(){}\[\];,.]|$)", lambda q: m[2] + m[3], text[m.end():])
+            again = True
             break
-        contexts.add(found[1])
-        text = text[: found.start()] + text[found.end():]
 
     def path(m):
         head, rest = m[1], m[2]
@@ -178,11 +187,10 @@ def turn_context(text, fn, place, var, helpers, where):
         s = steps.get(norm(f)) or all_steps.get(norm(f))
         clauses = None
         out = [var]
-        second = norm(fields[1]) if len(fields) > 1 else ""
-        if (norm(f), second) in fn.arm_field:
-            return ".".join([var, fn.arm_field[norm(f), second]] + [WORDS.get(g, g) for g in fields[2:]])
-        if (norm(f), None) in fn.arm_field:
-            return ".".join([var, fn.arm_field[norm(f), None]] + [WORDS.get(g, g) for g in fields[1:]])
+        for n in range(len(fields), 0, -1):
+            key = (norm(f), tuple(norm(g) for g in fields[1:n]))
+            if key in fn.arm_field:
+                return ".".join([var, fn.arm_field[key]] + [WORDS.get(g, g) for g in fields[n:]])
         if s:
             out.append(s[0])
             clauses = s[1]
@@ -191,7 +199,7 @@ def turn_context(text, fn, place, var, helpers, where):
             if f == "requires":
                 clauses = pre
         rest = [WORDS.get(g, g) for g in fields[1:]]
-        if not isinstance(clauses, dict) or len(clauses.get("fields") or []) < 2:
+        if not isinstance(clauses, dict) or not clauses.get("fields"):
             return ".".join(out + rest)
         names = clauses["fields"]
         if f == "requires":
@@ -217,21 +225,30 @@ def turn_context(text, fn, place, var, helpers, where):
     text = re.sub(r"(?<![^\s(){}\[\];,\"`λ→])(" + NAME + r")((?:\.[^\s(){}\[\];,.:\"`λ]+)+|(?=[\s(){}\[\];,]|$))", path, text)
     if "\0CTX\0" in text:
         # a context handed to a helper
-        def hand(m):
-            h = m[1]
+        while "\0CTX\0" in text:
+            at = text.index("\0CTX\0")
+            depth, i = 0, at - 1
+            while i >= 0:
+                if text[i] in ")]}":
+                    depth += 1
+                elif text[i] in "([{":
+                    if depth == 0:
+                        break
+                    depth -= 1
+                elif depth == 0 and text[i] in ",=;↦" or depth == 0 and text[i - 2 : i + 1] == " in":
+                    break
+                i -= 1
+            group = text[i + 1 : at].split()
+            h = group[0] if group else None
             want = helpers.get(h)
-            if want is None:
-                say(where, "a context is handed to", h)
-                return f"{h}{m[2]}{var}"
             n, p = 0, place
             while p and p != want:
                 p = fn.parent.get(p)
                 n += 1
-            if p is None:
-                say(where, "no place", want, "above", place, "for", h)
-                return f"{h}{m[2]}{var}"
-            return f"{h}{m[2]}{var}{'.before' * n}"
-        text = re.sub(r"(" + NAME + r")((?:\s+[^\s\0]+)*?\s+)\0CTX\0", hand, text)
+            if want is None or p is None:
+                say(where, "a context is handed to", h, "of", want, "from", place)
+                n = 0
+            text = text[:at] + var + ".before" * n + text[at + len("\0CTX\0") :]
         text = text.replace("\0CTX\0", var)
     return text
 
@@ -392,7 +409,7 @@ def turn(path, crate, module, fn):
                     table[b] = f"l.initial.{names[j]}" if j < len(flags) and flags[j] else f"l.{names[j]}"
                 elif j - len(names) < len(changed):
                     table[b] = f"l.{changed[j - len(names)]}"
-            rhs = re.sub(r"(?<![^\s(){}\[\];,\"`])(" + NAME + r")(?![^\s(){}\[\];,.\"`])", lambda q: table.get(q[1], q[1]), rhs)
+            rhs = re.sub(r"(?<![^\s(){}\[\];,\"`])(" + NAME + r")(?![^\s(){}\[\];,.\"`])(?! =\s)", lambda q: table.get(q[1], q[1]), rhs)
             word = m[1]
             inv.append(f"{lead}abbrev pub {word}-{new} : goal.{word}-{new}\n{unf}{word}-{new} l ={rhs}")
             continue
@@ -416,7 +433,7 @@ def turn(path, crate, module, fn):
             asked = fn.asked.get(new)
             if asked and len(asked) > 1:
                 body = by_clause(body, asked)
-            if body.strip() == "search rules" or body.strip() == "omega arith":
+            if not unf and body.strip() in ("search rules", "omega arith"):
                 continue
             answers.append((lead, f"pub {new} : goal.{new}\n{unf}{new} {var} ={body}"))
             done.add(new)
@@ -432,7 +449,8 @@ def turn(path, crate, module, fn):
             if new is None:
                 say(path, "a helper:", rest[:80].replace("\n", " "))
             sig, _, body = rest.partition("\n")
-            sig = re.sub(r"tie\.(" + NAME + r")(?: invariant-" + NAME + r"| decreases-" + NAME + r")*", lambda q: "goal." + (fn.new_place.get(norm(q[1])) or q[1]), sig)
+            sig = re.sub(r"tie\.(" + NAME + r")(?: invariant-" + NAME + r"| decreases-" + NAME + r")*", lambda q: (fn.new_place.get(norm(q[1])) or q[1]), sig)
+            fn.places_named |= {fn.new_place.get(norm(q)) or q for q in re.findall(r"tie\.(" + NAME + r")", rest.partition("\n")[0])}
             lines = body.split("\n")
             unf = ""
             if lines[0].startswith("unfolding"):
@@ -440,7 +458,7 @@ def turn(path, crate, module, fn):
                 lines = lines[1:]
             body = "\n".join(lines)
             var = None
-            vm = re.search(r"\((" + NAME + r") : goal\.", sig)
+            vm = re.search(r"\((" + NAME + r") : (?:" + "|".join(re.escape(x) for x in fn.info["places_by_name"]) + r")\)", sig)
             var = vm[1] if vm else "c"
             if place:
                 sig = turn_context(sig, fn, place, var, helpers, path + " " + hm[1]) if var + "." in sig else sig
@@ -493,7 +511,7 @@ def turn(path, crate, module, fn):
         with open(os.path.join(folder, "Invariants.antt"), "w", encoding="utf-8") as f:
             f.write(head + "\n\n" + "\n\n".join(inv) + "\n")
     if answers:
-        head = "\n".join((comment if not inv else ["-- Goals of `" + module.split(".")[-1] + "`."]) + uses + [f"use Rattle.{crate}.proofs.{module}.Goals as goal"])
+        head = "\n".join((comment if not inv else ["-- Goals of `" + module.split(".")[-1] + "`."]) + uses + [f"use Rattle.{crate}.proofs.{module}.Goals as goal"] + ([f"use Rattle.{crate}.proofs.{module}.Goals.{{{', '.join(sorted(fn.places_named))}}}"] if fn.places_named else []))
         with open(os.path.join(folder, "Answers.antt"), "w", encoding="utf-8") as f:
             f.write(head + "\n\n" + "\n\n".join(l + a for l, a in answers) + "\n")
     os.remove(path)

@@ -157,7 +157,7 @@ pub fn exceeds_arguments(
 
 // The verdict of the first two arguments that are not equal, and the arguments behind them. Equally many arguments are not asked for: where one of the terms has no
 // more, what is left is as if the first one's argument were smaller.
-#[derive(Drop)]
+#[derive(Clone, Copy)]
 pub struct Difference {
     verdict: Verdict,
     first: Arguments,

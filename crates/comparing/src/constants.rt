@@ -6,7 +6,7 @@ ghost use Rattle.comparing.specs.ForContracts.Comparing.{TellsConstants};
 use ordering::verdict::Verdict;
 
 // The verdict, or that it has to be asked for.
-#[derive(Drop)]
+#[derive(Clone, Copy)]
 pub enum Told {
     Verdict(Verdict),
     Nothing,

@@ -5,7 +5,7 @@ use rules::opened::Opened;
 
 // Where the listing goes on: nothing is printed yet; the table of a rule; a line of a rule's table, with its number from 0 and the number of lines; a task, with the
 // steps of the runs before it; nothing is left.
-#[derive(Drop)]
+#[derive(Clone, Copy)]
 pub enum Place {
     Start,
     Table(usize),
@@ -28,21 +28,21 @@ pub fn is_end(place: Place) -> bool
 }
 
 // The place, and what is known of the sheet.
-#[derive(Drop)]
+#[derive(Clone, Copy)]
 pub struct Cursor {
     pub place: Place,
     pub opened: Opened,
 }
 
 // The next place, and how many bytes stand in the buffer.
-#[derive(Drop)]
+#[derive(Clone, Copy)]
 pub struct Piece {
     pub place: Place,
     pub bytes: usize,
 }
 
 // The next cursor, and how many bytes stand in the buffer.
-#[derive(Drop)]
+#[derive(Clone, Copy)]
 pub struct Listed {
     pub cursor: Cursor,
     pub bytes: usize,

@@ -17,7 +17,7 @@ pub fn wide(x: u8) -> usize
 }
 
 // A symbol or a variable, each with its number, or a byte that stands for neither.
-#[derive(Drop)]
+#[derive(Clone, Copy)]
 pub enum Class {
     Symbol(u8),
     Variable(u8),

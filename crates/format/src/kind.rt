@@ -2,7 +2,7 @@
 ghost use Rattle.std.specs.Prelude.{◌≡◌};
 ghost use Rattle.format.specs.Kind.{kind_of};
 
-#[derive(Drop)]
+#[derive(Clone, Copy)]
 pub enum FrameKind {
     Symbols,
     Equation,

@@ -59,7 +59,7 @@ pub fn judge_lines(
 }
 
 // The refusal of a walk and its equation; or every walk solves, and where the lines of the judged rule end.
-#[derive(Drop)]
+#[derive(Clone, Copy)]
 pub enum Judged {
     Refused(Refusal, usize),
     End(usize),

@@ -11,7 +11,7 @@ use format::limits::Limits;
 use line_bytes::layout::{COUNT, FIRST_ELEMENT};
 
 // Where kept lines stand in the table.
-#[derive(Drop)]
+#[derive(Clone, Copy)]
 pub struct KeptLines {
     pub from: usize,
     pub end: usize,
@@ -38,7 +38,7 @@ fn copy_line(records: &[u8], from: usize, n: usize, table: &mut [u8], to: usize)
 }
 
 // There is no room for the lines, or where they end.
-#[derive(Drop)]
+#[derive(Clone, Copy)]
 pub enum Kept {
     Full,
     End(usize),

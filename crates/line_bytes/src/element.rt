@@ -6,13 +6,13 @@ ghost use Rattle.line_bytes.specs.ForContracts.Resting.{meaning, marked, marks, 
 use crate::edit::put;
 
 // An inequality or an equality, each between two positions.
-#[derive(Drop)]
+#[derive(Clone, Copy)]
 pub enum Relation {
     Greater(u8, u8),
     Equal(u8, u8),
 }
 
-#[derive(Drop)]
+#[derive(Clone, Copy)]
 pub struct Element {
     pub relation: Relation,
 }

@@ -13,7 +13,7 @@ use line_bytes::layout::{COUNT, FIRST_ELEMENT, REDUCED};
 use line_bytes::rebind::rebind;
 
 // The first `count` elements count. The first `reduced` of them are known to be fully reduced: they are not looked at again, and need not be filled in.
-#[derive(Drop)]
+#[derive(Clone, Copy)]
 pub struct Line {
     pub bindings: [u8; Limits::VARIABLES],
     pub count: usize,

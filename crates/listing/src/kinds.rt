@@ -2,7 +2,7 @@
 ghost use Rattle.std.specs.Prelude.{◌≡◌};
 ghost use Rattle.listing.specs.Listing.{table_kind, line_kind, run_kind, step_kind, judgement_kind, comparison_kind, total_kind, refusal_kind};
 
-#[derive(Drop)]
+#[derive(Clone, Copy)]
 pub struct PrintedKind {
     pub nothing: (),
 }

@@ -5,7 +5,7 @@ ghost use Rattle.ordering.specs.Decision.{verdict_of, clause_number, clause_numb
 use crate::verdict::Verdict;
 
 // The clauses of the ordering, in the paper's order.
-#[derive(Drop)]
+#[derive(Clone, Copy)]
 pub enum Clause {
     L1,
     L2,
@@ -13,7 +13,7 @@ pub enum Clause {
 }
 
 // The first term is smaller, equal or greater: "with 'greater' the first of L1, L2, L3 that applies, and with 'smaller' the first that applies the other way round".
-#[derive(Drop)]
+#[derive(Clone, Copy)]
 pub enum Decision {
     Smaller(Clause),
     Equal,

@@ -3,7 +3,7 @@ ghost use Rattle.std.specs.Prelude.{◌≡◌};
 ghost use Rattle.ordering.specs.Verdict.{verdict_number};
 
 // The first term is smaller, equal or greater.
-#[derive(Drop)]
+#[derive(Clone, Copy)]
 pub enum Verdict {
     Smaller,
     Equal,

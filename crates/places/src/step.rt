@@ -72,7 +72,7 @@ pub fn from_line(
 }
 
 // The tasks that are printed, and the steps of their runs.
-#[derive(Drop)]
+#[derive(Clone, Copy)]
 pub struct Done {
     pub tasks: usize,
     pub steps: usize,

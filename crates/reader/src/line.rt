@@ -5,7 +5,7 @@ ghost use Rattle.reader.specs.ForContracts.Lines.{NextRead};
 use scanning::text::{LineEnd, Span, line_end};
 
 // A line of the stated digits: its number, counted from 1, its digits, and the offset behind its LF.
-#[derive(Drop)]
+#[derive(Clone, Copy)]
 pub struct FrameLine {
     pub number: usize,
     pub digits: Span,
@@ -13,7 +13,7 @@ pub struct FrameLine {
 }
 
 // What comes next in a sheet: a line of the stated digits, which is a frame; the number of a line that is none; or the sheet's end.
-#[derive(Drop)]
+#[derive(Clone, Copy)]
 pub enum NextLine {
     Frame(FrameLine),
     Broken(usize),

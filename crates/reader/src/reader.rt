@@ -7,7 +7,7 @@ ghost use Rattle.reader.specs.ForContracts.Lines.{NextRead};
 use crate::line::{NextLine, line_from};
 
 // How far it has come: the offset of its next byte, and how many lines stand before that.
-#[derive(Drop)]
+#[derive(Clone, Copy)]
 pub struct Reader<'a> {
     pub sheet: &'a [u8],
     pub offset: usize,

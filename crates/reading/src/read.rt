@@ -116,14 +116,14 @@ pub fn read_frame(known: Known, s: &[u8], span: Span) -> FrameReading
 }
 
 // A sheet: accepted, or refused with a line.
-#[derive(Drop)]
+#[derive(Clone, Copy)]
 pub enum SheetStatus {
     Accepted,
     Refused(Refusal, usize),
 }
 
 // `known` stands first: its zeros and the line are then not stored as one, to be read back in parts.
-#[derive(Drop)]
+#[derive(Clone, Copy)]
 pub struct SheetReading {
     pub known: Known,
     pub status: SheetStatus,

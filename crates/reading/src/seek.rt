@@ -62,7 +62,7 @@ pub fn equation_at(s: &[u8], known: Known, e: usize, out: &mut [u8]) -> usize
 }
 
 // What a task asks for besides its terms: a run's step limit, a judgement's equation and direction.
-#[derive(Drop)]
+#[derive(Clone, Copy)]
 pub enum TaskHead {
     Run(usize),
     Judgement(usize, usize),
@@ -70,7 +70,7 @@ pub enum TaskHead {
 }
 
 // A task, and the digits of its terms.
-#[derive(Drop)]
+#[derive(Clone, Copy)]
 pub struct TaskFound {
     pub head: TaskHead,
     pub from: usize,

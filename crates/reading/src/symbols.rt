@@ -11,7 +11,7 @@ use scanning::scan::ReadStatus;
 use scanning::text::{Span, byte_at};
 
 // A frame's status, and what is known after it.
-#[derive(Drop)]
+#[derive(Clone, Copy)]
 pub struct FrameReading {
     pub status: ReadStatus,
     pub known: Known,

@@ -1,5 +1,5 @@
 -- The two tests of document 01, 'Runs': that of a run and that of the reference run.
-use Rattle.std.specs.Prelude.{ℕ, Bool, true, false, List, [], ◌∷◌}
+use Rattle.std.specs.Prelude.{ℕ, Bool, true, false, List}
 use Rattle.std.proofs.Math.Dec.{ltb}
 use Rattle.format.specs.Limits.{variable_count}
 use Rattle.format.specs.Lists.{Every}

@@ -3,7 +3,7 @@ ghost use Rattle.std.specs.Prelude.{◌≡◌};
 ghost use Rattle.reducing.specs.Run.{ending_number};
 
 // "none found, ending 00; k steps done, ending 01; result above 160 nodes, ending 02"
-#[derive(Drop)]
+#[derive(Clone, Copy)]
 pub enum Ending {
     NoneFound,
     LimitReached,

@@ -33,7 +33,7 @@ pub fn walk_rule(equations: &[u8], lengths: &[u8], rule: usize, scratch: &mut [u
 }
 
 // The walk is refused; or there is no room for the lines; or where they end.
-#[derive(Drop)]
+#[derive(Clone, Copy)]
 pub enum RuleKept {
     Refused(Refusal),
     Full,

@@ -2,7 +2,7 @@
 use scanning::known::Known;
 
 // What its reading remembers, and whether the lines of all rules fit the table together, and are kept there.
-#[derive(Drop)]
+#[derive(Clone, Copy)]
 pub struct Opened {
     pub known: Known,
     pub fits: bool,

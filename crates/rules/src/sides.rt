@@ -7,7 +7,7 @@ use format::byte::wide;
 use format::limits::Limits;
 use terms::arguments::Arguments;
 
-#[derive(Drop)]
+#[derive(Clone, Copy)]
 pub struct RuleSides {
     pub source: Arguments,
     pub target: Arguments,

@@ -14,7 +14,7 @@ use format::refusal::Refusal;
 pub const BOUNDS: usize = 2 * Limits::EQUATIONS + 1;
 
 // The refusal of a walk and its equation; or every walk solves, and the lines do not fit together, or are kept.
-#[derive(Drop)]
+#[derive(Clone, Copy)]
 pub enum Walks {
     Refused(Refusal, usize),
     Full,

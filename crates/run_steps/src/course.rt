@@ -14,7 +14,7 @@ use step_take::part::Replaced;
 use step_take::step::{put_step, take_step};
 
 // What a run starts from: the rules, whether the lines of all fit the table together, the step limit, and the subject: how many nodes it has, and these with their sizes.
-#[derive(Drop)]
+#[derive(Clone, Copy)]
 pub struct Start {
     pub rules: usize,
     pub fits: bool,
@@ -25,7 +25,7 @@ pub struct Start {
 }
 
 // How a run ends: its steps, its ending, and its last term: how many nodes it has, and these, which stand as a subject's do.
-#[derive(Drop)]
+#[derive(Clone, Copy)]
 pub struct Course {
     pub steps: usize,
     pub ending: Ending,

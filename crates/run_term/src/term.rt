@@ -40,7 +40,7 @@ fn prepare_next(
 }
 
 // What a run is asked: the opened sheet, the step limit, and the digits of the term, from `from` to `end`.
-#[derive(Drop)]
+#[derive(Clone, Copy)]
 pub struct RunAsked {
     pub opened: Opened,
     pub limit: usize,

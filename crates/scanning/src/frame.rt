@@ -49,7 +49,7 @@ fn side(width: usize) -> Wanted
 }
 
 // An equation, and how many variables there are up to its highest.
-#[derive(Drop)]
+#[derive(Clone, Copy)]
 pub struct EquationReading {
     pub status: ReadStatus,
     pub width: usize,

@@ -5,7 +5,7 @@ use format::limits::Limits;
 
 // The symbols' arities and their count; for each equation how many variables there are up to its highest; how many equations and tasks.
 // No symbols: no line is passed yet.
-#[derive(Drop)]
+#[derive(Clone, Copy)]
 pub struct Known {
     pub symbols: usize,
     pub arities: [u8; Limits::SYMBOLS],

@@ -8,7 +8,7 @@ use format::byte::{Class, classify, wide};
 use format::refusal::Refusal;
 
 // A node that is no declared symbol: a variable, with how many variables there are up to it, or a refusal.
-#[derive(Drop)]
+#[derive(Clone, Copy)]
 pub enum OtherNode {
     Variable(usize),
     Refused(Refusal),
@@ -38,14 +38,14 @@ fn greater(a: usize, b: usize) -> usize
 }
 
 // How a part of a frame is read: done, or refused.
-#[derive(Drop)]
+#[derive(Clone, Copy)]
 pub enum ReadStatus {
     Done,
     Refused(Refusal),
 }
 
 // Where the terms end, and how many variables there are up to the highest met.
-#[derive(Drop)]
+#[derive(Clone, Copy)]
 pub struct Scanned {
     pub status: ReadStatus,
     pub at: usize,
@@ -53,7 +53,7 @@ pub struct Scanned {
 }
 
 // What is to be read: so many terms, of at most so many nodes together, and whether they are ground. `width` is that of the terms before them.
-#[derive(Drop)]
+#[derive(Clone, Copy)]
 pub struct Wanted {
     pub terms: usize,
     pub nodes: usize,

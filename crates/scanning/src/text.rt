@@ -14,7 +14,7 @@ const BASE: usize = 16;
 const BLOCK: usize = 16;
 
 // The digits from `from` to `end`.
-#[derive(Drop)]
+#[derive(Clone, Copy)]
 pub struct Span {
     pub from: usize,
     pub end: usize,
@@ -91,7 +91,7 @@ fn blocks_end(s: &[u8], at: usize) -> usize
 }
 
 // Where the digits of a line end, if it is a line of the stated digits and LF.
-#[derive(Drop)]
+#[derive(Clone, Copy)]
 pub enum LineEnd {
     At(usize),
     Broken,

@@ -17,7 +17,7 @@ use terms::measure::measure;
 use walking::walk::WalkProgress;
 
 // Yes or no, with "the turns taken by then".
-#[derive(Drop)]
+#[derive(Clone, Copy)]
 pub enum AlwaysAnswer {
     Yes(u16),
     No(u16),

@@ -21,14 +21,14 @@ const FIRST: usize = Limits::LINES - 1;
 pub const MEMORY: usize = Limits::LINES * LINE;
 
 // How a walk ends.
-#[derive(Drop)]
+#[derive(Clone, Copy)]
 pub enum WalkEnd {
     Solved,
     Refused(Refusal),
 }
 
 // How it ends, and the counts of lines and turns of a walk that solves.
-#[derive(Drop)]
+#[derive(Clone, Copy)]
 pub struct WalkResult {
     pub ending: WalkEnd,
     pub lines: usize,

@@ -15,7 +15,7 @@ use format::limits::Limits;
 use terms::measure::measure;
 
 // Where the two sides of a direction stand among the equation's positions.
-#[derive(Drop)]
+#[derive(Clone, Copy)]
 pub struct Ends {
     pub source: usize,
     pub target: usize,

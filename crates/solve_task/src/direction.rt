@@ -18,7 +18,7 @@ use reading::seek::equation_at;
 use scanning::known::Known;
 
 // The calls that ask for an equation in a direction.
-#[derive(Drop)]
+#[derive(Clone, Copy)]
 pub enum Call {
     Solve,
     Always,

@@ -14,14 +14,14 @@ use rules::walks::BOUNDS;
 use step_try::applies::{KeptRule, applies};
 
 // What a search finds: nothing, or a rule and a node.
-#[derive(Drop)]
+#[derive(Clone, Copy)]
 pub enum Found {
     Nothing,
     Step(usize, usize),
 }
 
 // What a search goes by besides the buffers: the rules, whether the lines of all fit the table together, and the subject's nodes.
-#[derive(Drop)]
+#[derive(Clone, Copy)]
 pub struct Search {
     pub rules: usize,
     pub fits: bool,

@@ -14,7 +14,7 @@ use terms::arguments::Arguments;
 use terms::measure::measure;
 
 // The result has more nodes than a task may have, or how many it has.
-#[derive(Drop)]
+#[derive(Clone, Copy)]
 pub enum Replaced {
     TooLarge,
     Size(usize),

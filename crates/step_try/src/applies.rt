@@ -18,7 +18,7 @@ use rules::sides::sides_of;
 use step_match::side::match_side;
 
 // A rule, and where its lines are kept in the table.
-#[derive(Drop)]
+#[derive(Clone, Copy)]
 pub struct KeptRule {
     pub rule: usize,
     pub lines: KeptLines,

@@ -77,7 +77,7 @@ fn list_line(
 }
 
 // The next line, and how many bytes stand in the buffer.
-#[derive(Drop)]
+#[derive(Clone, Copy)]
 pub struct LinesListed {
     pub line: usize,
     pub bytes: usize,

@@ -31,7 +31,7 @@ use scanning::text::Span;
 use solve_equation::positions::WalkEnd;
 
 // The bytes that stand in the buffer, and the steps of a run.
-#[derive(Drop)]
+#[derive(Clone, Copy)]
 pub struct TaskListed {
     pub bytes: usize,
     pub steps: usize,

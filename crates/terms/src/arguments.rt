@@ -6,7 +6,7 @@ ghost use Rattle.terms.specs.ForContracts.Arguments.{arguments_at, behind_first}
 use format::byte::wide;
 
 // The terms from node `from` to node `end`, the last one not among them.
-#[derive(Drop)]
+#[derive(Clone, Copy)]
 pub struct Arguments {
     pub from: usize,
     pub end: usize,

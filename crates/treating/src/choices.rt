@@ -7,7 +7,7 @@ use line_bytes::element::EQUALITY;
 use line_bytes::layout::LINE;
 
 // The arguments of a term: `count` terms, which stand one behind the other from `from` to `end`.
-#[derive(Drop)]
+#[derive(Clone, Copy)]
 pub struct CountedArguments {
     pub from: usize,
     pub end: usize,

@@ -56,7 +56,7 @@ fn counted_arguments(sizes: &[u8], p: usize) -> CountedArguments
 }
 
 // The choices of p > q, which is element `at` of its line and is f(left) > g(right) under the bindings: those of the arguments of f, and `last` more.
-#[derive(Drop)]
+#[derive(Clone, Copy)]
 pub struct Choices {
     pub at: usize,
     pub p: u8,

@@ -14,14 +14,14 @@ use format::limits::Limits;
 use line_bytes::element::{Element, Relation};
 
 // The positions of an element's two sides, or of the terms reached from them.
-#[derive(Drop)]
+#[derive(Clone, Copy)]
 pub struct Sides {
     pub left: usize,
     pub right: usize,
 }
 
 // Nothing, the line deleted, the element deleted, two positions unified, or choices: an inequality's positions and those reached from them.
-#[derive(Drop)]
+#[derive(Clone, Copy)]
 pub enum Treatment {
     Reduced,
     DropLine,

@@ -8,7 +8,7 @@ use crate::unify::{UnifierAnswer, unify_terms};
 use format::limits::Limits;
 
 // Whether there is a unifier, and the bindings that give it.
-#[derive(Drop)]
+#[derive(Clone, Copy)]
 pub struct Unifier {
     pub answer: UnifierAnswer,
     pub bindings: [u8; Limits::VARIABLES],

@@ -20,7 +20,7 @@ use format::limits::Limits;
 use terms::arguments::{Arguments, arguments_of, other_arguments};
 
 // Whether there is a unifier; the bindings beside it are then those that give it.
-#[derive(Drop)]
+#[derive(Clone, Copy)]
 pub enum UnifierAnswer {
     Unified,
     Failed,

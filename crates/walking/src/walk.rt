@@ -33,7 +33,7 @@ use unifying::unifier::unify_positions;
 use unifying::unify::UnifierAnswer;
 
 // Where the walk stands: the two sides' positions, how many lines are finished, the place of the first unfinished line, and how many turns are taken.
-#[derive(Drop)]
+#[derive(Clone, Copy)]
 pub struct Walk {
     pub source: usize,
     pub target: usize,
@@ -43,13 +43,13 @@ pub struct Walk {
 }
 
 // Whether the walk goes on.
-#[derive(Drop)]
+#[derive(Clone, Copy)]
 pub enum WalkProgress {
     Going,
     Refused(Refusal),
 }
 
-#[derive(Drop)]
+#[derive(Clone, Copy)]
 pub struct Advanced {
     pub progress: WalkProgress,
     pub walk: Walk,

@@ -46,6 +46,7 @@ module _ (arities : List ℕ) where
           → ((ts : Terms) → count ts ≡ n → GroundAccessible ts → Above ss ts → P (cons s ts)) → {ts : Terms} → count ts ≡ suc n → Grounds arities ts → Accessibles ts → Above (cons s ss) ts → P ts
       go smaller below d y (each_cons x xs) (at_this {t = t} {ts = ts} h) = smaller t y.0 h ts (omega arith) (y.1, xs)
       go smaller below d y (each_cons x xs) (further {ts = ts} l) = below ts (omega arith) (y.1, xs) l
+      go smaller {ss = ss} below d y each_nil x8 = elim x8 [ ]
 
   by_place : (n : ℕ) (P : Terms → Type 0) → Progressive n P → (ss : Terms) → count ss ≡ n → GroundAccessible ss → P ss
   unfolding count
@@ -63,6 +64,7 @@ module _ (arities : List ℕ) where
   reached_accessible g (each_cons x xs) here_equal = x
   reached_accessible g (each_cons x xs) (here_greater h) = Acc.inv x (g, h)
   reached_accessible g (each_cons x xs) (there p) = reached_accessible g xs p
+  reached_accessible {t = t} g each_nil x5 = elim x5 [ ]
 
   -- Whether `t` is accessible where it is below `s`.
   abbrev BelowAccessible : Term → Term → Type 0
@@ -77,6 +79,8 @@ module _ (arities : List ℕ) where
   lexicographic_accessible : {s : Term} {ss ts : Terms} → Accessibles ss → Each (BelowAccessible s) ts → Grounds arities ts → Lexicographic s ss ts → Accessibles ts
   lexicographic_accessible (each_cons y ys) (each_cons x xs) g (at_first h a) = each_cons (Acc.inv y (g.0, h)) (all_accessible xs g.1 a)
   lexicographic_accessible (each_cons y ys) (each_cons x xs) g (at_later l) = each_cons y (lexicographic_accessible ys xs g.1 l)
+  lexicographic_accessible {s = s} {ts = ts} each_nil _ g x8 = elim x8 [ ]
+  lexicographic_accessible {s = s} (each_cons {t = t} {ts = ts} y ys) each_nil g x13 = elim x13 [ ]
 
   -- 3. A symbol over accessible arguments.
   abbrev Applied : ℕ → Type 0

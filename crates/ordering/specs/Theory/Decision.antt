@@ -2,7 +2,7 @@
 use Rattle.std.specs.Prelude.{ℕ, ◌<◌, ◌≡◌, ◌↔◌, List}
 use Rattle.std.proofs.Math.Path.{refl}
 use Rattle.std.proofs.Common.{ap, subst, arith}
-use Rattle.std.proofs.Math.Logic.{Iff}
+use mathlib.Core.Logic.Iff
 use Rattle.terms.specs.Term.{Term, Terms, app, Ground}
 use Rattle.ordering.specs.Order.{◌≻◌, SomeReaches}
 use Rattle.ordering.specs.Verdict.{Verdict, smaller, equal, greater, verdict}

@@ -1,6 +1,6 @@
 -- The ordering is transitive, irreflexive and asymmetric. Nothing is assumed of arities or variables.
-use Rattle.std.specs.Prelude.{ℕ, ◌<◌}
-use Rattle.std.proofs.Common.{arith}
+use Rattle.std.specs.Prelude.{ℕ, ◌<◌, ◌≡◌, refl}
+use Rattle.std.proofs.Common.{sym, subst, arith}
 use Rattle.terms.specs.Term.{Term, Terms, var, app}
 use Rattle.terms.specs.Theory.Induction.{Each, each_nil, each_cons, term_ind}
 use Rattle.ordering.specs.Order.{◌≻◌, L1, L2, L3, SomeReaches, here_equal, here_greater, there, ExceedsAll, none, more, Lexicographic, at_first, at_later}
@@ -20,11 +20,13 @@ some_trans : {ss : Terms} {t u : Term} → Each ChainsFrom ss → SomeReaches ss
 some_trans (each_cons p ps) here_equal h = here_greater h
 some_trans (each_cons p ps) (here_greater g) h = here_greater (p _ _ g h)
 some_trans (each_cons p ps) (there q) h = there (some_trans ps q h)
+some_trans {t = t} {u = u} each_nil x5 h = elim x5 [ ]
 
 all_some : {s u : Term} {ts : Terms} → Each (ChainsOver s) ts → ExceedsAll s ts → SomeReaches ts u → s ≻ u
 all_some (each_cons p ps) (more g a) here_equal = g
 all_some (each_cons p ps) (more g a) (here_greater h) = p _ g h
 all_some (each_cons p ps) (more g a) (there q) = all_some ps a q
+all_some {s = s} {u = u} each_nil _ x6 = elim x6 [ ]
 
 all_trans : {s t : Term} {us : Terms} → Each (Chain s t) us → s ≻ t → ExceedsAll t us → ExceedsAll s us
 all_trans each_nil h none = none
@@ -36,6 +38,7 @@ lexicographic_trans (each_cons p ps) (at_first g a) (at_first h b) (more x c) = 
 lexicographic_trans (each_cons p ps) (at_first g a) (at_later m) (more x c) = at_first g c
 lexicographic_trans (each_cons p ps) (at_later l) (at_first h b) (more x c) = at_first h c
 lexicographic_trans (each_cons p ps) (at_later l) (at_later m) (more x c) = at_later (lexicographic_trans ps l m c)
+lexicographic_trans {w = w} {v = v} {ts = ts} {us = us} each_nil x7 _ _ = elim x7 [ ]
 
 precedence_trans : {f g h : ℕ} → g < f → h < g → h < f
 precedence_trans i j = omega arith
@@ -74,15 +77,24 @@ some_irrefl : {w : Term} {ss : Terms} → Each Irreflexive ss → ((x : Term) �
 some_irrefl (each_cons p ps) k here_equal = p (k _ here_equal)
 some_irrefl (each_cons p ps) k (here_greater g) = p (≻_trans g (k _ here_equal))
 some_irrefl (each_cons p ps) k (there q) = some_irrefl ps (λ x m. k x (there m)) q
+some_irrefl {w = w} each_nil k x5 = elim x5 [ ]
+
+-- Stated of two equal rows of terms, and of two equal terms: no case equates a term with itself.
+lexicographic_unequal : {w : Term} {ss ts : Terms} → ss ≡ ts → Each Irreflexive ss → ¬ Lexicographic w ss ts
+lexicographic_unequal e (each_cons {t = s} p ps) (at_first {t₁ = t} g a) = let same : s ≡ t = cc in p (subst (λ x. s ≻ x) (sym same) g)
+lexicographic_unequal e (each_cons {ts = ss} p ps) (at_later {ts = ts} l) = let same : ss ≡ ts = cc in lexicographic_unequal same ps l
+lexicographic_unequal {w = w} e each_nil x3 = elim x3 [ ]
 
 lexicographic_irrefl : {w : Term} {ss : Terms} → Each Irreflexive ss → ¬ Lexicographic w ss ss
-lexicographic_irrefl (each_cons p ps) (at_first g a) = p g
-lexicographic_irrefl (each_cons p ps) (at_later l) = lexicographic_irrefl ps l
+lexicographic_irrefl p l = lexicographic_unequal refl p l
+
+app_unequal : {f : ℕ} {ss : Terms} {t : Term} → app f ss ≡ t → Each Irreflexive ss → ¬ (app f ss ≻ t)
+app_unequal {f} {ss} e p (L1 x) = some_irrefl p (λ y m. L1 m) (subst (λ u. SomeReaches ss u) (sym e) x)
+app_unequal {f} e p (L2 {g = g} i a) = let same : f ≡ g = cc in omega arith
+app_unequal {f} {ss} e p (L3 {ts = ts} l) = let same : ss ≡ ts = cc in lexicographic_unequal same p l
 
 app_irrefl : {f : ℕ} {ss : Terms} → Each Irreflexive ss → Irreflexive (app f ss)
-app_irrefl p (L1 x) = some_irrefl p (λ y m. L1 m) x
-app_irrefl p (L2 i a) = omega arith
-app_irrefl p (L3 l) = lexicographic_irrefl p l
+app_irrefl p g = app_unequal refl p g
 
 pub ≻_irrefl : {s : Term} → ¬ (s ≻ s)
 ≻_irrefl {s} = term_ind Irreflexive (λ v. var_exceeds_nothing) (λ f ss p. app_irrefl p) s

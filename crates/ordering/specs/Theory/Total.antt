@@ -107,6 +107,7 @@ pub exceeded_not_reached : {s : Term} {ts : Terms} → ExceedsAll s ts → ¬ So
 exceeded_not_reached (more g a) here_equal = ≻_irrefl g
 exceeded_not_reached (more g a) (here_greater h) = ≻_asym g h
 exceeded_not_reached (more g a) (there p) = exceeded_not_reached a p
+exceeded_not_reached (none {s = s}) x4 = elim x4 [ ]
 
 -- What a verdict says of two terms.
 abbrev pub VerdictSays : Verdict → Term → Term → Type 0

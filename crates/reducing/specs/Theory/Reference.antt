@@ -47,6 +47,7 @@ ltb_pos n = (λ h. ltb→lt 0 n (rw h tt), λ l. go (ltb 0 n) (lt→ltb 0 n l))
   where
     go : (b : Bool) → T b → b ≡ true
     go true h = refl
+    go false h = elim h [ ]
 
 pub line_test_is : (e : Equation) (d : Direction) (s : Solves e d) (ρ : Values) → (line_test e d ρ ≡ true) ↔ SomeLineHolds ρ (value e ρ) s.table
 unfolding line_test

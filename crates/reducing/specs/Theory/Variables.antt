@@ -17,6 +17,7 @@ use Rattle.reducing.specs.Theory.Match.{nothing_met, either}
 
 is_true : (b : Bool) → T b → b ≡ true
 is_true true h = refl
+is_true false h = elim h [ ]
 
 pub variable_itself : (v : ℕ) → has_variable v (var v) ≡ true
 unfolding has_variable

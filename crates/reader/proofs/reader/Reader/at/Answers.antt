@@ -1,0 +1,95 @@
+-- `Reader::at`: a walk of its code by hand. The struct is made of the slice and the numbers passed, in the result's local. A `&[u8]` is Copy, so
+-- what it owns is had twice: once for `sheet` at exit, and once inside the result, beside the facts of the numbers.
+use mathlib.Core.Path.{refl}
+use Prim.Native.Nat.{ℕ, ◌<◌, ◌^◌}
+use mathlib.Core.List.{List, [], ◌∷◌}
+use seplogic.Ra.Ura.{Ura}
+use mir.Syntax.{named, w64}
+use mir.Val.{Val, vint}
+use base.Logic.{SProp, ent, emp, via, fst∗}
+use base.Fml.{Lft, Share, ftrue, flft}
+use prog.Memory.{Memory}
+use prog.Routine.{Routine}
+use prog.Wp.{Calls, Loops, WpFn, Tables}
+use types.Logic.{Logic}
+use contract.Monad.{Fun}
+use contract.Running.{tables, tables_of}
+use types.Kit.{‵, raw, ◌⊛◌, ◌$◌, ◌∵◌, !, qed, by, move, use1, split, fsplit, fjoin, suffices, frame}
+use types.Part.{agg}
+use types.Run.{look, init, forget, stop, from, load, and_then, no_more, assigns, returns, enter, alloc1, alloc0, params1, pass1, pass0, free1, free0}
+use sound.WpLaws.{WpFn-mono}
+use denote.RattleType.{owns}
+use denote.Laws.{Is}
+use denote.Plain.{uint_vals, uint_Tells, uint_Makes}
+use denote.Builtin.{u8, usize}
+use denote.Ref.{Bor, NamedLft}
+use denote.Signature.{plain, named_lft}
+use denote.Slice.{ShrSlice, shr_slice_vals, shr_slice_Tells, shr_slice_Lawful, shr_slice_copy}
+use denote.Steps.{nothing, owned}
+use denote.Struct.Rest.{own_shut}
+use denote.Triple.Entry.{on_entry}
+use denote.Triple.Spec.{Meets, triple_of}
+use denote.Triple.Table.{entered}
+use denote.Triple.Walked.{says, Stays, stay_none, stay_none_slice, walk_of, Goes-none, Goes-none_slice, Walks, ends_at, walked, walk_Meets}
+use denote.Exit.{yes}
+use Rattle.reader.specs.declared.reader.Reader.{Reader}
+use Rattle.reader.proofs.Held.{slice_value, SliceOwn, arguments, values}
+use Rattle.reader.specs.contracts.reader.Reader as T
+use Rattle.reader.proofs.reader.Reader.TheLaws as T'
+use Rattle.reader.specs.contracts.reader.Reader.at.Key.{name as #reader_at}
+use Rattle.reader.specs.contracts.reader.Reader.at as reader_at
+use Rattle.reader.proofs.reader.Reader.at.Statement as stated
+use Rattle.reader.proofs.reader.Reader.at.Code as code
+use Rattle.reader.proofs.reader.Reader.at.Goals as goal
+
+abbrev stayed : Stays (reader_at.ended).signature.params (reader_at.ended).kept
+stayed = (stay_none_slice (0 ∷ []) tt (plain (λ _. u8)) yes, (stay_none (λ _. usize) yes, (stay_none (λ _. usize) yes, tt)))
+
+module _ {M : Type 1} {𝓤 : Ura M} (𝓛 : Logic 𝓤) (mem : Memory → SProp 𝓤) (run : Routine → Fun 𝓤) (κ : Lft) (q : Share) (s : Bor (List ℕ)) (m n : ℕ) where
+  open 𝓛 use {H}
+
+  abbrev α : NamedLft
+  α = named_lft 1 0 tt (κ, tt)
+
+  abbrev made : Reader
+  made = record { sheet = s; offset = m; lines = n }
+
+  abbrev AtPost : Val → SProp 𝓤
+  AtPost = (walk_of 𝓛 reader_at.ended stayed (reader_at.clauses 𝓛 mem run)).post (((κ, tt), (q, tt), tt, arguments s m n, values s m n), tt)
+
+  exits : m < 2 ^ 64 → n < 2 ^ 64 → ent 𝓤 (on_entry 𝓛 reader_at.signature (κ, tt) (q, tt) (arguments s m n) (values s m n)) (AtPost (T'.lowered made))
+  exits fits_m fits_n =
+      qed 𝓛 ((‵ (flft κ q) ⊛ ‵ ftrue) ∷ ‵ (owns (ShrSlice (named 0) κ u8 ∷ usize ∷ usize ∷ []) (arguments s m n) (values s m n)) ∷ []) ∵
+      suffices ! _ (ends_at 𝓛 reader_at.ended stayed (reader_at.clauses 𝓛 mem run) (((κ, tt), (q, tt), tt, arguments s m n, values s m n), tt) (T'.lowered made) made (tt, (tt, (tt, tt))) (tt, (tt, (tt, tt)))) $ says ! (refl, refl, refl) $
+      frame ! $ fsplit ! $ use1 𝓛 (‵ (SliceOwn κ s) ⊛ ‵ (SliceOwn κ s)) ((shr_slice_copy 𝓛 (named 0) κ u8).twice s (slice_value s ∷ [])) $ split ! $ move ! (0 ∷ 2 ∷ []) $ fjoin ! $ frame ! $
+      -- [what the slice owns]: what the fields own together, of it and of the numbers' facts, is what the struct owns
+      nothing ! $ owned ! usize (Is usize) (uint_Makes 𝓛 w64) n _ (refl, fits_n) $ fjoin ! $ owned ! usize (Is usize) (uint_Makes 𝓛 w64) m _ (refl, fits_m) $ fjoin ! $
+      move ! (1 ∷ 0 ∷ []) $ fjoin ! $ by ! (own_shut 𝓛 (T.the_type α) (T'.the_laws α) (s, (m, (n, tt))))
+
+  module _ (C : Calls 𝓤 H) (Λ : Loops 𝓤 H) where
+    walk : Is (ShrSlice (named 0) κ u8) s (slice_value s ∷ []) → m < 2 ^ 64 → n < 2 ^ 64
+        → ent 𝓤 (on_entry 𝓛 reader_at.signature (κ, tt) (q, tt) (arguments s m n) (values s m n)) (WpFn 𝓤 H C Λ code.function (slice_value s ∷ vint w64 m ∷ vint w64 n ∷ []) AtPost)
+    walk p fits_m fits_n =
+        qed 𝓛 (raw (on_entry 𝓛 reader_at.signature (κ, tt) (q, tt) (arguments s m n) (values s m n)) ∷ []) ∵ enter ! C Λ code.function (slice_value s ∷ vint w64 m ∷ vint w64 n ∷ []) _ $
+        alloc1 ! (λ l₀. alloc1 ! (λ l₁. alloc1 ! (λ l₂. alloc1 ! (λ l₃. alloc0 ! $ params1 ! $
+        pass1 ! (init ! 4 refl ((shr_slice_Lawful 𝓛 (named 0) κ u8).typed s (slice_value s ∷ []) p).0) $ pass1 ! (init ! 2 refl (tt, record { fits = fits_m })) $ pass1 ! (init ! 0 refl (tt, record { fits = fits_n })) $ pass0 ! $
+        assigns ! (agg ! (and_then ! (load ! (from ! (stop !)) (look ! 4 refl)) (and_then ! (load ! (from ! (stop !)) (look ! 2 refl)) (and_then ! (load ! (from ! (stop !)) (look ! 0 refl)) (no_more !))))) (from ! (stop !))
+        (init ! 6 refl (tt, (((shr_slice_Lawful 𝓛 (named 0) κ u8).typed s (slice_value s ∷ []) p).0.1, (record { fits = fits_m }, (record { fits = fits_n }, tt))))) $
+        returns ! (look ! 6 refl) $ forget ! 0 refl $ forget ! 2 refl $ forget ! 4 refl $ forget ! 6 refl $
+        move ! (6 ∷ 7 ∷ []) $ free1 ! $ move ! (4 ∷ 5 ∷ []) $ free1 ! $ move ! (2 ∷ 3 ∷ []) $ free1 ! $ free1 ! $ free0 ! $ by ! (exits fits_m fits_n)))))
+
+module _ {M : Type 1} {𝓤 : Ura M} (𝓛 : Logic 𝓤) (mem : Memory → SProp 𝓤) (run : Routine → Fun 𝓤) where
+  open 𝓛 use {H}
+
+  at_walks : (C : Calls 𝓤 H) (Λ : Loops 𝓤 H) → Walks 𝓛 reader_at.ended stayed (WpFn 𝓤 H C Λ code.function) (reader_at.clauses 𝓛 mem run)
+  at_walks C Λ =
+      walked 𝓛 reader_at.ended stayed (reader_at.clauses 𝓛 mem run) (WpFn 𝓤 H C Λ code.function) (λ κs. (shr_slice_vals, (uint_vals w64, (uint_vals w64, tt))))
+      (λ κs. (shr_slice_Tells (named 0) κs.0 u8, (uint_Tells w64, (uint_Tells w64, tt))))
+      (λ κs qs bounds a g are. via 𝓤 _ (fst∗ 𝓤 _ (emp 𝓤)) (walk 𝓛 mem run κs.0 qs.0 a.0 a.1.0 a.1.1.0 C Λ are.0 are.1.0.1 are.1.1.0.1))
+
+at_meets : {M : Type 1} {𝓤 : Ura M} (𝓛 : Logic 𝓤) → (mem : Memory → SProp 𝓤) (run : Routine → Fun 𝓤) (𝓣 : Tables 𝓤 𝓛.H)
+    → Meets 𝓛 reader_at.signature (WpFn 𝓤 𝓛.H 𝓣.C 𝓣.Λ code.function) (reader_at.spec 𝓛 mem run)
+at_meets {𝓤 = 𝓤} 𝓛 mem run 𝓣 =
+    walk_Meets 𝓛 reader_at.ended stayed
+    (Goes-none_slice 𝓛 1 (0 ∷ []) tt (plain (λ _. u8)) yes, (Goes-none 𝓛 1 (λ _. usize) yes (λ κs x f. refl), (Goes-none 𝓛 1 (λ _. usize) yes (λ κs x f. refl), tt)))
+    (reader_at.clauses 𝓛 mem run) (WpFn 𝓤 𝓛.H 𝓣.C 𝓣.Λ code.function) (WpFn-mono 𝓤 𝓛.H 𝓛.laws 𝓣 code.function) (at_walks 𝓛 mem run 𝓣.C 𝓣.Λ)

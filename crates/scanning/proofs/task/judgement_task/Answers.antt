@@ -1,0 +1,49 @@
+-- `scanning::task::judgement_task` is the definition's `judgement_body`.
+use Rattle.std.proofs.Common.{arith, rules}
+use Rattle.scanning.proofs.Tasks.{behind_two, judgement_short, equation_absent, direction_absent, width_few, judgement_read}
+use Rattle.scanning.proofs.task.judgement_task.Goals as goal
+
+pub overflow_sub-span : goal.overflow_sub-span
+overflow_sub-span c = omega (arith, c.requires.0.body.even)
+
+pub returns-then-span-from-lt4 : goal.returns-then-span-from-lt4
+returns-then-span-from-lt4 c = λ sheet knows. judgement_short _ sheet knows _ _ _ c.requires.0.body c.if-span-from-lt4.true
+
+pub byte_at-e-requires : goal.byte_at-e-requires
+byte_at-e-requires c = omega (arith, c.requires.0.body.inside, c.if-span-from-lt4.false)
+
+pub returns-then-known-e : goal.returns-then-known-e
+returns-then-known-e c = λ sheet knows.
+    equation_absent _ sheet knows _ _ _ c.requires.0.body c.if-span-from-lt4.false c.byte_at-e.ensures c.if-known-e.true
+
+pub overflow_add-from : goal.overflow_add-from
+overflow_add-from c = omega (arith, c.requires.0.body.inside, c.if-span-from-lt4.false)
+
+pub byte_at-requires : goal.byte_at-requires
+byte_at-requires c = omega (arith, c.requires.0.body.inside, c.if-span-from-lt4.false)
+
+pub returns-then-byte_at-gt1 : goal.returns-then-byte_at-gt1
+returns-then-byte_at-gt1 c = λ sheet knows.
+    direction_absent _ sheet knows _ _ _ c.requires.0.body c.if-span-from-lt4.false _ c.byte_at-e.ensures c.if-known-e.false
+    c.byte_at.ensures c.if-byte_at-gt1.true
+
+pub overflow_add-values : goal.overflow_add-values
+overflow_add-values c = omega (arith, c.requires.0.body.inside, c.if-span-from-lt4.false)
+
+pub bounds-known-e : goal.bounds-known-e
+bounds-known-e c =
+    let (sheet, knows) = c.requires.1 in
+    omega (arith, c.if-known-e.false, knows.equations_are, knows.valid.few_equations)
+
+pub ground_terms-requires : goal.ground_terms-requires
+ground_terms-requires c =
+    let (sheet, knows) = c.requires.1 in (
+      record { body = behind_two _ sheet knows _ _ _ c.requires.0.body c.if-span-from-lt4.false; few_symbols = c.requires.0.few_symbols },
+      omega (arith, c.wide.ensures.value, width_few _ sheet knows _ _ _ c.requires.0.body c.if-span-from-lt4.false _ c.byte_at-e.ensures c.if-known-e.false),
+    )
+
+pub returns : goal.returns
+returns c = λ sheet knows.
+    judgement_read _ sheet knows _ _ _ c.requires.0.body c.if-span-from-lt4.false _ c.byte_at-e.ensures c.if-known-e.false
+    c.byte_at.ensures c.if-byte_at-gt1.false
+    c.wide.ensures.value c.ground_terms.result c.ground_terms.ensures
