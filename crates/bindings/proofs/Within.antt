@@ -17,7 +17,7 @@ pub data Part (nodes sizes : List ℕ) (i : ℕ) : ℕ → Type 0 where
   inside : {p f c : ℕ} {ps : List ℕ} → view_of nodes sizes p ≡ app_node f ps → In c ps → Part nodes sizes i c → Part nodes sizes i p
 
 -- An argument of a part is a part.
-pub part_argument : {nodes sizes : List ℕ} {p i f c : ℕ} {ps : List ℕ} → Part nodes sizes i p → view_of nodes sizes i ≡ app_node f ps → In c ps → Part nodes sizes c p
+pub part_argument : {nodes sizes : List ℕ} {i p f c : ℕ} {ps : List ℕ} → Part nodes sizes i p → view_of nodes sizes i ≡ app_node f ps → In c ps → Part nodes sizes c p
 part_argument whole e j = inside e j whole
 part_argument (inside e j d) e' j' = inside e j (part_argument d e' j')
 
@@ -55,10 +55,10 @@ module _ {nodes sizes : List ℕ} (laid : InPrefixForm nodes sizes) where
   pub part_at : (p i : ℕ) → p < length nodes → p ≤ i → i < p + get_or sizes p 0 → Part nodes sizes i p
   part_at p i l a b = part_deep (get_or sizes p 0) p i (omega arith) l a b
 
-  pub part_start : {p i : ℕ} → Part nodes sizes i p → p ≤ i
+  pub part_start : {i p : ℕ} → Part nodes sizes i p → p ≤ i
   part_start whole = omega arith
   part_start (inside {p = p} {f = f} {ps = ps} e j d) = omega (arith, part_start d, row_start (seen_symbol laid p f ps e).4 j)
 
-  pub part_end : {p i : ℕ} → Part nodes sizes i p → i + get_or sizes i 0 ≤ p + get_or sizes p 0
+  pub part_end : {i p : ℕ} → Part nodes sizes i p → i + get_or sizes i 0 ≤ p + get_or sizes p 0
   part_end whole = omega arith
   part_end (inside {p = p} {f = f} {ps = ps} e j d) = omega (arith, part_end d, row_end (seen_symbol laid p f ps e).4 j)
