@@ -87,11 +87,15 @@ class Function:
         self.step = {}
         self.clauses = {}
         self.arm = {}
+        self.callee = {}
+        self.renamed = {}
         for k, p in enumerate(info["places"]):
             old, parent, step = p[0], p[1], p[2]
             self.parent[old] = parent
             self.new_place[norm(old)] = info["places_by_name"][k]
             self.step[old] = step
+            self.callee[old] = p[3]
+            self.renamed[old] = {norm(a): b for a, b in p[4]}
             cl = info["clauses"][k] if k < len(info["clauses"]) else None
             self.clauses[old] = cl
             self.arm[old] = info["arms"][k] if k < len(info["arms"]) else None
@@ -199,6 +203,15 @@ def turn_context(text, fn, place, var, helpers, where):
             if f == "requires":
                 clauses = pre
         rest = [WORDS.get(g, g) for g in fields[1:]]
+        if s and rest and norm(rest[0]) in fn.renamed[s[2]]:
+            rest[0] = fn.renamed[s[2]][norm(rest[0])]
+        if s and rest[:1] in (["new"], ["auto"]) and fn.callee[s[2]]:
+            params = fn.info["params"].get(fn.callee[s[2]]) or []
+            k = 1
+            while k < len(rest) and rest[k] == "1":
+                k += 1
+            if k < len(rest) and rest[k] == "0" and k - 1 < len(params):
+                rest[: k + 1] = [rest[0], params[k - 1]]
         if not isinstance(clauses, dict) or not clauses.get("fields"):
             return ".".join(out + rest)
         names = clauses["fields"]
