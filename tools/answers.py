@@ -300,7 +300,7 @@ def parts_of(text, n):
             comma = i
     if comma is None:
         return None
-    rest = text[comma + 1: -1].strip()
+    rest = text[comma + 1: -1].strip().rstrip(",")
     more = parts_of(rest, n - 1)
     if more is None and n > 2:
         return None
@@ -354,12 +354,110 @@ def main():
         paths = [p for p in paths if sys.argv[3] in p]
     for path in paths:
         module = os.path.relpath(os.path.dirname(path), os.path.join(base, "proofs")).replace("/", ".")
+        if "/+" in path:
+            turn_cycle(path, crate, module, info)
+            continue
         key = f"Rattle-{crate}-proofs.{module}.Lts"
         if key not in info:
             say(path, "is not in the list")
             continue
         turn(path, crate, module, Function(key, info[key]))
     return 0
+
+
+def turn_cycle(path, crate, module, info):
+    """The proof of functions that call each other: each declaration is named after its function."""
+    with open(path, encoding="utf-8") as f:
+        text = f.read()
+    own = set()
+    for m in re.finditer(r"(?m)^use Rattle\.(?!std\.)[\w.+]+\.\{([^}]*)\}", text):
+        own |= {w for w in re.split(r",\s*| as ", m[1]) if "-" in w and not w[0].isupper()}
+    for w in own:
+        text = re.sub(r"(?<![^\s(){}\[\];,.\"`])" + re.escape(w) + r"(?![^\s(){}\[\];,.\"`])", w.replace("-", "_"), text)
+    parent = module.split("+")[0]
+    functions, cycle = {}, None
+    for key, value in info.items():
+        m = re.match(re.escape(f"Rattle-{crate}-proofs.{parent}") + r"(\+[^.]+)\.Lts-(.*)$", key)
+        if m:
+            cycle = m[1]
+            functions[m[2]] = Function(key, value)
+    if not functions:
+        say(path, "no cycle in the list")
+        return
+    uses, comment, decls = [], [], []
+    for b in blocks(text):
+        body = "\n".join(b).rstrip()
+        if not body.strip():
+            continue
+        if body.startswith("use ") or (body.startswith("--") and all(l.startswith(("--", "use ")) or not l for l in b)):
+            uses += [l for l in b if l.startswith("use ")]
+            comment += [l for l in b if l.startswith("--")]
+            continue
+        decls.append(body)
+    uses = [u for u in uses if not re.search(r" as [\w-]+$|\{statement\}|\{close\}|borrow\.Fn\.", u)]
+    inv, answers = [], []
+    params = {}
+    for fn in functions.values():
+        for callee, names in fn.info["params"].items():
+            params.setdefault(callee.split("::")[-1], names)
+    for d in decls:
+        lead = re.match(r"((?:--[^\n]*\n)*)", d)[1]
+        rest = d[len(lead):]
+        m = re.match(r"abbrev (?:pub )?(?:μ_|μ-|decreases-|measure_)(" + NAME + r") : Measures[^\n]*\n\S+ κs a =(.*)$", rest, re.S)
+        if m:
+            f = next((f for f in functions if norm(f) == norm(m[1])), None)
+            names = params.get(f) or []
+
+            def at(q, names=names):
+                k = q[1].count("1") if q[1] else 0
+                return "l." + names[k] if k < len(names) else q[0]
+
+            rhs = re.sub(r"\ba((?:\.1)*)\.0", at, m[2])
+            inv.append(f"{lead}abbrev pub decreases-{f} : goal.decreases-{f}\ndecreases-{f} l ={rhs}")
+            continue
+        m = re.match(r"(?:pub )?(" + NAME + r") : \(t : ℕ\)\s*→\s*(" + NAME + r")\.Need-(" + NAME + r")[^\n]*(?:\n\s+[^\n]*)*?\n(?=unfolding|" + "(?:pub )?" + NAME + r" t )", rest)
+        if m:
+            f = next((f for f in functions if norm(m[2]) in (norm(f) + "-lts", "lts-" + norm(f))), None)
+            if f is None:
+                say(path, "whose goal is", m[2], m[3])
+                continue
+            fn = functions[f]
+            new = fn.find_need(m[3])
+            after = rest[m.end():]
+            unf = ""
+            if after.startswith("unfolding"):
+                unf, after = after.split("\n", 1)
+                unf += "\n"
+            lhs, rhs = re.split(r" =(?=\s)", after, 1)
+            var = lhs.split()[2] if len(lhs.split()) > 2 else "c"
+            if not unf and rhs.strip() in ("search rules", "omega arith"):
+                continue
+            if new is None:
+                say(path, "no goal", f, m[3])
+                new, place = "UNKNOWN-" + m[3], None
+            else:
+                place = fn.place_of[new]
+            rhs = re.sub(r"\brequires\.0\b", "decreases", rhs)
+            rhs = re.sub(r"\brequires\.1\b", "requires", rhs)
+            body = turn_context(rhs, fn, place, var, {}, path + " " + f + " " + new)
+            asked = fn.asked.get(new)
+            if asked and len(asked) > 1:
+                body = by_clause(body, asked)
+            new = f + "-" + new
+            answers.append((lead, f"pub {new} : goal.{new}\n{unf}{new} t {var} ={body}"))
+            continue
+        if re.match(r"abbrev \S+_(at|below|calls) : ", rest) or re.match(r"pub \+", rest) or ".Claims" in rest or ": In " in rest:
+            continue
+        say(path, "kept as it stands:", rest[:70].replace("\n", " "))
+        answers.append((lead, rest))
+    folder = os.path.join(os.path.dirname(os.path.dirname(path)), cycle)
+    os.makedirs(folder, exist_ok=True)
+    top = f"Rattle.{crate}.proofs.{parent}{cycle}"
+    with open(os.path.join(folder, "Invariants.antt"), "w", encoding="utf-8") as f:
+        f.write("\n".join(comment + uses + [f"use {top}.Given as goal"]) + "\n\n" + "\n\n".join(inv) + "\n")
+    with open(os.path.join(folder, "Answers.antt"), "w", encoding="utf-8") as f:
+        f.write("\n".join([f"-- Goals of the cycle `{cycle[1:]}`."] + uses + [f"use {top}.Goals as goal"]) + "\n\n" + "\n\n".join(l + a for l, a in answers) + "\n")
+    os.remove(path)
 
 
 def turn(path, crate, module, fn):

@@ -109,7 +109,7 @@ fn bind_reached(
 
 // Unifies the terms at two positions. No descent is deeper than there are positions, so that `depth` does not run out.
 // Terms that were unified are linked, and not gone into again: bindings that double terms would make it long.
-#[cycle(unify_rows_unify_symbols_unify_terms)]
+#[cycle(unification)]
 pub fn unify_terms(
     nodes: &[u8],
     sizes: &[u8],
@@ -154,7 +154,7 @@ pub fn unify_terms(
 }
 
 // Unifies two terms that are no variables, their arguments at most `depth` deep.
-#[cycle(unify_rows_unify_symbols_unify_terms)]
+#[cycle(unification)]
 fn unify_symbols(
     nodes: &[u8],
     sizes: &[u8],
@@ -181,7 +181,7 @@ fn unify_symbols(
 }
 
 // Unifies the terms of two rows, one by one.
-#[cycle(unify_rows_unify_symbols_unify_terms)]
+#[cycle(unification)]
 fn unify_rows(
     nodes: &[u8],
     sizes: &[u8],
