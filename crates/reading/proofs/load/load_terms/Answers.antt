@@ -13,7 +13,7 @@ use Rattle.reading.proofs.load.load_terms.Goals as goal
 pub decode-n-requires : goal.decode-n-requires
 decode-n-requires c =
     let are = c.requires.has_terms_in.are in
-    (_, are.spans, omega (arith, terms_few are, c.decode-arg-1.given.2, c.requires.nodes_len.0))
+    (_, are.spans, omega (arith, terms_few are, c.requires.nodes_len.0))
 
 pub overflow_add-n : goal.overflow_add-n
 overflow_add-n c =

@@ -4,28 +4,22 @@ use native.Mathlib.Omega.{arith}
 use Rattle.scanning.specs.ForContracts.Scan.{Matches}
 use Rattle.reading.specs.ForContracts.Read.{FrameRead}
 use Rattle.reading.proofs.Refused.{by_refused}
-use Rattle.reading.proofs.OneFrame.{before_equations, tasks_full, task_refused, task_done}
+use Rattle.reading.proofs.OneFrame.{before_equations, task_refused, task_done}
 use Rattle.reading.proofs.read.task_frame.Goals as goal
 
 pub returns-then-known-eq0 : goal.returns-then-known-eq0
 returns-then-known-eq0 c = λ sheet knows. by_refused (FrameRead _) c.refused.ensures (before_equations _ sheet knows c.if-known-eq0.true _ c.requires.2 _)
 
-pub returns-then-known-ge-TASKS : goal.returns-then-known-ge-TASKS
-returns-then-known-ge-TASKS c = λ sheet knows. by_refused (FrameRead _) c.refused-then-known-ge-TASKS.ensures (tasks_full _ sheet knows (omega (arith, c.if-known-ge-TASKS.true)) _ c.requires.2 _)
-
 pub task_body-status-requires : goal.task_body-status-requires
 task_body-status-requires c = (c.requires.0, c.requires.1)
-
-pub with_task-requires : goal.with_task-requires
-with_task-requires c = c.if-known-ge-TASKS.false
 
 pub returns-in-Refused : goal.returns-in-Refused
 returns-in-Refused c = λ sheet knows.
     by_refused (FrameRead _) c.refused-in-Refused.ensures
-    (task_refused _ sheet knows c.if-known-eq0.false c.if-known-ge-TASKS.false _ c.requires.2 _ (subst (Matches _) c.in-Refused.is (c.task_body-status.ensures sheet knows)))
+    (task_refused _ sheet knows c.if-known-eq0.false (omega arith) _ c.requires.2 _ (subst (Matches _) c.in-Refused.is (c.task_body-status.ensures sheet knows)))
 
 pub returns-in-Done : goal.returns-in-Done
 returns-in-Done c = λ sheet knows.
-    task_done _ sheet knows c.if-known-eq0.false c.if-known-ge-TASKS.false _ c.requires.2 _ c.requires.0.body.are_bytes
+    task_done _ sheet knows c.if-known-eq0.false (omega arith) _ c.requires.2 _ c.requires.0.body.are_bytes
     (subst (Matches _) c.in-Done.is (c.task_body-status.ensures sheet knows))
     c.with_task.ensures
