@@ -1,6 +1,5 @@
 // The reader of a sheet: the sheet and how far the reader has come in it. Document 01: it "goes over the lent sheet line by line and remembers how far it
-// has come". It finds one line; the loops over lines, which are covered functions and so have no local of such a struct, keep the two numbers between two
-// lines. The kit's borrow checker covers no function of this file: each is proved by hand, and `next` only takes the struct apart and calls `line_from`.
+// has come". It finds one line; the loops over lines keep the two numbers between two lines. `next` only takes the struct apart and calls `line_from`.
 ghost use Rattle.std.specs.Prelude.{◌≡◌, ◌≤◌};
 ghost use Rattle.reader.specs.ForContracts.Lines.{NextRead};
 
@@ -35,7 +34,7 @@ impl<'a> Reader<'a> {
     }
 }
 
-// The next line of a reader at `offset`, behind `lines` lines. The parameters are plain, so that its callers are covered.
+// The next line of a reader at `offset`, behind `lines` lines. The parameters are plain.
 pub fn next_line(sheet: &[u8], offset: usize, lines: usize) -> NextLine
     requires { lines ≤ offset }
     ensures { NextRead sheet.now offset lines result }

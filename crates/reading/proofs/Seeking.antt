@@ -1,11 +1,9 @@
 -- Laws for finding a frame of an accepted sheet: lines by their number, and the frames that they are.
 use Prim.Native.Nat.{ℕ, zero, suc, ◌+◌, ◌-◌, ◌≤◌, ◌<◌}
 use mathlib.Core.Path.{◌≡◌, refl, sym, ap, subst, ◌∙◌}
-use mathlib.Core.Logic.{◌⊎◌, inl, inr}
 use mathlib.Core.Option.{none, some}
 use mathlib.Core.List.{List, [], ◌∷◌, ◌++◌, map}
 use lib.ListN.{length, drop, length-map, drop_of_length-le}
-use denote.Enum.Declared.{tag_of}
 use native.Mathlib.Numerals.{add-one}
 use native.Mathlib.Omega.{arith}
 use Rattle.format.specs.Lists.{Every, entry}
@@ -15,7 +13,6 @@ use Rattle.sheet.specs.Sheet.{Task, Sheet}
 use Rattle.sheet.specs.ForContracts.Frames.{equation_frame, task_frame, frames_of}
 use Rattle.sheet.specs.Reading.{accepted, read}
 use Rattle.scanning.specs.ForContracts.Digits.{span_bytes, NoFrame}
-use Rattle.reader.specs.contracts.line.NextLine.{the_type}
 use Rattle.reader.specs.declared.line.FrameLine.{FrameLine}
 use Rattle.reader.specs.declared.line.NextLine.{NextLine}
 use Rattle.reader.specs.declared.line.NextLine.TheVariants.{Frame, Broken, End}
@@ -50,9 +47,8 @@ module _ (text : List ℕ) (n offset lines : ℕ) (g : Seeking text n offset lin
       let z : ◌≡◌ {A = ℕ} 0 1 = cc in absurd (omega arith)
 
   -- What a `match` leaves to its last arm.
-  pub seeking_other : (r : NextLine) → NextRead text offset lines r → (tag_of the_type r ≡ 1) ⊎ (tag_of the_type r ≡ 2) → {frame : List ℕ} → FrameIn text n frame → ⊥
-  seeking_other (Frame l) h (inl e) f = let z : ◌≡◌ {A = ℕ} 0 1 = e in absurd (omega arith)
-  seeking_other (Frame l) h (inr e) f = let z : ◌≡◌ {A = ℕ} 0 2 = e in absurd (omega arith)
+  pub seeking_other : (r : NextLine) → NextRead text offset lines r → ((l : FrameLine) → r ≡ Frame l → ⊥) → {frame : List ℕ} → FrameIn text n frame → ⊥
+  seeking_other (Frame l) h t f = t l refl
   seeking_other (Broken m) h t f = seeking_broken h.2
   seeking_other End h t f = seeking_ended h f
 

@@ -64,6 +64,7 @@ fn equation_frame(known: Known, s: &[u8], span: Span) -> FrameReading
 }
 
 // A frame of any other kind, behind the symbols'.
+#[tactic(auto, using(crate::proofs::OneFrame::tasks_full))]
 fn task_frame(known: Known, s: &[u8], span: Span, kind: FrameKind) -> FrameReading
     requires { FrameReady s.now span known × ((sheet : Sheet) × KnowsSheet known sheet) × (kind ≡ FrameKind.Equation → ⊥) }
     ensures { (sheet : Sheet) → KnowsSheet known sheet → FrameRead (read_kind (within sheet) kind (span_bytes s.now span)) result.known result.status }

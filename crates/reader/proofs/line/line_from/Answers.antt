@@ -1,7 +1,6 @@
 -- `reader::line::line_from` gives the line at an offset: where the text is not at its end, `line_end` finds its digits or that it is broken.
 use mathlib.Core.Path.{refl, subst}
 use native.Mathlib.Omega.{arith}
-use borrow.Author.Rules.{rules}
 use Rattle.scanning.specs.ForContracts.Digits.{LineRead}
 use Rattle.reader.proofs.line.line_from.Goals as goal
 
