@@ -136,6 +136,14 @@ def main():
         if new != text:
             with open(path, "w", encoding="utf-8") as f:
                 f.write(new)
+    # `ground` is a tactic's name today, and no word of a clause or a definition.
+    for path in glob.glob("crates/*/**/*.antt", recursive=True) + glob.glob("crates/*/src/**/*.rt", recursive=True) + glob.glob("crates/*/must-fail/*.edit"):
+        with open(path, encoding="utf-8") as f:
+            lines = f.read().splitlines(keepends=True)
+        new = [l if re.match(r"\s*(--|//|#)", l) else re.sub(r"(?<![\w'])ground(?![\w'])", "is_ground", l) for l in lines]
+        if new != lines:
+            with open(path, "w", encoding="utf-8") as f:
+                f.write("".join(new))
     print(f"respell: {len(renamed)} declared names and {len(local)} local ones")
 
 

@@ -36,13 +36,13 @@ returns c =
     let there = placed nodes _ _ _ _ (omega (arith, c.requires.nodes_len.0)) decoded.1 in
     record {
       few_symbols = are.few_symbols;
-      ground = are.ground;
+      is_ground = are.is_ground;
       counted = decoded.0 ∙ length_prefixes ts;
       few_nodes = are.few_nodes;
       nodes_length = c.nodes-1.given.1 ∙ c.requires.nodes_len.0;
       sizes_length = c.measure.auto.sizes ∙ c.requires.nodes_len.1;
       symbols =
-          placed_symbols nodes _ _ _ _ symbols (grounds_symbols _ are.few_symbols ts are.ground) (symbols_take (length nodes - position_count) (drop position_count nodes) behind)
+          placed_symbols nodes _ _ _ _ symbols (grounds_symbols _ are.few_symbols ts are.is_ground) (symbols_take (length nodes - position_count) (drop position_count nodes) behind)
           (symbols_drop (length nodes - position_count) (drop position_count nodes) behind) decoded.1;
       bytes = placed_stored there;
       sizes_there = sizes_stored are _ c.args.sizes.now _ _ _ there decoded.0 (omega (arith, c.requires.nodes_len.1)) c.measure.ensures;
