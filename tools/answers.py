@@ -248,7 +248,9 @@ def turn_context(text, fn, place, var, helpers, where):
             if want is None or p is None:
                 say(where, "a context is handed to", h, "of", want, "from", place)
                 n = 0
-            text = text[:at] + var + ".before" * n + text[at + len("\0CTX\0") :]
+            goal = where.split(" ")[-1]
+            told = var if n == 0 and not want else (f"(goal.at.{goal} {var}).{fn.new_place[norm(want)]}" if goal in fn.place_of else var + ".before" * n)
+            text = text[:at] + told + text[at + len("\0CTX\0") :]
         text = text.replace("\0CTX\0", var)
     return text
 
@@ -461,7 +463,8 @@ def turn(path, crate, module, fn):
             vm = re.search(r"\((" + NAME + r") : (?:" + "|".join(re.escape(x) for x in fn.info["places_by_name"]) + r")\)", sig)
             var = vm[1] if vm else "c"
             if place:
-                sig = turn_context(sig, fn, place, var, helpers, path + " " + hm[1]) if var + "." in sig else sig
+                kind, _, result = sig.partition("→")
+                sig = kind + "→" + turn_context(result, fn, place, var, helpers, path + " " + hm[1]) if var + "." in sig else sig
                 l2, r2 = re.split(r" =(?=\s)", body, 1)
                 bv = l2.split()[1:]
                 if var not in bv:
