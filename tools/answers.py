@@ -82,16 +82,21 @@ def split_args(text):
 class Function:
     def __init__(self, key, info):
         self.key, self.info = key, info
+        self.cycle = False
         self.parent = {}
         self.new_place = {}
         self.step = {}
         self.clauses = {}
         self.arm = {}
+        self.callee = {}
+        self.renamed = {}
         for k, p in enumerate(info["places"]):
             old, parent, step = p[0], p[1], p[2]
             self.parent[old] = parent
             self.new_place[norm(old)] = info["places_by_name"][k]
             self.step[old] = step
+            self.callee[old] = p[3]
+            self.renamed[old] = {norm(a): b for a, b in p[4]}
             cl = info["clauses"][k] if k < len(info["clauses"]) else None
             self.clauses[old] = cl
             self.arm[old] = info["arms"][k] if k < len(info["arms"]) else None
@@ -184,6 +189,10 @@ def turn_context(text, fn, place, var, helpers, where):
         if not fields:
             return "\0CTX\0"
         f = WORDS.get(fields[0], fields[0])
+        if fn.cycle and f == "requires" and fields[1:2] == ["0"]:
+            return ".".join([var, "decreases"] + fields[2:])
+        if fn.cycle and f == "requires" and fields[1:2] == ["1"]:
+            del fields[1]
         s = steps.get(norm(f)) or all_steps.get(norm(f))
         clauses = None
         out = [var]
@@ -199,6 +208,15 @@ def turn_context(text, fn, place, var, helpers, where):
             if f == "requires":
                 clauses = pre
         rest = [WORDS.get(g, g) for g in fields[1:]]
+        if s and rest and norm(rest[0]) in fn.renamed[s[2]]:
+            rest[0] = fn.renamed[s[2]][norm(rest[0])]
+        if s and rest[:1] in (["new"], ["auto"]) and fn.callee[s[2]]:
+            params = fn.info["params"].get(fn.callee[s[2]]) or []
+            k = 1
+            while k < len(rest) and rest[k] == "1":
+                k += 1
+            if k < len(rest) and rest[k] == "0" and k - 1 < len(params):
+                rest[: k + 1] = [rest[0], params[k - 1]]
         if not isinstance(clauses, dict) or not clauses.get("fields"):
             return ".".join(out + rest)
         names = clauses["fields"]
@@ -341,6 +359,11 @@ def main():
         paths = [p for p in paths if sys.argv[3] in p]
     for path in paths:
         module = os.path.relpath(os.path.dirname(path), os.path.join(base, "proofs")).replace("/", ".")
+        start = f"Rattle-{crate}-proofs.{module}.Lts-"
+        fns = {k[len(start):]: Function(k, info[k]) for k in info if k.startswith(start)}
+        if fns and module.split(".")[-1].startswith("+"):
+            turn_cycle(path, crate, module, fns, info)
+            continue
         key = f"Rattle-{crate}-proofs.{module}.Lts"
         if key not in info:
             say(path, "is not in the list")
@@ -518,6 +541,120 @@ def turn(path, crate, module, fn):
         with open(os.path.join(folder, "Answers.antt"), "w", encoding="utf-8") as f:
             f.write(head + "\n\n" + "\n\n".join(l + a for l, a in answers) + "\n")
     os.remove(path)
+
+
+def parameters(fn, info):
+    """The names of a function's parameters, from a call of it."""
+    for other in info.values():
+        for called, names in (other.get("params") or {}).items() if isinstance(other, dict) else []:
+            if called.split("::")[-1] == fn:
+                return names
+    return None
+
+
+def turn_cycle(path, crate, module, fns, info):
+    """A cycle's proof: Proof.antt, and the files of the folder Proof beside it where there are any."""
+    folder = os.path.dirname(path)
+    parts = [path] + sorted(glob.glob(os.path.join(folder, "Proof", "*.antt")))
+    uses, rest_uses, comment, measures, inv, answers, lts = {}, [], [], [], [], [], {}
+    for fn in fns.values():
+        fn.cycle = True
+    for part in parts:
+        with open(part, encoding="utf-8") as f:
+            text = f.read()
+        for m in re.finditer(r"(?m)^use \S+\.Lts-(" + NAME + r") as (" + NAME + r")$", text):
+            lts[norm(m[2])] = m[1]
+        for b in blocks(text):
+            body = "\n".join(b).rstrip()
+            if not body.strip():
+                continue
+            first = next((l for l in b if l and not l.startswith("--")), "")
+            if re.match(r"(pub )?(use|mod) ", first) or not first:
+                for l in b:
+                    m = re.match(r"use (\S+)\.\{([^}]*)\}$", l)
+                    if l.startswith("--"):
+                        if part == path:
+                            comment.append(l)
+                    elif re.search(r"\.(Reads|Kinds|Lts-" + NAME + r") as |\.\{statement\}$|\.Tie\.\{close\}$|borrow\.Fn\.|\.Proof\.\w+\.\{", l) or l.startswith("mod ") or not l:
+                        continue
+                    elif m and not m[1].count("."):
+                        continue
+                    elif m:
+                        have = uses.setdefault(m[1], [])
+                        have += [n for n in re.split(r",\s*", m[2]) if n not in have]
+                    elif l not in rest_uses:
+                        rest_uses.append(l)
+                continue
+            lead = re.match(r"((?:--[^\n]*\n)*)", body)[1]
+            decl = body[len(lead):]
+            name = head_name(decl.split("\n")[0])
+            m = re.search(r"(?ms)^(unfolding [^\n]*\n)?" + re.escape(name or "") + r"((?: [^\n=]*)?) =(\s.*)$", decl)
+            if name is None or m is None:
+                say(part, "a declaration:", decl[:80].replace("\n", " "))
+                continue
+            sig, unf, binders, rhs = decl[: m.start()], m[1] or "", m[2].split(), m[3]
+            at = re.sub(r"\s+", " ", sig)
+            typed = re.search(r" : \(t : ℕ\) → (" + NAME + r")\.Need-(" + NAME + r")", at)
+            loop = re.search(r" : (" + NAME + r")\.(invariant|decreases)-(" + NAME + r")", at)
+            measure = re.match(r"(?:abbrev |pub )*μ[-_](" + NAME + r") : Measures ", at)
+            if measure:
+                of = next((f for f in fns if norm(f) == norm(measure[1])), None)
+                names = parameters(of, info)
+                if names is None:
+                    say(part, "no parameters known of", measure[1])
+                    continue
+                arg = binders[-1]
+                rhs = re.sub(r"(?<![^\s(){}\[\];,])" + re.escape(arg) + r"((?:\.1)*)\.0(?![0-9])", lambda q: "l." + names[q[1].count(".1")], rhs)
+                measures.append(f"{lead}abbrev pub decreases-{of} : goal.decreases-{of}\n{unf}decreases-{of} l ={rhs}")
+            elif loop and norm(loop[1]) in lts:
+                fn = fns[lts[norm(loop[1])]]
+                k = next((k for k, l in enumerate(fn.info["loops"]) if norm(l[0][0]) == norm(loop[3])), None)
+                if k is None:
+                    say(part, "no loop", loop[3])
+                    continue
+                new, names, changed, flags = live(fn, k)
+                want = names + changed
+                if len(binders) != len(want):
+                    say(part, f"{name} has binders {binders} for {want}")
+                table = {}
+                for j, b in enumerate(binders):
+                    if j < len(names):
+                        table[b] = f"l.initial.{names[j]}" if flags[j] else f"l.{names[j]}"
+                    elif j - len(names) < len(changed):
+                        table[b] = f"l.{changed[j - len(names)]}"
+                rhs = re.sub(r"(?<![^\s(){}\[\];,\"`])(" + NAME + r")(?![^\s(){}\[\];,.\"`])(?! =\s)", lambda q: table.get(q[1], q[1]), rhs)
+                of = fn.info["stem"] + new
+                inv.append(f"{lead}abbrev pub {loop[2]}-{of} : goal.{loop[2]}-{of}\n{unf}{loop[2]}-{of} l ={rhs}")
+            elif typed and norm(typed[1]) in lts:
+                fn = fns[lts[norm(typed[1])]]
+                new = fn.find_need(typed[2])
+                if new is None:
+                    if not re.match(r"(same-length|enum-told|shape-of)", norm(typed[2])):
+                        say(part, "no goal", typed[2])
+                    continue
+                if not unf and rhs.strip() in ("search rules", "omega arith"):
+                    continue
+                var = binders[1] if len(binders) > 1 else "c"
+                body = turn_context(rhs, fn, fn.place_of[new], var, {}, part + " " + new)
+                if len(fn.asked.get(new) or []) > 1:
+                    body = by_clause(body, fn.asked[new])
+                of = fn.info["stem"] + new
+                answers.append(f"{lead}pub {of} : goal.{of}\n{unf}{of} {binders[0]} {var} ={body}")
+            elif re.search(r"\bIn 5|Claims\b|Measures 5|: \{M : Type 1\} →", at):
+                continue
+            elif any(norm(a) + "." in norm(at) for a in lts):
+                say(part, "a helper at a place:", at[:100])
+            else:
+                answers.append(lead + decl)
+    lines = [f"use {m}.{{{', '.join(n)}}}" for m, n in uses.items()] + rest_uses
+    with open(os.path.join(folder, "Invariants.antt"), "w", encoding="utf-8") as f:
+        f.write("\n".join(comment + lines + [f"use Rattle.{crate}.proofs.{module}.Given as goal"]) + "\n\n" + "\n\n".join(measures + inv) + "\n")
+    with open(os.path.join(folder, "Answers.antt"), "w", encoding="utf-8") as f:
+        f.write("\n".join([f"-- Goals of the cycle `{module.split('.')[-1][1:]}`."] + lines + [f"use Rattle.{crate}.proofs.{module}.Goals as goal"]) + "\n\n" + "\n\n".join(answers) + "\n")
+    for part in parts:
+        os.remove(part)
+    if len(parts) > 1:
+        os.rmdir(os.path.join(folder, "Proof"))
 
 
 if __name__ == "__main__":
