@@ -543,11 +543,11 @@ def turn(path, crate, module, fn):
     os.remove(path)
 
 
-def parameters(fn, info):
-    """The names of a function's parameters, from a call of it."""
+def parameters(crate, fn, info):
+    """The names of a function's parameters, from a call of it in its crate."""
     for other in info.values():
         for called, names in (other.get("params") or {}).items() if isinstance(other, dict) else []:
-            if called.split("::")[-1] == fn:
+            if called.split("::")[0] == crate and called.split("::")[-1] == fn:
                 return names
     return None
 
@@ -599,7 +599,7 @@ def turn_cycle(path, crate, module, fns, info):
             measure = re.match(r"(?:abbrev |pub )*μ[-_](" + NAME + r") : Measures ", at)
             if measure:
                 of = next((f for f in fns if norm(f) == norm(measure[1])), None)
-                names = parameters(of, info)
+                names = parameters(crate, of, info)
                 if names is None:
                     say(part, "no parameters known of", measure[1])
                     continue
