@@ -25,7 +25,7 @@ fn greater_if(greater: bool) -> Verdict
 
 // The verdict of the terms at the nodes i and j. The second node is the subject's, and so is each that is asked about behind it, so that no cell is used whose
 // second node is the equation's.
-#[cycle(argument_reaches_compare_arguments_compare_symbols_exceeds_exceeds_arguments_first_difference)]
+#[cycle(comparison)]
 pub fn exceeds(
     nodes: &[u8],
     sizes: &[u8],
@@ -58,7 +58,7 @@ pub fn exceeds(
 
 // The verdict of the terms at two nodes that are symbols, by one question. A term that exceeds another exceeds its arguments too, so that L1 need be
 // asked only where L2 and L3 cannot hold.
-#[cycle(argument_reaches_compare_arguments_compare_symbols_exceeds_exceeds_arguments_first_difference)]
+#[cycle(comparison)]
 fn compare_symbols(
     nodes: &[u8],
     sizes: &[u8],
@@ -88,7 +88,7 @@ fn compare_symbols(
 }
 
 // L1: whether one of the terms in the row equals or exceeds the term at j. A term whose symbol is smaller than that at j does so exactly if one of its arguments does, which stand right behind its symbol.
-#[cycle(argument_reaches_compare_arguments_compare_symbols_exceeds_exceeds_arguments_first_difference)]
+#[cycle(comparison)]
 pub fn argument_reaches(
     nodes: &[u8],
     sizes: &[u8],
@@ -122,7 +122,7 @@ pub fn argument_reaches(
 }
 
 // Whether the term at i exceeds every term in the row. It exceeds a term whose symbol is smaller than its own exactly if it exceeds every argument of that one, which stand right behind its symbol.
-#[cycle(argument_reaches_compare_arguments_compare_symbols_exceeds_exceeds_arguments_first_difference)]
+#[cycle(comparison)]
 pub fn exceeds_arguments(
     nodes: &[u8],
     sizes: &[u8],
@@ -165,7 +165,7 @@ pub struct Difference {
 }
 
 // L3: the first two arguments that differ of the terms at i and j, which have the same symbol.
-#[cycle(argument_reaches_compare_arguments_compare_symbols_exceeds_exceeds_arguments_first_difference)]
+#[cycle(comparison)]
 fn first_difference(
     nodes: &[u8],
     sizes: &[u8],
@@ -217,7 +217,7 @@ fn first_difference(
 }
 
 // L3: the verdict of the terms at i and j, which have the same symbol.
-#[cycle(argument_reaches_compare_arguments_compare_symbols_exceeds_exceeds_arguments_first_difference)]
+#[cycle(comparison)]
 fn compare_arguments(
     nodes: &[u8],
     sizes: &[u8],

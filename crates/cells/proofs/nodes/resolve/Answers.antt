@@ -2,7 +2,6 @@
 use mathlib.Core.Path.{sym, ap, ◌∙◌}
 use lib.ListN.{get_or}
 use Rattle.cells.specs.Theory.Resolved.{resolved_symbol, resolved_variable}
-use borrow.Author.Rules.{rules}
 use Rattle.cells.proofs.nodes.resolve.Goals as goal
 
 pub returns-then-byte-lt-FIRST_VARIABLE : goal.returns-then-byte-lt-FIRST_VARIABLE

@@ -1,12 +1,7 @@
 -- Goals of `all_smaller`.
-use Prim.Native.Nat.{◌-◌, ◌≤◌}
 use mathlib.Core.Path.{◌≡◌, refl}
-use mathlib.Core.Logic.{◌↔◌}
-use mathlib.Core.Bool.{true}
 use native.Mathlib.Omega.{arith}
-use Rattle.cells.specs.ForContracts.Passing.{AllSmaller}
 use Rattle.cells.proofs.Passed.{smaller_more}
-use borrow.Author.Rules.{rules}
 use Rattle.cells.specs.Theory.Passed.{smaller_none}
 use Rattle.cells.proofs.passing.all_smaller.Goals as goal
 

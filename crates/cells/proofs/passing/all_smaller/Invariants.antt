@@ -1,13 +1,9 @@
 -- `all_smaller` meets its contract. The invariant: `all` tells of the nodes before `at`.
 use Prim.Native.Nat.{◌-◌, ◌≤◌}
-use mathlib.Core.Path.{◌≡◌, refl}
+use mathlib.Core.Path.{◌≡◌}
 use mathlib.Core.Logic.{◌↔◌}
 use mathlib.Core.Bool.{true}
-use native.Mathlib.Omega.{arith}
 use Rattle.cells.specs.ForContracts.Passing.{AllSmaller}
-use Rattle.cells.proofs.Passed.{smaller_more}
-use borrow.Author.Rules.{rules}
-use Rattle.cells.specs.Theory.Passed.{smaller_none}
 use Rattle.cells.proofs.passing.all_smaller.Given as goal
 
 abbrev pub invariant-loop-at : goal.invariant-loop-at

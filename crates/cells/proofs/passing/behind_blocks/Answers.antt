@@ -1,9 +1,5 @@
 -- Goals of `behind_blocks`.
-use Prim.Native.Nat.{◌-◌}
 use native.Mathlib.Omega.{arith}
-use borrow.Author.Tests.{not-false}
-use Rattle.cells.specs.ForContracts.Passing.{BehindSmaller}
-use borrow.Author.Rules.{rules}
 use Rattle.cells.specs.Theory.Passed.{behind_none, behind_more}
 use Rattle.cells.proofs.passing.behind_blocks.Goals as goal
 
@@ -17,7 +13,7 @@ pub returns-then-not-all_smaller : goal.returns-then-not-all_smaller
 returns-then-not-all_smaller c = c.loop-at.invariant
 
 pub loop-at-preserved : goal.loop-at-preserved
-loop-at-preserved c = behind_more c.loop-at.invariant (omega arith) c.loop-at-test.true (c.all_smaller.ensures.0 (not-false c.all_smaller.result c.if-not-all_smaller.false))
+loop-at-preserved c = behind_more c.loop-at.invariant (omega arith) c.loop-at-test.true (c.all_smaller.ensures.0 c.if-not-all_smaller.false)
 
 pub returns : goal.returns
 returns c = c.loop-at.invariant

@@ -1,10 +1,6 @@
 -- `behind_blocks` meets its contract. The invariant: the nodes before `at` are passed over.
 use Prim.Native.Nat.{◌-◌}
-use native.Mathlib.Omega.{arith}
-use borrow.Author.Tests.{not-false}
 use Rattle.cells.specs.ForContracts.Passing.{BehindSmaller}
-use borrow.Author.Rules.{rules}
-use Rattle.cells.specs.Theory.Passed.{behind_none, behind_more}
 use Rattle.cells.proofs.passing.behind_blocks.Given as goal
 
 abbrev pub invariant-loop-at : goal.invariant-loop-at

@@ -1,6 +1,5 @@
 -- `behind_half` meets its contract.
 use native.Mathlib.Omega.{arith}
-use borrow.Author.Rules.{rules}
 use Rattle.cells.specs.Theory.Passed.{behind_none, behind_more}
 use Rattle.cells.proofs.passing.behind_half.Goals as goal
 

@@ -1,8 +1,5 @@
 -- Goals of `behind_smaller`.
-use Prim.Native.Nat.{◌-◌}
 use native.Mathlib.Omega.{arith}
-use Rattle.cells.specs.ForContracts.Passing.{BehindSmaller}
-use borrow.Author.Rules.{rules}
 use Rattle.cells.specs.Theory.Passed.{smaller_one, behind_more, behind_both}
 use Rattle.cells.proofs.passing.behind_smaller.Goals as goal
 

@@ -1,9 +1,6 @@
 -- `behind_smaller` meets its contract. The invariant: the nodes before `at` are passed over.
 use Prim.Native.Nat.{◌-◌}
-use native.Mathlib.Omega.{arith}
 use Rattle.cells.specs.ForContracts.Passing.{BehindSmaller}
-use borrow.Author.Rules.{rules}
-use Rattle.cells.specs.Theory.Passed.{smaller_one, behind_more, behind_both}
 use Rattle.cells.proofs.passing.behind_smaller.Given as goal
 
 abbrev pub invariant-loop-at : goal.invariant-loop-at

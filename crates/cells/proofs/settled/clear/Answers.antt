@@ -1,9 +1,6 @@
 -- Goals of `clear`.
-use Prim.Native.Nat.{◌-◌, ◌≤◌}
 use mathlib.Core.Path.{◌≡◌}
 use native.Mathlib.Omega.{arith}
-use Rattle.cells.specs.ForContracts.Cells.{Cleared}
-use borrow.Author.Rules.{rules}
 use Rattle.cells.specs.Theory.Cells.{cleared_none, cleared_more}
 use Rattle.cells.proofs.settled.clear.Goals as goal
 

@@ -1,10 +1,6 @@
 -- `clear` clears a part of a buffer. The loop's invariant: it is cleared as far as `at`.
 use Prim.Native.Nat.{◌-◌, ◌≤◌}
-use mathlib.Core.Path.{◌≡◌}
-use native.Mathlib.Omega.{arith}
 use Rattle.cells.specs.ForContracts.Cells.{Cleared}
-use borrow.Author.Rules.{rules}
-use Rattle.cells.specs.Theory.Cells.{cleared_none, cleared_more}
 use Rattle.cells.proofs.settled.clear.Given as goal
 
 abbrev pub invariant-loop-at : goal.invariant-loop-at

@@ -1,7 +1,6 @@
 -- `make_ready` meets its contract.
 use native.Mathlib.Omega.{arith}
 use Rattle.cells.proofs.Ready.{ready_before, ready_now}
-use borrow.Author.Rules.{rules}
 use Rattle.cells.proofs.settled.make_ready.Goals as goal
 
 pub returns-then-ready-s-gt0 : goal.returns-then-ready-s-gt0

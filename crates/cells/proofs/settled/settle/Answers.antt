@@ -3,7 +3,6 @@ use Prim.Native.Nat.{◌+◌}
 use mathlib.Core.Path.{refl, ap}
 use lib.ListN.{set}
 use native.Mathlib.Omega.{arith}
-use borrow.Author.Rules.{rules}
 use Rattle.ordering.specs.Theory.Verdict.{number_few}
 use Rattle.cells.proofs.settled.settle.Goals as goal
 

@@ -1,0 +1,28 @@
+-- `keep` puts the cell of a decision.
+use Prim.Native.Nat.{◌+◌, ◌*◌}
+use mathlib.Core.Path.{refl, ap, ◌∙◌}
+use lib.ListN.{set}
+use native.Mathlib.Omega.{arith}
+use Rattle.ordering.specs.Verdict.{verdict_number}
+use Rattle.ordering.specs.Decision.{verdict_of}
+use Rattle.ordering.specs.Theory.Verdict.{number_few}
+use Rattle.cells.specs.ForContracts.Cells.{clause_unit}
+use Rattle.clauses.specs.ForContracts.Kept.{cell_of}
+use Rattle.clauses.proofs.Keeping.{clause_few}
+use Rattle.clauses.proofs.kept.keep.Goals as goal
+
+pub overflow_add-cells : goal.overflow_add-cells
+overflow_add-cells c = omega (arith, c.number_of_verdict-verdict.ensures, number_few c.verdict_of.result)
+
+pub overflow_mul-cells : goal.overflow_mul-cells
+overflow_mul-cells c = omega (arith, c.clause_number_of.ensures, clause_few c.args.decision)
+
+pub overflow_add-cells-2 : goal.overflow_add-cells-2
+overflow_add-cells-2 c =
+    omega (arith, c.clause_number_of.ensures, clause_few c.args.decision, c.number_of_verdict-verdict.ensures, number_few c.verdict_of.result)
+
+pub returns : goal.returns
+unfolding cell_of
+returns c =
+    let told = ap (λ n. n + 1 + clause_unit * c.clause_number_of.result) (c.number_of_verdict-verdict.ensures ∙ ap verdict_number c.verdict_of.ensures) ∙ ap (λ n. verdict_number (verdict_of c.args.decision) + 1 + clause_unit * n) c.clause_number_of.ensures in
+    record { value = refl; cells_after = ap (set c.args.cells.now c.args.cell) told }
