@@ -13,7 +13,7 @@ use Rattle.format.specs.Theory.Lists.{every_entry, entry_found}
 use Rattle.terms.specs.Equation.{Equation, Direction, direction_of}
 use Rattle.scanning.specs.declared.known.Known.{Known}
 use Rattle.scanning.specs.declared.scan.ReadStatus.{ReadStatus}
-use Rattle.sheet.specs.Sheet.{run, judgement, comparison, Sheet, widths, equation_width}
+use Rattle.sheet.specs.Sheet.{run, judgement, comparison, Sheet, equation_width}
 use Rattle.sheet.specs.Frame.{ground_terms, first_term, second_term, run_body, values_body, judgement_body, comparison_body}
 use Rattle.scanning.specs.ForContracts.Digits.{pair_at, bytes_between, BodyReady}
 use Rattle.scanning.specs.ForContracts.Scan.{known_arities, Matches, task_result}

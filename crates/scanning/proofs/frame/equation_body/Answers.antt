@@ -1,5 +1,5 @@
 -- `scanning::frame::equation_body` is the definition's `equation_body`, and tells the highest variable.
-use Rattle.std.proofs.Common.{sym, subst, arith, rules}
+use Rattle.std.proofs.Common.{sym, subst, arith}
 use Rattle.scanning.specs.ForContracts.Scan.{ScanReady}
 use Rattle.scanning.proofs.Body.{by_wanted, scan_refusal, sides_refused, equation_status}
 use Rattle.scanning.proofs.frame.equation_body.Goals as goal

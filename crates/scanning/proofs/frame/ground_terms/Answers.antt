@@ -1,5 +1,5 @@
 -- `scanning::frame::ground_terms` is the definition's `ground_terms`.
-use Rattle.std.proofs.Common.{arith, rules}
+use Rattle.std.proofs.Common.{arith}
 use Rattle.sheet.specs.Frame.{ground_terms}
 use Rattle.scanning.proofs.Body.{refused_read, whole_read, left_over}
 use Rattle.scanning.proofs.frame.ground_terms.Goals as goal

@@ -1,5 +1,5 @@
 -- `scanning::frame::right_side` reads the last side of an equation.
-use Rattle.std.proofs.Common.{sym, subst, arith, rules}
+use Rattle.std.proofs.Common.{sym, subst, arith}
 use Rattle.scanning.specs.ForContracts.Scan.{ScanReady}
 use Rattle.scanning.proofs.Body.{by_wanted, refused_read, done_whole, done_width, left_over}
 use Rattle.scanning.proofs.frame.right_side.Goals as goal

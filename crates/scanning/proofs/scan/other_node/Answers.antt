@@ -1,5 +1,5 @@
 -- `scanning::scan::other_node` tells a node that is no declared symbol, class by class.
-use Rattle.std.proofs.Common.{arith, rules}
+use Rattle.std.proofs.Common.{arith}
 use Rattle.scanning.proofs.Scanning.{other_symbol, other_variable, other_not_ground, other_foreign}
 use Rattle.scanning.proofs.scan.other_node.Goals as goal
 

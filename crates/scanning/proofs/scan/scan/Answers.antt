@@ -1,7 +1,6 @@
 -- Goals of `scan`.
-use Rattle.std.proofs.Common.{arith, rules}
-use Rattle.scanning.specs.ForContracts.Scan.{listed}
-use Rattle.scanning.proofs.Scanning.{Scanning, scanning_start, stop_done, stop_early, stop_full, stop_other, next_small, next_inside, scanning_variable, scanning_declared}
+use Rattle.std.proofs.Common.{arith}
+use Rattle.scanning.proofs.Scanning.{scanning_start, stop_done, stop_early, stop_full, stop_other, next_small, next_inside, scanning_variable, scanning_declared}
 use Rattle.scanning.proofs.scan.scan.Goals as goal
 
 pub loop-need-init : goal.loop-need-init

@@ -1,5 +1,5 @@
 -- `scanning::task::judgement_task` is the definition's `judgement_body`.
-use Rattle.std.proofs.Common.{arith, rules}
+use Rattle.std.proofs.Common.{arith}
 use Rattle.scanning.proofs.Tasks.{behind_two, judgement_short, equation_absent, direction_absent, width_few, judgement_read}
 use Rattle.scanning.proofs.task.judgement_task.Goals as goal
 

@@ -1,5 +1,4 @@
 -- `scanning::task::task_body` reads a task's body by its kind.
-use Rattle.std.proofs.Common.{rules}
 use Rattle.scanning.proofs.Tasks.{comparison_read, run_kind_is, judgement_kind_is, comparison_kind_is, other_kind}
 use Rattle.scanning.proofs.task.task_body.Goals as goal
 

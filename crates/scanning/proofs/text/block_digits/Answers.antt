@@ -1,7 +1,5 @@
 -- Goals of `block_digits`.
-use Rattle.std.proofs.Common.{◌-◌, rules}
-use Rattle.scanning.specs.ForContracts.Digits.{block}
-use Rattle.scanning.proofs.Digits.{Tested, tested_start, tested_next, tested_all}
+use Rattle.scanning.proofs.Digits.{tested_start, tested_next, tested_all}
 use Rattle.scanning.proofs.text.block_digits.Goals as goal
 
 pub loop-i-init : goal.loop-i-init

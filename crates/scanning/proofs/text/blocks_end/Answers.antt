@@ -1,6 +1,4 @@
 -- Goals of `blocks_end`.
-use Rattle.std.proofs.Common.{◌-◌, length, rules}
-use Rattle.scanning.specs.ForContracts.Digits.{DigitsTo}
 use Rattle.scanning.proofs.Digits.{digits_to_start, digits_to_block}
 use Rattle.scanning.proofs.text.blocks_end.Goals as goal
 

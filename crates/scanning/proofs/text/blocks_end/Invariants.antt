@@ -1,7 +1,6 @@
 -- `scanning::text::blocks_end` passes a block of digits at a time. The loop's invariant, `DigitsTo`: what is passed are digits, and not too many.
-use Rattle.std.proofs.Common.{◌-◌, length, rules}
+use Rattle.std.proofs.Common.{◌-◌, length}
 use Rattle.scanning.specs.ForContracts.Digits.{DigitsTo}
-use Rattle.scanning.proofs.Digits.{digits_to_start, digits_to_block}
 use Rattle.scanning.proofs.text.blocks_end.Given as goal
 
 abbrev pub invariant-loop-i : goal.invariant-loop-i

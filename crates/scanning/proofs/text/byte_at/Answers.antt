@@ -1,5 +1,5 @@
 -- `scanning::text::byte_at` gives the byte of two digits; each value is at most the base, so nothing wraps.
-use Rattle.std.proofs.Common.{◌+◌, get_or, arith, rules}
+use Rattle.std.proofs.Common.{◌+◌, get_or, arith}
 use Rattle.scanning.proofs.Digits.{number_most}
 use Rattle.scanning.proofs.text.byte_at.Goals as goal
 

@@ -1,5 +1,5 @@
 -- `scanning::text::digit_value` gives the digit's value: each arm's range is that of the definition.
-use Rattle.std.proofs.Common.{sym, arith, rules}
+use Rattle.std.proofs.Common.{sym, arith}
 use Rattle.scanning.proofs.Digits.{digit_decimal, digit_letter, digit_low, digit_between, digit_high, number_some, number_none}
 use Rattle.scanning.proofs.text.digit_value.Goals as goal
 

@@ -1,5 +1,5 @@
 -- `scanning::text::ended_at` tells an even count that is not zero from any other.
-use Rattle.std.proofs.Common.{◌-◌, ◌/◌, refl, inl, inr, arith, rules}
+use Rattle.std.proofs.Common.{◌-◌, ◌/◌, refl, inl, inr, arith}
 use Rattle.scanning.proofs.text.ended_at.Goals as goal
 
 pub returns-then-count-eq0 : goal.returns-then-count-eq0

@@ -1,5 +1,4 @@
 -- `scanning::text::is_digit` tells the digits, by the differences to the first of each range.
-use Rattle.std.proofs.Common.{rules}
 use Rattle.scanning.proofs.Digits.{decimal_told, letter_told}
 use Rattle.scanning.proofs.text.is_digit.Goals as goal
 

@@ -1,6 +1,5 @@
 -- Goals of `line_end`.
-use Rattle.std.proofs.Common.{◌-◌, length, arith, rules}
-use Rattle.scanning.specs.ForContracts.Digits.{DigitsTo}
+use Rattle.std.proofs.Common.{arith}
 use Rattle.scanning.proofs.Digits.{digits_to_next, digits_to_ended, digits_to_other, digits_to_long, digits_to_unended, digit_no_end}
 use Rattle.scanning.proofs.text.line_end.Goals as goal
 

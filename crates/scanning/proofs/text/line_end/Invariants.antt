@@ -1,7 +1,6 @@
 -- `scanning::text::line_end` finds the end of a line. The loop's invariant, `DigitsTo`: what is passed are digits, and not too many.
-use Rattle.std.proofs.Common.{◌-◌, length, arith, rules}
+use Rattle.std.proofs.Common.{◌-◌, length}
 use Rattle.scanning.specs.ForContracts.Digits.{DigitsTo}
-use Rattle.scanning.proofs.Digits.{digits_to_next, digits_to_ended, digits_to_other, digits_to_long, digits_to_unended, digit_no_end}
 use Rattle.scanning.proofs.text.line_end.Given as goal
 
 abbrev pub invariant-loop-i : goal.invariant-loop-i
