@@ -1,0 +1,12 @@
+-- `first_holding` finds the first line that holds. The loop's invariant, `NoneHolds`: none of the lines passed does.
+use Prim.Native.Nat.{◌-◌}
+use mathlib.Core.Path.{refl}
+use native.Mathlib.Omega.{arith}
+use Rattle.kept_lines.proofs.Lines.{NoneHolds, lines_start, line_ends, line_there, first_found, lines_again, lines_done}
+use Rattle.kept_lines.proofs.holding.first_holding.Given as goal
+
+abbrev pub invariant-loop-at : goal.invariant-loop-at
+invariant-loop-at l = NoneHolds l.nodes l.sizes l.values l.table l.lines l.at l.line l.ready l.cells
+
+abbrev pub decreases-loop-at : goal.decreases-loop-at
+decreases-loop-at l = l.lines.end - l.at
