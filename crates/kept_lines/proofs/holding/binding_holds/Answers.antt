@@ -1,12 +1,7 @@
 -- `binding_holds` meets its contract: without a value, where the symbols differ, and by the verdict.
-use Prim.Native.Nat.{ℕ}
-use mathlib.Core.Path.{◌≡◌}
-use mathlib.Core.Logic.{inl, inr}
-use native.Mathlib.Omega.{arith}
 use Rattle.ordering.specs.Theory.Decision.{verdict_of_equal, is_equal}
 use Rattle.kept_lines.proofs.Answer.{so, not_so}
 use Rattle.kept_lines.proofs.Terms.{resolvable, readable, instance_node, has_instance, no_value, value_node, other_symbols, binding_equal, binding_other}
-use borrow.Author.Rules.{rules}
 use Rattle.kept_lines.proofs.holding.binding_holds.Goals as goal
 
 pub returns-then-node-lt-SUBJECT : goal.returns-then-node-lt-SUBJECT
@@ -36,7 +31,7 @@ compare-decision-requires c =
 
 pub returns-in_default : goal.returns-in_default
 returns-in_default c =
-    record { variant = λ ρ value b. not_so (binding_other b c.wide-node.ensures.value c.if-node-lt-SUBJECT.false c.resolve-s.ensures c.compare-decision.ensures.decision_of.verdict_is (λ e. let d = is_equal c.compare-decision.result e in elim c.in_default.in_default-own.keys2 [ inl k ↦ (let z : ◌≡◌ {A = ℕ} 1 0 = rw d at k in omega arith) | inr k ↦ (let z : ◌≡◌ {A = ℕ} 1 2 = rw d at k in omega arith) ])); settled_cells_2 = c.compare-decision.ensures.settled_cells_2 }
+    record { variant = λ ρ value b. not_so (binding_other b c.wide-node.ensures.value c.if-node-lt-SUBJECT.false c.resolve-s.ensures c.compare-decision.ensures.decision_of.verdict_is (λ e. c.in_default.not-Equal (is_equal c.compare-decision.result e))); settled_cells_2 = c.compare-decision.ensures.settled_cells_2 }
 
 pub returns : goal.returns
 returns c =

@@ -1,13 +1,10 @@
 -- Goals of `bindings_hold`.
-use Prim.Native.Nat.{◌-◌}
 use mathlib.Core.Path.{refl}
-use mathlib.Core.Logic.{⊎_elim}
 use native.Mathlib.Omega.{arith}
-use borrow.Author.Tests.{not-true, not-false}
-use Rattle.format.specs.Limits.{variable_count}
-use Rattle.kept_lines.proofs.Slots.{SlotsHold, slots_start, binding_there, slot_fails, slot_holds, slot_free, slots_done}
-use borrow.Author.Rules.{rules}
+use borrow.Author.Tests.{not-true}
+use Rattle.kept_lines.proofs.Slots.{slots_start, binding_there, slot_fails, slot_holds, slot_free, slots_done}
 use Rattle.kept_lines.proofs.holding.bindings_hold.Goals as goal
+use Rattle.kept_lines.proofs.holding.bindings_hold.Goals.{then-p-lt-NO_POSITION+else-not-binding_holds, else-p-lt-NO_POSITION}
 
 pub loop-v-init : goal.loop-v-init
 loop-v-init c = slots_start c.requires.settled_cells
@@ -35,10 +32,10 @@ pub loop-v-preserved : goal.loop-v-preserved
 loop-v-preserved c =
     let inv = c.loop-v.invariant in
     let h = c.loop-v-test.true in
-    ⊎_elim
-    (λ w. rw (w.8, w.9) (slot_holds inv h w.3.ensures.0 (omega (arith, w.0.taken)) w.4.ensures.0 (not-false _ w.7.left) w.4.ensures.1))
-    (λ w. rw (w.1, w.2) (slot_free inv h refl w.0.left))
-    c.if-p-lt-NO_POSITION.branch
+    elim c.if-p-lt-NO_POSITION.branch [
+      | then-p-lt-NO_POSITION+else-not-binding_holds w ↦ rw (w.ready-is, w.cells-is) (slot_holds inv h w.wide.ensures.value (omega (arith, w.if-p-lt-NO_POSITION.true)) w.binding_holds.ensures.variant w.if-not-binding_holds.false w.binding_holds.ensures.settled_cells_2)
+      | else-p-lt-NO_POSITION w ↦ rw (w.ready-is, w.cells-is) (slot_free inv h refl w.if-p-lt-NO_POSITION.false)
+    ]
 
 pub shape_of-cells : goal.shape_of-cells
 shape_of-cells c =

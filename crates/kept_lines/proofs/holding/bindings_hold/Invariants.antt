@@ -1,12 +1,7 @@
 -- `bindings_hold` tells whether a line's bindings hold. The loop's invariant, `SlotsHold`: all hold exactly if those that are left do.
 use Prim.Native.Nat.{◌-◌}
-use mathlib.Core.Path.{refl}
-use mathlib.Core.Logic.{⊎_elim}
-use native.Mathlib.Omega.{arith}
-use borrow.Author.Tests.{not-true, not-false}
 use Rattle.format.specs.Limits.{variable_count}
-use Rattle.kept_lines.proofs.Slots.{SlotsHold, slots_start, binding_there, slot_fails, slot_holds, slot_free, slots_done}
-use borrow.Author.Rules.{rules}
+use Rattle.kept_lines.proofs.Slots.{SlotsHold}
 use Rattle.kept_lines.proofs.holding.bindings_hold.Given as goal
 
 abbrev pub invariant-loop-v : goal.invariant-loop-v

@@ -1,9 +1,7 @@
 -- Goals of `elements_hold`.
-use Prim.Native.Nat.{◌-◌}
 use native.Mathlib.Omega.{arith}
 use borrow.Author.Tests.{not-true, not-false}
-use Rattle.kept_lines.proofs.Pairs.{PairsHold, pairs_start, pair_there, no_equality, pair_read, inequality_there, pair_fails, pair_holds, pairs_done}
-use borrow.Author.Rules.{rules}
+use Rattle.kept_lines.proofs.Pairs.{pairs_start, pair_there, no_equality, pair_read, inequality_there, pair_fails, pair_holds, pairs_done}
 use Rattle.kept_lines.proofs.holding.elements_hold.Goals as goal
 
 pub loop-i-init : goal.loop-i-init
@@ -18,7 +16,7 @@ shape_of-cells-in_default c =
 
 pub returns-in_default : goal.returns-in_default
 returns-in_default c =
-    let clauses = absurd (no_equality c.loop-i.invariant c.loop-i-test.true c.element_at-element.result c.element_at-element.ensures c.requires.has_elements c.in_default.is) in record { variant = clauses.0; settled_cells_2 = clauses.1 }
+    absurd (no_equality c.loop-i.invariant c.loop-i-test.true c.element_at-element.result c.element_at-element.ensures c.requires.has_elements c.in_default.is)
 
 pub inequality_holds-requires : goal.inequality_holds-requires
 inequality_holds-requires c =

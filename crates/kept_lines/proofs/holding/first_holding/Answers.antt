@@ -1,8 +1,7 @@
 -- Goals of `first_holding`.
-use Prim.Native.Nat.{◌-◌}
 use mathlib.Core.Path.{refl}
 use native.Mathlib.Omega.{arith}
-use Rattle.kept_lines.proofs.Lines.{NoneHolds, lines_start, line_ends, line_there, first_found, lines_again, lines_done}
+use Rattle.kept_lines.proofs.Lines.{lines_start, line_ends, line_there, first_found, lines_again, lines_done}
 use Rattle.kept_lines.proofs.holding.first_holding.Goals as goal
 
 pub loop-at-init : goal.loop-at-init

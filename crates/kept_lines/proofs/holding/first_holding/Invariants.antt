@@ -1,8 +1,6 @@
 -- `first_holding` finds the first line that holds. The loop's invariant, `NoneHolds`: none of the lines passed does.
 use Prim.Native.Nat.{◌-◌}
-use mathlib.Core.Path.{refl}
-use native.Mathlib.Omega.{arith}
-use Rattle.kept_lines.proofs.Lines.{NoneHolds, lines_start, line_ends, line_there, first_found, lines_again, lines_done}
+use Rattle.kept_lines.proofs.Lines.{NoneHolds}
 use Rattle.kept_lines.proofs.holding.first_holding.Given as goal
 
 abbrev pub invariant-loop-at : goal.invariant-loop-at

@@ -1,12 +1,7 @@
 -- `inequality_holds` meets its contract, by symbols and sizes where these tell, else by the verdict of the two nodes, asked for in the one order or the other.
-use Prim.Native.Nat.{ℕ}
-use mathlib.Core.Path.{◌≡◌}
-use mathlib.Core.Logic.{inl, inr}
-use native.Mathlib.Omega.{arith}
 use Rattle.ordering.specs.Theory.Decision.{verdict_of_smaller, verdict_of_greater, is_smaller, is_greater}
 use Rattle.kept_lines.proofs.Answer.{so, not_so}
 use Rattle.kept_lines.proofs.Terms.{resolvable, readable, measurable, instance_node, has_instance, one_low, inequality_fails, inequality_told, inequality_greater, inequality_not_greater, inequality_smaller, inequality_not_smaller}
-use borrow.Author.Rules.{rules}
 use Rattle.kept_lines.proofs.holding.inequality_holds.Goals as goal
 
 pub resolve-s-requires : goal.resolve-s-requires
@@ -54,7 +49,7 @@ compare-decision-requires c =
 
 pub returns-in_default : goal.returns-in_default
 returns-in_default c =
-    record { variant = λ ρ value x. not_so (inequality_not_smaller x c.resolve-s.ensures c.resolve-t.ensures c.compare-decision.ensures.decision_of.verdict_is (λ e. let (b, d) = is_smaller c.compare-decision.result e in elim c.in_default.in_default-own.keys2 [ inl k ↦ (let z : ◌≡◌ {A = ℕ} 0 1 = rw d at k in omega arith) | inr k ↦ (let z : ◌≡◌ {A = ℕ} 0 2 = rw d at k in omega arith) ])); settled_cells_2 = c.compare-decision.ensures.settled_cells_2 }
+    record { variant = λ ρ value x. not_so (inequality_not_smaller x c.resolve-s.ensures c.resolve-t.ensures c.compare-decision.ensures.decision_of.verdict_is (λ e. let (b, d) = is_smaller c.compare-decision.result e in c.in_default.not-Smaller b d)); settled_cells_2 = c.compare-decision.ensures.settled_cells_2 }
 
 pub returns-then-t-lt-SUBJECT : goal.returns-then-t-lt-SUBJECT
 returns-then-t-lt-SUBJECT c =
@@ -67,7 +62,7 @@ compare-decision-requires-2 c =
 
 pub returns-in_default-decision : goal.returns-in_default-decision
 returns-in_default-decision c =
-    record { variant = λ ρ value x. not_so (inequality_not_greater x c.resolve-s.ensures c.resolve-t.ensures c.compare-decision-2.ensures.decision_of.verdict_is (λ e. let (b, d) = is_greater c.compare-decision-2.result e in elim c.in_default-decision.in_default-decision-own.keys2 [ inl k ↦ (let z : ◌≡◌ {A = ℕ} 2 0 = rw d at k in omega arith) | inr k ↦ (let z : ◌≡◌ {A = ℕ} 2 1 = rw d at k in omega arith) ])); settled_cells_2 = c.compare-decision-2.ensures.settled_cells_2 }
+    record { variant = λ ρ value x. not_so (inequality_not_greater x c.resolve-s.ensures c.resolve-t.ensures c.compare-decision-2.ensures.decision_of.verdict_is (λ e. let (b, d) = is_greater c.compare-decision-2.result e in c.in_default-decision.not-Greater b d)); settled_cells_2 = c.compare-decision-2.ensures.settled_cells_2 }
 
 pub returns : goal.returns
 returns c =

@@ -2,7 +2,6 @@
 use native.Mathlib.Omega.{arith}
 use borrow.Author.Tests.{not-true, not-false}
 use Rattle.kept_lines.proofs.Lines.{has_bindings, has_elements, line_fails, line_tells}
-use borrow.Author.Rules.{rules}
 use Rattle.kept_lines.proofs.holding.line_holds.Goals as goal
 
 pub bindings_hold-requires : goal.bindings_hold-requires

@@ -1,10 +1,7 @@
 -- Goals of `copy_line`.
-use Prim.Native.Nat.{◌+◌, ◌-◌}
 use native.Mathlib.Omega.{arith}
-use lib.Seq.{slice}
-use Rattle.line_bytes.specs.Theory.Placed.{Storing, storing_start, storing_next, storing_done, storing_length}
+use Rattle.line_bytes.specs.Theory.Placed.{storing_start, storing_next, storing_done, storing_length}
 use Rattle.kept_lines.proofs.Parts.{get_or_slice, length_part}
-use borrow.Author.Rules.{rules}
 use Rattle.kept_lines.proofs.trimmed.copy_line.Goals as goal
 
 pub loop-i-init : goal.loop-i-init

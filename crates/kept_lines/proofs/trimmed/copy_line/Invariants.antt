@@ -1,10 +1,7 @@
 -- `copy_line` copies bytes. The loop's invariant, `Storing`: the bytes passed stand in the table.
 use Prim.Native.Nat.{◌+◌, ◌-◌}
-use native.Mathlib.Omega.{arith}
 use lib.Seq.{slice}
-use Rattle.line_bytes.specs.Theory.Placed.{Storing, storing_start, storing_next, storing_done, storing_length}
-use Rattle.kept_lines.proofs.Parts.{get_or_slice, length_part}
-use borrow.Author.Rules.{rules}
+use Rattle.line_bytes.specs.Theory.Placed.{Storing}
 use Rattle.kept_lines.proofs.trimmed.copy_line.Given as goal
 
 abbrev pub invariant-loop-i : goal.invariant-loop-i

@@ -1,8 +1,6 @@
 -- Goals of `keep_lines`.
-use Prim.Native.Nat.{◌-◌}
 use native.Mathlib.Omega.{arith}
-use Rattle.kept_lines.proofs.Keeping.{Keeping, keeping_start, record_there, keeping_again, keeping_full, keeping_done}
-use borrow.Author.Rules.{rules}
+use Rattle.kept_lines.proofs.Keeping.{keeping_start, record_there, keeping_again, keeping_full, keeping_done}
 use Rattle.kept_lines.proofs.trimmed.keep_lines.Goals as goal
 
 pub loop-i-init : goal.loop-i-init
@@ -34,7 +32,7 @@ copy_line-requires c =
 
 pub loop-i-preserved : goal.loop-i-preserved
 loop-i-preserved c =
-    keeping_again (omega (arith, c.requires)) c.loop-i.invariant c.requires.2 c.requires.0 c.loop-i-test.true c.trimmed_length-n.ensures c.if-to-n-gt-TABLE.false c.Copy-Line.ensures
+    keeping_again (omega (arith, c.requires)) c.loop-i.invariant c.requires.2 c.requires.0 c.loop-i-test.true c.trimmed_length-n.ensures c.if-to-n-gt-TABLE.false c.copy_line.ensures
 
 pub shape_of-table : goal.shape_of-table
 shape_of-table c = c.loop-i.invariant.same_length

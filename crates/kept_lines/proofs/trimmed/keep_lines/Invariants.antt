@@ -1,8 +1,6 @@
 -- `keep_lines` keeps lines without their filler. The loop's invariant, `Keeping`: the lines passed stand in the table.
 use Prim.Native.Nat.{◌-◌}
-use native.Mathlib.Omega.{arith}
-use Rattle.kept_lines.proofs.Keeping.{Keeping, keeping_start, record_there, keeping_again, keeping_full, keeping_done}
-use borrow.Author.Rules.{rules}
+use Rattle.kept_lines.proofs.Keeping.{Keeping}
 use Rattle.kept_lines.proofs.trimmed.keep_lines.Given as goal
 
 abbrev pub invariant-loop-i : goal.invariant-loop-i
