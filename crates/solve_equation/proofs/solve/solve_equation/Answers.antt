@@ -1,0 +1,52 @@
+-- `solve_equation` walks one direction of the equation with these bytes, and copies the records of its lines.
+use mathlib.Core.Path.{refl, sym, ◌∙◌}
+use native.Mathlib.Omega.{arith}
+use lib.ListN.{drop}
+use Rattle.walking.specs.ForContracts.Walking.{memory_bytes}
+use Rattle.solve_equation.specs.Theory.Equation.{some_direction}
+use Rattle.solve_equation.proofs.Begin.{few_lines, solved_tells, refused_tells, not_solved}
+use Rattle.solve_equation.proofs.Solving.{bytes_few, bytes_measurable, sizes_room, sides_are}
+use Rattle.solve_equation.specs.Theory.Memory.{walk_room, behind_kept}
+use Rattle.solve_equation.proofs.solve.solve_equation.Goals as goal
+
+pub measure-requires : goal.measure-requires
+measure-requires c = bytes_measurable c.requires.has_equation.0.is _ refl
+
+pub slice_bounds-sizes-end : goal.slice_bounds-sizes-end
+slice_bounds-sizes-end c = omega (arith, bytes_few c.requires.has_equation.0.is, c.measure.auto.sizes)
+
+pub slice_bounds-walk_direction-end : goal.slice_bounds-walk_direction-end
+slice_bounds-walk_direction-end c = sizes_room c.requires.has_equation.0.is _ c.measure.auto.sizes
+
+pub slice_bounds-walk_direction-end-3 : goal.slice_bounds-walk_direction-end-3
+slice_bounds-walk_direction-end-3 c = walk_room c.args.scratch.now c.requires.table_bytes_in_bounds.1
+
+pub walk_direction-walked-requires : goal.walk_direction-walked-requires
+walk_direction-walked-requires c =
+    (record { equation = c.requires.has_equation.0.equation; are = sides_are c.requires.has_equation.0.is _ _ c.measure.ensures }, c.requires.has_equation.1, sym (walk_room c.args.scratch.now c.requires.table_bytes_in_bounds.1))
+
+pub returns-in_default : goal.returns-in_default
+returns-in_default c =
+    record { reports = λ e d is x. refused_tells c.walk_direction-walked.result (c.walk_direction-walked.ensures e d (sides_are is _ _ c.measure.ensures) x) (not_solved c.in_default.is) c.args.table.now; scratch_unchanged = behind_kept c.args.scratch.now c.walk_direction-walked.new.memory c.requires.table_bytes_in_bounds.1 c.walk_direction-walked.auto.memory }
+
+pub overflow_mul-walked : goal.overflow_mul-walked
+overflow_mul-walked c =
+    let (d, x) = some_direction c.args.direction c.requires.has_equation.1 in
+    let are = sides_are c.requires.has_equation.0.is _ _ c.measure.ensures in
+    omega (arith, few_lines c.walk_direction-walked.result (c.walk_direction-walked.ensures _ d are x) c.in-Solved.is)
+
+pub copy_front-requires : goal.copy_front-requires
+copy_front-requires c =
+    let (d, x) = some_direction c.args.direction c.requires.has_equation.1 in
+    let are = sides_are c.requires.has_equation.0.is _ _ c.measure.ensures in
+    let few = few_lines c.walk_direction-walked.result (c.walk_direction-walked.ensures _ d are x) c.in-Solved.is in
+    (omega (arith, few, c.scratch-1.given.1, c.requires.table_bytes_in_bounds.1), omega (arith, few, c.requires.table_bytes_in_bounds.0))
+
+pub returns : goal.returns
+returns c =
+    let whole = c.walk_direction-walked.auto.memory in record {
+      reports = λ e d is x.
+          solved_tells c.walk_direction-walked.result (c.walk_direction-walked.ensures e d (sides_are is _ _ c.measure.ensures) x) c.in-Solved.is
+          (whole ∙ sym (walk_room c.args.scratch.now c.requires.table_bytes_in_bounds.1)) (drop memory_bytes c.args.scratch.now) c.args.table.now c.copy_front.new.to c.copy_front.ensures;
+      scratch_unchanged = behind_kept c.args.scratch.now c.walk_direction-walked.new.memory c.requires.table_bytes_in_bounds.1 whole;
+    }
