@@ -536,6 +536,7 @@ def turn(path, crate, module, fn):
                 unf += "\n"
             lhs, rhs = re.split(r" =(?=\s)", after, 1)
             var = lhs.split()[1] if len(lhs.split()) > 1 else "c"
+            more = "".join(" " + w for w in lhs.split()[2:] if w != "κs")
             if new is None:
                 say(path, "no goal", m[2])
                 new, place = "UNKNOWN-" + m[2], None
@@ -548,7 +549,7 @@ def turn(path, crate, module, fn):
                 body = by_clause(body, asked)
             if not unf and body.strip() in ("search rules", "omega arith"):
                 continue
-            answers.append((lead, f"pub {new} : goal.{new}\n{unf}{new} {var} ={body}"))
+            answers.append((lead, f"pub {new} : goal.{new}\n{unf}{new} {var}{more} ={body}"))
             done.add(new)
             continue
         if re.match(r"(?:pub )?" + NAME + r"_spec : ", rest):
