@@ -50,7 +50,7 @@ module _ (e : Equation) where
     pub walk_unlimited : WalkEnds e d
     unfolding walk_allowed first_table
     walk_unlimited =
-        let (table, turns, ends) = halts_ends (enough_for e) (view e) _ (table_halts layout_of own_suffices (positions e) few_arguments first_table first_proper) in
+        let (table, turns, ends) = halts_ends (enough_for e) (view e) (λ table. false) (table_halts layout_of own_suffices (positions e) few_arguments first_table first_proper) in
         record { table = table; turns = turns; ends = ends }
 
     -- "and on a direction that solves with that direction's table and turns": `solve` and the walk without limits are compared where both are allowed enough turns.
