@@ -21,7 +21,7 @@ use Rattle.ordering.specs.Theory.Question.{exceeds_below}
 use Rattle.ordering.specs.Theory.Subterm.{exceeds_arguments}
 use Rattle.ordering.specs.Theory.Verdict.{means_verdict, told_greater}
 use Rattle.ordering.specs.Theory.Total.{verdict_smaller, reached_or_exceeded, exceeded_not_reached}
-use Rattle.ordering.specs.Theory.Decision.{reached_L1, greater_symbol_L2, no_greater_symbol_L3}
+use Rattle.ordering.proofs.Theory.Decision.{reached_L1, greater_symbol_L2, no_greater_symbol_L3}
 use Rattle.cells.specs.ForContracts.Nodes.{TermAt}
 use Rattle.cells.specs.ForContracts.Cells.{BothGround}
 use Rattle.comparing.specs.ForContracts.Comparing.{greater_if, Compares, FindsReaching, ComparesWithAll}

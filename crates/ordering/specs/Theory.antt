@@ -8,7 +8,6 @@ pub mod Decide
 pub mod Descent
 pub mod Total
 pub mod Verdict
-pub mod Decision
 pub mod Question
 pub mod Literal
 pub mod Examples

@@ -19,9 +19,9 @@ use Rattle.reducing.specs.declared.ending.Ending.TheVariants.{NoneFound as none_
 use Rattle.reducing.specs.Reduction.{Reduces}
 use Rattle.reducing.specs.Run.{Step, Run, after_step, step, run_within_with, run_within}
 use Rattle.reducing.specs.Test.{EverySolves, line_test, reference_test, line_run}
-use Rattle.reducing.specs.Theory.Step.{step_taken}
-use Rattle.reducing.specs.Theory.Runs.{Runs, no_step as none_left, all_done, too_large, one_step as step_then, run_runs, step_same}
-use Rattle.reducing.specs.Theory.Reference.{reduces_exceeds, taken_step, all_agree, all_exact}
+use Rattle.reducing.proofs.Theory.Step.{step_taken}
+use Rattle.reducing.proofs.Theory.Runs.{Runs, no_step as none_left, all_done, too_large, one_step as step_then, run_runs, step_same}
+use Rattle.reducing.proofs.Theory.Reference.{reduces_exceeds, taken_step, all_agree, all_exact}
 use Rattle.termination.specs.Run.{run_allowed, RunEnds}
 use Rattle.termination.specs.Theory.Reduction.{reduces_ground}
 

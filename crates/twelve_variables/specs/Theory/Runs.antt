@@ -15,8 +15,8 @@ use Rattle.terms.specs.ForContracts.Limits.{VariablesBelow, AllVariablesBelow}
 use Rattle.reducing.specs.Match.{Match, unmet, meet, match, match_each, values_of}
 use Rattle.reducing.specs.Run.{Step, try_with}
 use Rattle.reducing.specs.Test.{line_test_with, line_run_with}
-use Rattle.reducing.specs.Theory.Step.{tested}
-use Rattle.reducing.specs.Theory.Runs.{SameTries, run_same_with}
+use Rattle.reducing.proofs.Theory.Step.{tested}
+use Rattle.reducing.proofs.Theory.Runs.{SameTries, run_same_with}
 use Rattle.twelve_variables.specs.Theory.Padded.{padded}
 use Rattle.twelve_variables.specs.Theory.Few.{Few}
 use Rattle.twelve_variables.specs.Theory.Slots.{padded_free, padded_get_or, Alike, alike_padded, alike_set, alike_then, alike_if}

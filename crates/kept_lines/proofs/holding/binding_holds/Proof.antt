@@ -3,7 +3,7 @@ use Prim.Native.Nat.{ℕ}
 use mathlib.Core.Path.{◌≡◌}
 use mathlib.Core.Logic.{inl, inr}
 use native.Mathlib.Omega.{arith}
-use Rattle.ordering.specs.Theory.Decision.{verdict_of_equal, is_equal}
+use Rattle.ordering.proofs.Theory.Decision.{verdict_of_equal, is_equal}
 use Rattle.kept_lines.proofs.Answer.{so, not_so}
 use Rattle.kept_lines.proofs.Terms.{resolvable, readable, instance_node, has_instance, no_value, value_node, other_symbols, binding_equal, binding_other}
 use borrow.Author.Rules.{rules}

@@ -3,7 +3,7 @@ use Prim.Native.Nat.{ℕ}
 use mathlib.Core.Path.{◌≡◌}
 use mathlib.Core.Logic.{inl, inr}
 use native.Mathlib.Omega.{arith}
-use Rattle.ordering.specs.Theory.Decision.{verdict_of_smaller, verdict_of_greater, is_smaller, is_greater}
+use Rattle.ordering.proofs.Theory.Decision.{verdict_of_smaller, verdict_of_greater, is_smaller, is_greater}
 use Rattle.kept_lines.proofs.Answer.{so, not_so}
 use Rattle.kept_lines.proofs.Terms.{resolvable, readable, measurable, instance_node, has_instance, one_low, inequality_fails, inequality_told, inequality_greater, inequality_not_greater, inequality_smaller, inequality_not_smaller}
 use borrow.Author.Rules.{rules}

@@ -13,9 +13,9 @@ use Rattle.solving.specs.Walk.{Fuel, reach, occurs, bind_unless, unify_variables
 use Rattle.solving.specs.ForContracts.Unified.{Bindable, Unified, equal_variables, bound_left, bound_right, symbols, EachUnified, no_more, one_more}
 use Rattle.solving.specs.Theory.Seen.{bound_variable, reaches_free, reaches_unbound, occurs_variable}
 use Rattle.solving.specs.ForContracts.Seen.{Reaches, stays, goes, Occurs}
-use Rattle.solving.specs.Theory.Reach.{Sufficient, reach_reaches, occurs_not}
+use Rattle.solving.proofs.Theory.Reach.{Sufficient, reach_reaches, occurs_not}
 use Rattle.solving.specs.ForContracts.Bindings.{Proper}
-use Rattle.solving.specs.Theory.Bind.{bind_keeps, bind_proper}
+use Rattle.solving.proofs.Theory.Bind.{bind_keeps, bind_proper}
 
 -- Bindings stay, and stay proper.
 pub record Extends (θ θ' : Bindings) : Type 0 where

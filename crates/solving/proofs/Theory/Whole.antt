@@ -15,14 +15,14 @@ use Rattle.solving.specs.Line.{no_bindings, unbound, lookup, greater, Line, line
 use Rattle.solving.specs.Walk.{Fuel, solved, over_limit, opening, turn, walk_within}
 use Rattle.solving.specs.Holds.{SomeLineHolds}
 use Rattle.solving.specs.Theory.Seen.{bound_variable}
-use Rattle.solving.specs.Theory.Reach.{Sufficient}
+use Rattle.solving.proofs.Theory.Reach.{Sufficient}
 use Rattle.solving.specs.ForContracts.Bindings.{Proper}
-use Rattle.solving.specs.Theory.Table.{ProperTable, turn_proper}
-use Rattle.solving.specs.Theory.Fuel.{walk_until_fuel}
-use Rattle.solving.specs.Theory.Values.{bindings_hold}
-use Rattle.solving.specs.Theory.Exact.{turn_exact}
+use Rattle.solving.proofs.Theory.Table.{ProperTable, turn_proper}
+use Rattle.solving.proofs.Theory.Fuel.{walk_until_fuel}
+use Rattle.solving.proofs.Theory.Values.{bindings_hold}
+use Rattle.solving.proofs.Theory.Exact.{turn_exact}
 use Rattle.solving.specs.Theory.Invariant.{Ended, walk_keeps}
-use Rattle.solving.specs.Theory.Written.{InLimits, limits_kept}
+use Rattle.solving.proofs.Theory.Written.{InLimits, limits_kept}
 
 -- The first table is proper, and says that the source's instance exceeds the target's.
 replicate_none : (k v : ℕ) → ◌≡◌ {A = Option ℕ} (get_or (replicate k none) v none) none

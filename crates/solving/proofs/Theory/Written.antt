@@ -10,8 +10,8 @@ use Rattle.terms.specs.Position.{Node}
 use Rattle.solving.specs.Line.{Bindings, Element, equal, greater, Line, line}
 use Rattle.solving.specs.Walk.{crowded, over_limit}
 use Rattle.solving.specs.Theory.Seen.{Reduced}
-use Rattle.solving.specs.Theory.Table.{ProperTable}
-use Rattle.solving.specs.Theory.Reduced.{AllReduced, Finished}
+use Rattle.solving.proofs.Theory.Table.{ProperTable}
+use Rattle.solving.proofs.Theory.Reduced.{AllReduced, Finished}
 use Rattle.solving.specs.ForContracts.Written.{Inequality, Inequalities, WrittenLines}
 
 -- "up to 40 elements", "at most 255 lines".

@@ -15,15 +15,15 @@ use Rattle.solving.specs.Holds.{SomeLineHolds}
 use Rattle.solving.specs.Walk.{solved, solve, Solves}
 use Rattle.solving.specs.Judge.{first_holding}
 use Rattle.solving.specs.Theory.Judge.{first_holding_pos}
-use Rattle.solving.specs.Theory.Solve.{solve_exact}
+use Rattle.solving.proofs.Theory.Solve.{solve_exact}
 use Rattle.reducing.specs.Match.{values_of}
 use Rattle.reducing.specs.Run.{Step, Descending}
 use Rattle.reducing.specs.Reduction.{Reduces, StepReduces, StepsReduce}
 use Rattle.reducing.specs.Test.{holding_in, line_test, reference_test, line_run, reference_run, EverySolves}
-use Rattle.reducing.specs.Theory.Match.{match_sound}
-use Rattle.reducing.specs.Theory.Variables.{unmet_filled}
-use Rattle.reducing.specs.Theory.Step.{Taken}
-use Rattle.reducing.specs.Theory.Runs.{AllTaken, run_taken, Agree, run_same}
+use Rattle.reducing.proofs.Theory.Match.{match_sound}
+use Rattle.reducing.proofs.Theory.Variables.{unmet_filled}
+use Rattle.reducing.proofs.Theory.Step.{Taken}
+use Rattle.reducing.proofs.Theory.Runs.{AllTaken, run_taken, Agree, run_same}
 
 -- Some line of a solved direction's table holds exactly if the source's instance exceeds the target's.
 abbrev pub Exact : Equation → Type 0

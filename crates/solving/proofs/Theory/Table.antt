@@ -12,9 +12,9 @@ use Rattle.terms.specs.Theory.View.{In, head, tail, Layout}
 use Rattle.solving.specs.Line.{Bindings, Element, equal, greater, Line, line}
 use Rattle.solving.specs.Walk.{Fuel, reach, occurs, unify, argument_choices, exceeds_each, lexicographic_choices, precedence_choices, same_symbol_choices, choices, Treatment, fully_reduced, becomes, unified, in_front, behind, treat_greater, treat, treat_leftmost, turn}
 use Rattle.solving.specs.ForContracts.Within.{Within, AllWithin}
-use Rattle.solving.specs.Theory.Reach.{Sufficient}
+use Rattle.solving.proofs.Theory.Reach.{Sufficient}
 use Rattle.solving.specs.ForContracts.Bindings.{Proper}
-use Rattle.solving.specs.Theory.Unified.{unified_proper, unify_gives}
+use Rattle.solving.proofs.Theory.Unified.{unified_proper, unify_gives}
 
 module _ (view : ℕ → Node) (vars n : ℕ) where
   abbrev pub ProperLine : Line → Type 0

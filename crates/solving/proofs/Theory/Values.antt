@@ -14,8 +14,8 @@ use Rattle.solving.specs.Holds.{BindingsHold}
 use Rattle.solving.specs.Theory.Seen.{bound_variable, reaches_unique}
 use Rattle.solving.specs.ForContracts.Seen.{Reaches, stays, goes, Occurs, here, inside}
 use Rattle.solving.specs.ForContracts.Bindings.{Measure}
-use Rattle.solving.specs.Theory.Bind.{bind_same, bind_cases}
-use Rattle.solving.specs.Theory.Unified.{Extends, unified_extends, each_extends}
+use Rattle.solving.proofs.Theory.Bind.{bind_same, bind_cases}
+use Rattle.solving.proofs.Theory.Unified.{Extends, unified_extends, each_extends}
 use Rattle.solving.specs.ForContracts.Unified.{Unified, EachUnified, equal_variables, bound_left, bound_right, symbols, no_more, one_more}
 
 -- "each binding is an equality there, of identical terms", for every variable.

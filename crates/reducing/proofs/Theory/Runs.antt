@@ -15,7 +15,7 @@ use Rattle.terms.specs.Position.{subterms, replace}
 use Rattle.terms.specs.Equation.{Equation, Direction, left_right, right_left, source, target}
 use Rattle.reducing.specs.Match.{unmet, match, values_of}
 use Rattle.reducing.specs.Run.{Step, Ending, none_found, limit_reached, result_too_large, ending_number, Run, after_step, try_with, try_equations_with, try_positions_with, step_with, step, run_with, run, last_term}
-use Rattle.reducing.specs.Theory.Step.{or_else, Taken, step_taken}
+use Rattle.reducing.proofs.Theory.Step.{or_else, Taken, step_taken}
 
 pub ending_low : (e : Ending) → ending_number e ≤ 2
 unfolding ending_number

@@ -15,10 +15,10 @@ use Rattle.solving.specs.Walk.{Fuel, reach, occurs, bind_unless, unify_variables
 use Rattle.solving.specs.Theory.Seen.{symbol_unbound}
 use Rattle.solving.specs.ForContracts.Seen.{Reaches, stays}
 use Rattle.solving.specs.Theory.Rank.{rank, rank_le, rank_down}
-use Rattle.solving.specs.Theory.Reach.{Sufficient, reach_reaches, occurs_found}
+use Rattle.solving.proofs.Theory.Reach.{Sufficient, reach_reaches, occurs_found}
 use Rattle.solving.specs.ForContracts.Bindings.{Proper}
-use Rattle.solving.specs.Theory.Unified.{unified_proper, unify_gives}
-use Rattle.solving.specs.Theory.Values.{Satisfied, satisfied_bind, reaches_value, variable_value, symbol_value, occurs_exceeded, size_measure}
+use Rattle.solving.proofs.Theory.Unified.{unified_proper, unify_gives}
+use Rattle.solving.proofs.Theory.Values.{Satisfied, satisfied_bind, reaches_value, variable_value, symbol_value, occurs_exceeded, size_measure}
 
 module _ {fuel : Fuel} {view : ℕ → Node} {vars n : ℕ} (lay : Layout view vars n) (suf : Sufficient vars n fuel) {ρ : Values} {value : ℕ → Term} (m : Model view ρ value) where
   abbrev pub Succeeds : Option Bindings → Type 0

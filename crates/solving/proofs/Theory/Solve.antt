@@ -12,15 +12,15 @@ use Rattle.ordering.specs.Order.{◌≻◌}
 use Rattle.solving.specs.Line.{Line, records}
 use Rattle.solving.specs.Walk.{Fuel, AtLeast, enough, solved, over_limit, turn, walk, solve}
 use Rattle.solving.specs.Holds.{SomeLineHolds}
-use Rattle.solving.specs.Theory.Reach.{Sufficient, enough_suffices, more_suffices}
-use Rattle.solving.specs.Theory.Table.{ProperTable}
-use Rattle.solving.specs.Theory.Fuel.{turn_fuel}
+use Rattle.solving.proofs.Theory.Reach.{Sufficient, enough_suffices, more_suffices}
+use Rattle.solving.proofs.Theory.Table.{ProperTable}
+use Rattle.solving.proofs.Theory.Fuel.{turn_fuel}
 use Rattle.solving.specs.Theory.Invariant.{Ended}
-use Rattle.solving.specs.Theory.Reduced.{Finished, turn_none}
+use Rattle.solving.proofs.Theory.Reduced.{Finished, turn_none}
 use Rattle.solving.specs.ForContracts.Written.{WrittenLines}
-use Rattle.solving.specs.Theory.Written.{written_lines}
+use Rattle.solving.proofs.Theory.Written.{written_lines}
 use Rattle.solving.specs.Theory.Records.{length_records, records_fit, AllBelow, records_are_bytes}
-use Rattle.solving.specs.Theory.Whole.{Kept, walk_kept, walk_exact, walk_fuel}
+use Rattle.solving.proofs.Theory.Whole.{Kept, walk_kept, walk_exact, walk_fuel}
 
 module _ (e : Equation) (w : WithinLimits e) where
   enough_here : Sufficient variable_count (positions e) enough

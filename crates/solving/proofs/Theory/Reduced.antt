@@ -11,9 +11,9 @@ use Rattle.terms.specs.Theory.View.{Layout}
 use Rattle.solving.specs.Line.{Bindings, Element, equal, greater, Line, line}
 use Rattle.solving.specs.Walk.{Fuel, reach, occurs, unify, Treatment, fully_reduced, becomes, unified, in_front, behind, treat_greater, treat, treat_leftmost, turn}
 use Rattle.solving.specs.Theory.Seen.{Reduced, left_variable, right_variable}
-use Rattle.solving.specs.Theory.Reach.{Sufficient, reach_reaches, occurs_not}
+use Rattle.solving.proofs.Theory.Reach.{Sufficient, reach_reaches, occurs_not}
 use Rattle.solving.specs.ForContracts.Bindings.{Proper}
-use Rattle.solving.specs.Theory.Table.{ProperTable}
+use Rattle.solving.proofs.Theory.Table.{ProperTable}
 
 abbrev pub AllReduced : (ℕ → Node) → Bindings → List Element → Type 0
 AllReduced view θ = Every (Reduced view θ)

@@ -7,7 +7,7 @@ use Rattle.format.specs.declared.refusal.Refusal.TheVariants.{FrameBytes as fram
 use Rattle.sheet.specs.Reading.{refused_at, read_with}
 use Rattle.listing.specs.Listing.{printed, frames_with, listing_with, listing}
 use Rattle.twelve_variables.specs.Uses.{UsesOld}
-use Rattle.twelve_variables.specs.Theory.Reading.{ReadAlike, reads_alike}
+use Rattle.twelve_variables.proofs.Theory.Reading.{ReadAlike, reads_alike}
 use Rattle.twelve_variables.specs.Theory.Sheet.{read_few}
 use Rattle.twelve_variables.specs.Theory.Frames.{frames_same}
 

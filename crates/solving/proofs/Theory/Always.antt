@@ -24,10 +24,10 @@ use Rattle.solving.specs.Walk.{Fuel, enough, Walked, solved, refused, over_limit
 use Rattle.solving.specs.Turns.{table_after}
 use Rattle.solving.specs.Always.{is_unbound, is_empty, has_empty, always_walk, answered, unanswered, answer_of, always, reached}
 use Rattle.solving.specs.Holds.{BindingsHold, SomeLineHolds}
-use Rattle.solving.specs.Theory.Reach.{enough_suffices}
+use Rattle.solving.proofs.Theory.Reach.{enough_suffices}
 use Rattle.solving.specs.Theory.Turns.{Before, before, after_turn, same_table, Unstopped, walk_stops}
 use Rattle.solving.specs.Theory.Invariant.{Ended, walk_keeps}
-use Rattle.solving.specs.Theory.Whole.{walk_exact}
+use Rattle.solving.proofs.Theory.Whole.{walk_exact}
 use Rattle.solving.specs.Theory.Until.{Beside, alike, stops, until_beside}
 
 -- An empty line holds at all values.

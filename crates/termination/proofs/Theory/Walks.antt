@@ -15,12 +15,12 @@ use Rattle.terms.specs.Theory.View.{Layout, layout_below, symbol_at}
 use Rattle.sheet.specs.Theory.Width.{equation_width_low, equation_below}
 use Rattle.solving.specs.Line.{Line}
 use Rattle.solving.specs.Walk.{Fuel, AtLeast, enough, solved, over_limit, opening, walk_within, walk, solve, Solves}
-use Rattle.solving.specs.Theory.Reach.{Sufficient, enough_suffices, more_suffices}
-use Rattle.solving.specs.Theory.Table.{ProperTable}
-use Rattle.solving.specs.Theory.Whole.{opening_proper, walk_fuel}
+use Rattle.solving.proofs.Theory.Reach.{Sufficient, enough_suffices, more_suffices}
+use Rattle.solving.proofs.Theory.Table.{ProperTable}
+use Rattle.solving.proofs.Theory.Whole.{opening_proper, walk_fuel}
 use Rattle.termination.specs.Walk.{slots, enough_for, no_limit, walk_allowed, WalkEnds}
 use Rattle.termination.specs.Theory.Lower.{table_halts}
-use Rattle.termination.specs.Theory.Limits.{freed, halts_ends}
+use Rattle.termination.proofs.Theory.Limits.{freed, halts_ends}
 
 module _ (e : Equation) where
   -- A symbol has no more arguments than the equation has positions.

@@ -13,7 +13,7 @@ use Rattle.terms.specs.ForContracts.Fits.{Fits}
 use Rattle.terms.specs.Theory.Ground.{instance_ground}
 use Rattle.terms.specs.Theory.Variables.{VariablesIn, AllVariablesIn}
 use Rattle.reducing.specs.Match.{Match, no_match, meet, match, match_each, values_of, has_variable, have_variable}
-use Rattle.reducing.specs.Theory.Match.{nothing_met, either}
+use Rattle.reducing.proofs.Theory.Match.{nothing_met, either}
 
 is_true : (b : Bool) → T b → b ≡ true
 is_true true h = refl

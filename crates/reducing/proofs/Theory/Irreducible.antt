@@ -18,11 +18,11 @@ use Rattle.reducing.specs.Match.{values_of, has_variable}
 use Rattle.reducing.specs.Run.{Step, none_found, try, try_equations, try_positions, step, last_term}
 use Rattle.reducing.specs.Reduction.{Irreducible}
 use Rattle.reducing.specs.Test.{reference_test, reference_run, line_run, EverySolves}
-use Rattle.reducing.specs.Theory.Match.{match_complete}
-use Rattle.reducing.specs.Theory.Variables.{unmet_filled}
-use Rattle.reducing.specs.Theory.Step.{or_else, tested, outcome, try_is}
-use Rattle.reducing.specs.Theory.Runs.{RunEnded, run_ended}
-use Rattle.reducing.specs.Theory.Reference.{reference_test_is, source_variables, run_is_reference_run}
+use Rattle.reducing.proofs.Theory.Match.{match_complete}
+use Rattle.reducing.proofs.Theory.Variables.{unmet_filled}
+use Rattle.reducing.proofs.Theory.Step.{or_else, tested, outcome, try_is}
+use Rattle.reducing.proofs.Theory.Runs.{RunEnded, run_ended}
+use Rattle.reducing.proofs.Theory.Reference.{reference_test_is, source_variables, run_is_reference_run}
 
 both_none : (o rest : Option Step) → or_else o rest ≡ none → (o ≡ none) × (rest ≡ none)
 both_none none rest h = (refl, h)

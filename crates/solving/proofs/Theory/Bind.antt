@@ -10,7 +10,7 @@ use Rattle.solving.specs.Walk.{Fuel, bound_to, occurs}
 use Rattle.solving.specs.Theory.Seen.{bound_variable, variable_bound, occurs_up, occurs_back}
 use Rattle.solving.specs.ForContracts.Seen.{stays, Occurs, here}
 use Rattle.solving.specs.ForContracts.Bindings.{Measure, Proper}
-use Rattle.solving.specs.Theory.Reach.{Sufficient, occurs_found, occurs_finds}
+use Rattle.solving.proofs.Theory.Reach.{Sufficient, occurs_found, occurs_finds}
 
 -- What a binding adds, and what it leaves.
 module _ (θ : Bindings) (v p : ℕ) (slot : v < length θ) where

@@ -16,14 +16,14 @@ use Rattle.solving.specs.Line.{Bindings, Element, equal, greater, Line, line}
 use Rattle.solving.specs.Walk.{Fuel, reach, occurs, unify, choices, Treatment, fully_reduced, becomes, unified, in_front, behind, treat_greater, treat, treat_leftmost, turn}
 use Rattle.solving.specs.Holds.{BindingsHold, ElementHolds, ElementsHold, SomeLineHolds}
 use Rattle.solving.specs.ForContracts.Seen.{Reaches}
-use Rattle.solving.specs.Theory.Reach.{Sufficient, reach_reaches, occurs_found}
+use Rattle.solving.proofs.Theory.Reach.{Sufficient, reach_reaches, occurs_found}
 use Rattle.solving.specs.ForContracts.Bindings.{Proper}
-use Rattle.solving.specs.Theory.Unified.{unified_extends, unify_gives}
+use Rattle.solving.proofs.Theory.Unified.{unified_extends, unify_gives}
 use Rattle.solving.specs.ForContracts.Unified.{Unified}
-use Rattle.solving.specs.Theory.Table.{ProperTable}
+use Rattle.solving.proofs.Theory.Table.{ProperTable}
 use Rattle.solving.specs.ForContracts.Within.{Within, AllWithin}
-use Rattle.solving.specs.Theory.Values.{satisfied, bindings_hold, satisfied_back, variable_value, symbol_value, occurs_reached, occurs_exceeded, unified_equal}
-use Rattle.solving.specs.Theory.Complete.{Succeeds, unify_succeeds}
+use Rattle.solving.proofs.Theory.Values.{satisfied, bindings_hold, satisfied_back, variable_value, symbol_value, occurs_reached, occurs_exceeded, unified_equal}
+use Rattle.solving.proofs.Theory.Complete.{Succeeds, unify_succeeds}
 use Rattle.solving.specs.Theory.Choices.{choices_to, choices_from}
 use Rattle.solving.specs.Theory.Lines.{in_front_to, in_front_from, behind_to, behind_from, choice_lines_to, choice_lines_from, lines_left, lines_right, lines_split}
 

@@ -14,7 +14,7 @@ use Rattle.terms.specs.Equation.{Equation, Direction, left_right, right_left, di
 use Rattle.terms.specs.Theory.Position.{length_subterms}
 use Rattle.reducing.specs.Run.{Step, try, try_equations, try_positions, step}
 use Rattle.reducing.specs.ForContracts.Rules.{rule_number}
-use Rattle.reducing.specs.Theory.Step.{or_else}
+use Rattle.reducing.proofs.Theory.Step.{or_else}
 
 none_then : {o rest : Option Step} {x : Option Step} → o ≡ none → rest ≡ x → or_else o rest ≡ x
 none_then {o} {rest} {x} e h = subst (λ o. or_else o rest ≡ x) (sym e) h

@@ -17,10 +17,10 @@ use Rattle.solving.specs.Theory.Seen.{bound_variable, variable_bound}
 use Rattle.solving.specs.ForContracts.Seen.{Occurs}
 use Rattle.solving.specs.Theory.Rank.{rank, rank_le, rank_down}
 use Rattle.solving.specs.ForContracts.Bindings.{Measure, Proper}
-use Rattle.solving.specs.Theory.Reach.{Sufficient, reach_reaches, reach_is, occurs_found, occurs_finds}
-use Rattle.solving.specs.Theory.Unified.{Extends, each_extends, unified_proper, unify_gives}
+use Rattle.solving.proofs.Theory.Reach.{Sufficient, reach_reaches, reach_is, occurs_found, occurs_finds}
+use Rattle.solving.proofs.Theory.Unified.{Extends, each_extends, unified_proper, unify_gives}
 use Rattle.solving.specs.ForContracts.Unified.{Bindable, Unified, EachUnified, equal_variables, bound_left, bound_right, symbols, no_more, one_more}
-use Rattle.solving.specs.Theory.Table.{ProperTable, turn_proper}
+use Rattle.solving.proofs.Theory.Table.{ProperTable, turn_proper}
 use Rattle.solving.specs.ForContracts.Within.{Within, AllWithin}
 
 measure_back : {view : ℕ → Node} {θ θ' : Bindings} {m : ℕ → ℕ} → Extends θ θ' → Measure view θ' m → Measure view θ m
