@@ -1,4 +1,3 @@
-pub mod Order
 pub mod Below
 pub mod Clause
 pub mod Theory

@@ -1,7 +1,5 @@
 -- The laws of the ordering.
 pub mod Accessible
-pub mod Subterm
-pub mod Laws
 pub mod Context
 pub mod Clause
 pub mod Decide

@@ -4,7 +4,7 @@ use Rattle.std.proofs.Math.Path.{refl}
 use Rattle.std.proofs.Common.{ap, subst, arith}
 use mathlib.Core.Logic.Iff
 use Rattle.terms.specs.Term.{Term, Terms, app, Ground}
-use Rattle.ordering.specs.Order.{◌≻◌, SomeReaches}
+use Rattle.path_order.specs.Order.{◌≻◌, SomeReaches}
 use Rattle.ordering.specs.Verdict.{Verdict, smaller, equal, greater, verdict}
 use Rattle.ordering.specs.Clause.{Clause, by_L1, by_L2, by_L3, Applies, FirstApplies}
 use Rattle.ordering.specs.Decision.{Decision, smaller_by, equal_terms, greater_by, first_clause, decision, verdict_of, clause_number, clause_number_of}

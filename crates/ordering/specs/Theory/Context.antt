@@ -5,8 +5,8 @@ use Rattle.std.proofs.Common.{arith}
 use Rattle.terms.specs.Term.{Term, Terms, var, app, nil, cons, size, sizes}
 use Rattle.terms.specs.Position.{subterms, replace, replace_in}
 use Rattle.terms.specs.Theory.Position.{replace_first, replace_rest, replace_same}
-use Rattle.ordering.specs.Order.{◌≻◌, L1, L3, SomeReaches, there, Lexicographic, at_first, at_later}
-use Rattle.ordering.specs.Theory.Subterm.{reached_exceeded}
+use Rattle.path_order.specs.Order.{◌≻◌, L1, L3, SomeReaches, there, Lexicographic, at_first, at_later}
+use Rattle.path_order.proofs.Theory.Subterm.{reached_exceeded}
 
 -- One argument is replaced by a smaller one, the others are kept.
 pub data OneSmaller : Terms → Terms → Type 0 where

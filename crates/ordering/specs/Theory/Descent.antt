@@ -2,7 +2,7 @@
 use Rattle.std.specs.Prelude.{ℕ, suc, ◌≡◌, refl, List}
 use mathlib.Core.WellFounded.{Acc}
 use Rattle.terms.specs.Term.{Term, Ground}
-use Rattle.ordering.specs.Order.{◌≻◌}
+use Rattle.path_order.specs.Order.{◌≻◌}
 use Rattle.ordering.specs.Below.{Below}
 use Rattle.ordering.specs.Theory.Accessible.{below_well_founded}
 use Rattle.ordering.specs.Theory.Decide.{exceeds?}

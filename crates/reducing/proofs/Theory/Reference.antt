@@ -7,7 +7,7 @@ use Rattle.format.specs.Theory.Lists.{every_entry}
 use Rattle.terms.specs.Term.{Term, var, Values, inst}
 use Rattle.terms.specs.Equation.{Equation, Direction, left_right, right_left, source, target, value}
 use Rattle.terms.specs.ForContracts.Limits.{VariablesBelow, WithinLimits}
-use Rattle.ordering.specs.Order.{◌≻◌}
+use Rattle.path_order.specs.Order.{◌≻◌}
 use Rattle.ordering.specs.Theory.Decide.{exceeds?}
 use Rattle.ordering.specs.Theory.Context.{replace_exceeds}
 use Rattle.solving.specs.Line.{Line}

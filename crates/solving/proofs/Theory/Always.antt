@@ -18,7 +18,7 @@ use Rattle.terms.specs.ForContracts.Limits.{WithinLimits}
 use Rattle.terms.specs.Theory.Limits.{positions_few}
 use Rattle.terms.specs.Theory.Positions.{source_at, target_at, source_within, target_within}
 use Rattle.terms.specs.Theory.View.{layout, model}
-use Rattle.ordering.specs.Order.{◌≻◌}
+use Rattle.path_order.specs.Order.{◌≻◌}
 use Rattle.solving.specs.Line.{Bindings, Line, line}
 use Rattle.solving.specs.Walk.{Fuel, enough, Walked, solved, refused, over_limit, opening, treat_leftmost, treat_line, turn, walk_until, walk_within, walk, solve}
 use Rattle.solving.specs.Turns.{table_after}

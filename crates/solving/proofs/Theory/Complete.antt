@@ -9,7 +9,7 @@ use Rattle.std.proofs.Common.{arith}
 use Rattle.terms.specs.Term.{Term, app, size, Values}
 use Rattle.terms.specs.Position.{Node, var_node, app_node}
 use Rattle.terms.specs.Theory.View.{In, head, tail, Layout, values_at, Model}
-use Rattle.ordering.specs.Theory.Laws.{≻_irrefl}
+use Rattle.path_order.proofs.Theory.Laws.{≻_irrefl}
 use Rattle.solving.specs.Line.{Bindings, bind}
 use Rattle.solving.specs.Walk.{Fuel, reach, occurs, bind_unless, unify_variables, unify_each, unify_nodes, unify}
 use Rattle.solving.specs.Theory.Seen.{symbol_unbound}

@@ -10,8 +10,8 @@ use native.Mathlib.Omega.{arith}
 use Rattle.terms.specs.Term.{Term, app, Values}
 use Rattle.terms.specs.Position.{Node, var_node, app_node}
 use Rattle.terms.specs.Theory.View.{Layout, values_at, Model}
-use Rattle.ordering.specs.Order.{◌≻◌}
-use Rattle.ordering.specs.Theory.Laws.{≻_trans, ≻_irrefl}
+use Rattle.path_order.specs.Order.{◌≻◌}
+use Rattle.path_order.proofs.Theory.Laws.{≻_trans, ≻_irrefl}
 use Rattle.solving.specs.Line.{Bindings, Element, equal, greater, Line, line}
 use Rattle.solving.specs.Walk.{Fuel, reach, occurs, unify, choices, Treatment, fully_reduced, becomes, unified, in_front, behind, treat_greater, treat, treat_leftmost, turn}
 use Rattle.solving.specs.Holds.{BindingsHold, ElementHolds, ElementsHold, SomeLineHolds}

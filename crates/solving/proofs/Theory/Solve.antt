@@ -8,7 +8,7 @@ use Rattle.terms.specs.ForContracts.Limits.{WithinLimits, positions}
 use Rattle.terms.specs.Theory.Limits.{positions_few}
 use Rattle.terms.specs.Theory.Positions.{source_at, target_at, source_within, target_within}
 use Rattle.terms.specs.Theory.View.{layout, model}
-use Rattle.ordering.specs.Order.{◌≻◌}
+use Rattle.path_order.specs.Order.{◌≻◌}
 use Rattle.solving.specs.Line.{Line, records}
 use Rattle.solving.specs.Walk.{Fuel, AtLeast, enough, solved, over_limit, turn, walk, solve}
 use Rattle.solving.specs.Holds.{SomeLineHolds}

@@ -6,9 +6,9 @@ use Rattle.terms.specs.Term.{Term, Terms, app, Values, size, sizes}
 use Rattle.terms.specs.Position.{Node, var_node, app_node}
 use Rattle.terms.specs.Theory.Induction.{Member, first, later}
 use Rattle.terms.specs.Theory.View.{In, head, tail, values_at, Model}
-use Rattle.ordering.specs.Order.{◌≻◌}
-use Rattle.ordering.specs.Theory.Subterm.{exceeds_argument}
-use Rattle.ordering.specs.Theory.Laws.{≻_trans}
+use Rattle.path_order.specs.Order.{◌≻◌}
+use Rattle.path_order.proofs.Theory.Subterm.{exceeds_argument}
+use Rattle.path_order.proofs.Theory.Laws.{≻_trans}
 use Rattle.solving.specs.Line.{Bindings, lookup, bind}
 use Rattle.solving.specs.Holds.{BindingsHold}
 use Rattle.solving.specs.Theory.Seen.{bound_variable, reaches_unique}

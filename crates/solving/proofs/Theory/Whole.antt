@@ -10,7 +10,7 @@ use Rattle.format.specs.declared.refusal.Refusal.{Refusal}
 use Rattle.terms.specs.Term.{Term, Values}
 use Rattle.terms.specs.Position.{Node}
 use Rattle.terms.specs.Theory.View.{Layout, Model}
-use Rattle.ordering.specs.Order.{◌≻◌}
+use Rattle.path_order.specs.Order.{◌≻◌}
 use Rattle.solving.specs.Line.{no_bindings, unbound, lookup, greater, Line, line}
 use Rattle.solving.specs.Walk.{Fuel, solved, over_limit, opening, turn, walk_within}
 use Rattle.solving.specs.Holds.{SomeLineHolds}

@@ -11,7 +11,7 @@ use Rattle.format.specs.Theory.Lists.{every_map}
 use Rattle.terms.specs.Term.{Term, Ground}
 use Rattle.terms.specs.Equation.{Equation}
 use Rattle.terms.specs.ForContracts.Limits.{WithinLimits}
-use Rattle.ordering.specs.Order.{◌≻◌}
+use Rattle.path_order.specs.Order.{◌≻◌}
 use Rattle.ordering.specs.Below.{Below}
 use Rattle.ordering.specs.Theory.Accessible.{ground_accessible}
 use Rattle.sheet.specs.ForContracts.Valid.{ValidEquation}

@@ -6,7 +6,7 @@ use Rattle.terms.specs.Term.{Term, Terms, var, app, nil, cons, size, sizes}
 use Rattle.terms.specs.Position.{subterms, subterms_of}
 use Rattle.terms.specs.Theory.Induction.{Member, first, later}
 use Rattle.terms.specs.Theory.Position.{subterm_first, subterm_rest}
-use Rattle.ordering.specs.Order.{◌≻◌, L1, SomeReaches, here_equal, here_greater, there, ExceedsAll, none, more, Lexicographic, at_first, at_later}
+use Rattle.path_order.specs.Order.{◌≻◌, L1, SomeReaches, here_equal, here_greater, there, ExceedsAll, none, more, Lexicographic, at_first, at_later}
 
 -- A variable exceeds nothing.
 pub var_exceeds_nothing : {v : ℕ} {t : Term} → ¬ (var v ≻ t)

@@ -3,8 +3,8 @@ use Rattle.std.specs.Prelude.{ℕ, ◌<◌, ◌≡◌, refl}
 use Rattle.std.proofs.Common.{sym, subst, arith}
 use Rattle.terms.specs.Term.{Term, Terms, var, app}
 use Rattle.terms.specs.Theory.Induction.{Each, each_nil, each_cons, term_ind}
-use Rattle.ordering.specs.Order.{◌≻◌, L1, L2, L3, SomeReaches, here_equal, here_greater, there, ExceedsAll, none, more, Lexicographic, at_first, at_later}
-use Rattle.ordering.specs.Theory.Subterm.{var_exceeds_nothing, lexicographic_exceeds_all}
+use Rattle.path_order.specs.Order.{◌≻◌, L1, L2, L3, SomeReaches, here_equal, here_greater, there, ExceedsAll, none, more, Lexicographic, at_first, at_later}
+use Rattle.path_order.proofs.Theory.Subterm.{var_exceeds_nothing, lexicographic_exceeds_all}
 
 -- Transitivity, by induction on the greatest, then the middle, then the least term.
 abbrev Chain : Term → Term → Term → Type 0

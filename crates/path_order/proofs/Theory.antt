@@ -1,0 +1,3 @@
+-- The laws that hold of the ordering by its definition alone.
+pub mod Subterm
+pub mod Laws
