@@ -1,4 +1,3 @@
-pub mod Below
 pub mod Clause
 pub mod Theory
 pub mod Verdict

@@ -1,6 +1,4 @@
 -- The laws of the ordering.
-pub mod Accessible
-pub mod Context
 pub mod Clause
 pub mod Decide
 pub mod Descent

@@ -5,7 +5,7 @@ use Rattle.format.specs.Buffer.{written}
 use Rattle.format.specs.Theory.Lists.{every_entry}
 use Rattle.terms.specs.Filling.{filling}
 use Rattle.terms.specs.ForContracts.Limits.{WithinLimits}
-use Rattle.ordering.specs.Theory.Accessible.{ground_accessible}
+use Rattle.path_order.proofs.Theory.Accessible.{ground_accessible}
 use Rattle.ordering.specs.Theory.Descent.{no_endless_descent}
 use Rattle.sheet.specs.Theory.Accepted.{accepted_valid}
 use Rattle.solving.specs.Line.{records}

@@ -9,7 +9,7 @@ use Rattle.terms.specs.Equation.{Equation, Direction, left_right, right_left, so
 use Rattle.terms.specs.ForContracts.Limits.{VariablesBelow, WithinLimits}
 use Rattle.path_order.specs.Order.{◌≻◌}
 use Rattle.ordering.specs.Theory.Decide.{exceeds?}
-use Rattle.ordering.specs.Theory.Context.{replace_exceeds}
+use Rattle.path_order.proofs.Theory.Context.{replace_exceeds}
 use Rattle.solving.specs.Line.{Line}
 use Rattle.solving.specs.Holds.{SomeLineHolds}
 use Rattle.solving.specs.Walk.{solved, solve, Solves}

@@ -12,8 +12,8 @@ use Rattle.terms.specs.Term.{Term, Ground}
 use Rattle.terms.specs.Equation.{Equation}
 use Rattle.terms.specs.ForContracts.Limits.{WithinLimits}
 use Rattle.path_order.specs.Order.{◌≻◌}
-use Rattle.ordering.specs.Below.{Below}
-use Rattle.ordering.specs.Theory.Accessible.{ground_accessible}
+use Rattle.path_order.specs.Below.{Below}
+use Rattle.path_order.proofs.Theory.Accessible.{ground_accessible}
 use Rattle.sheet.specs.ForContracts.Valid.{ValidEquation}
 use Rattle.reducing.specs.declared.ending.Ending.TheVariants.{NoneFound as none_found}
 use Rattle.reducing.specs.Reduction.{Reduces}

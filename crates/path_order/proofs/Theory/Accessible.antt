@@ -7,7 +7,7 @@ use Rattle.std.proofs.Common.{arith}
 use Rattle.terms.specs.Term.{Term, Terms, app, nil, cons, count, arity, Ground, Grounds}
 use Rattle.terms.specs.Theory.Induction.{Each, each_nil, each_cons, term_ind}
 use Rattle.path_order.specs.Order.{◌≻◌, L1, L2, L3, SomeReaches, here_equal, here_greater, there, ExceedsAll, none, more, Lexicographic, at_first, at_later}
-use Rattle.ordering.specs.Below.{Below}
+use Rattle.path_order.specs.Below.{Below}
 
 -- One list of terms is above another: at the first place where they differ it has the greater term.
 data Above : Terms → Terms → Type 0 where
