@@ -81,7 +81,7 @@ module _ (sheet scratch : List ℕ) (task : ℕ) where
             is_task = j;
             pair = record {
               spans = subst (Spans sheet place.from place.end) (ap (prefix u ++◌) (sym (append-nil (prefix v)))) (each (comparison u v) j).1;
-              ground = (subst (λ arities. Ground arities u) (sym arities) valid.0, (subst (λ arities. Ground arities v) (sym arities) valid.1, tt));
+              is_ground = (subst (λ arities. Ground arities u) (sym arities) valid.0, (subst (λ arities. Ground arities v) (sym arities) valid.1, tt));
               few_nodes = omega (arith, valid.2);
               few_symbols = omega (arith, ap length g.arities_are, g.valid.symbols.few_symbols);
             };

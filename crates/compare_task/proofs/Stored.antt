@@ -41,10 +41,10 @@ module _ {nodes sizes : List ℕ} {s t : Term} (p : PairLoaded nodes sizes s t) 
   pub pair_stands : (second : ℕ) → second ≡ position_count + get_or sizes position_count 0 → TwoAt nodes sizes s t second
   pair_stands second e =
       let l = p.loaded in
-      two_at second e (ground_row_denotes p.arities l.few_symbols (cons s (cons t nil)) l.ground l.bytes l.sizes_there (omega (arith, l.few_nodes)))
+      two_at second e (ground_row_denotes p.arities l.few_symbols (cons s (cons t nil)) l.is_ground l.bytes l.sizes_there (omega (arith, l.few_nodes)))
 
   pub pair_ground : BothGround s t
-  pair_ground = let (x, y) = p.loaded.ground in record { arities = p.arities; first = x; second = y.0 }
+  pair_ground = let (x, y) = p.loaded.is_ground in record { arities = p.arities; first = x; second = y.0 }
 
   pub no_row_ready : (values scratch : List ℕ) → length values ≡ variable_count → scratch_bytes ≤ length scratch → SettledCells nodes sizes values (replicate node_count 0) (take cell_count scratch)
   unfolding AllSymbols

@@ -57,7 +57,7 @@ module _ (arities nodes stored_sizes values : List ℕ) (ts : Terms) where
     pub split : ts ≡ append done left
     pub passed : count done ≡ v
     pub reached : node ≡ position_count + sizes done
-    pub ground : Grounds arities left
+    pub is_ground : Grounds arities left
     pub bytes : PartAt nodes node (prefixes left)
     pub measured : PartAt stored_sizes node (map size (subterms_of left))
     pub given : (w : ℕ) → w < v → GroundStored nodes stored_sizes arities (get_or values w 0) (given_values ts w)
@@ -85,7 +85,7 @@ placing_start stored_sizes end {values} x = record {
     split = refl;
     passed = refl;
     reached = omega arith;
-    ground = l.ground;
+    is_ground = l.is_ground;
     bytes = l.bytes;
     measured = l.sizes_there;
     given = λ w h. absurd (omega arith);
@@ -95,7 +95,7 @@ placing_start stored_sizes end {values} x = record {
 module _ {arities nodes stored_sizes values : List ℕ} {ts : Terms} {n node v : ℕ} (l : Loaded arities nodes stored_sizes ts n) (p : PlacedSoFar arities nodes stored_sizes values ts node v) where
   next_value : node < position_count + n → NextValue arities nodes stored_sizes values ts node v
   unfolding prefix subterms size count
-  next_value h = go p.left p.split p.ground p.bytes p.measured
+  next_value h = go p.left p.split p.is_ground p.bytes p.measured
     where
       go : (left : Terms) → ts ≡ append p.done left → Grounds arities left → PartAt nodes node (prefixes left) → PartAt stored_sizes node (map size (subterms_of left))
           → NextValue arities nodes stored_sizes values ts node v
@@ -112,7 +112,7 @@ module _ {arities nodes stored_sizes values : List ℕ} {ts : Terms} {n node v :
               split = s ∙ append_first p.done t rest;
               passed = omega (arith, count_append p.done (cons t nil), p.passed);
               reached = omega (arith, sizes_append p.done (cons t nil), p.reached, z);
-              ground = g.1;
+              is_ground = g.1;
               bytes = subst (λ k. PartAt nodes (node + k) (prefixes rest)) (sym z) (stored_rest (prefix t) (prefixes rest) (size t) (length_prefix t) b);
               measured =
                   subst (λ k. PartAt stored_sizes (node + k) (map size (subterms_of rest))) (sym z)
@@ -133,7 +133,7 @@ module _ {arities nodes stored_sizes values : List ℕ} {ts : Terms} {n node v :
           stored_here : GroundStored nodes stored_sizes arities node t
           stored_here = record {
             few_symbols = l.few_symbols;
-            ground = g.0;
+            is_ground = g.0;
             stored = record { bytes = stored_first (prefix t) (prefixes rest) b; sizes_there = stored_first (map size (subterms t)) (map size (subterms_of rest)) both };
             low = omega (arith, p.reached);
             within = fits;

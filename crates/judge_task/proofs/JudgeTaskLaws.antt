@@ -208,7 +208,7 @@ module _ {sheet : List ℕ} {known : Known} {rule from end task : ℕ} (j : Judg
         one_each = valid.2;
         terms_in = record {
           spans = j.spans;
-          ground = subst (λ arities. Grounds arities j.terms) (sym arities) valid.3;
+          is_ground = subst (λ arities. Grounds arities j.terms) (sym arities) valid.3;
           few_nodes = valid.4;
           few_symbols = omega (arith, ap length g.arities_are, g.valid.symbols.few_symbols);
         };

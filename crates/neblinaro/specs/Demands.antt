@@ -250,7 +250,7 @@ TurnsFit =
 -- arity 0, and none of a lower number has arity 0.
 pub record FillingDemand (arities : List ℕ) : Type 0 where
   pub term_is : filling arities ≡ app (lowest_constant arities) nil
-  pub ground : Ground arities (filling arities)
+  pub is_ground : Ground arities (filling arities)
   pub a_constant : entry arities (lowest_constant arities) ≡ some 0
   pub none_lower : (f : ℕ) → entry arities f ≡ some 0 → lowest_constant arities ≤ f
 

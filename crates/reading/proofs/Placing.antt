@@ -40,7 +40,7 @@ module _ {sheet arities : List ℕ} {from end : ℕ} {ts : Terms} (are : TermsIn
   terms_few = omega (arith, length_prefixes ts, are.few_nodes)
 
   fit : AllFit arities ts
-  fit = grounds_fit arities ts are.ground
+  fit = grounds_fit arities ts are.is_ground
 
   counted : {n : ℕ} → n ≡ length (prefixes ts) → n ≡ sizes ts
   counted e = e ∙ length_prefixes ts

@@ -177,7 +177,7 @@ module _ {sheet : List ℕ} {known : Known} {limit from end task : ℕ} (i : Red
       let g = i.accepts.2 in
       record {
         spans = subst (Spans sheet from end) (sym (append-nil (prefix i.subject))) i.spans;
-        ground = (subst (λ arities. Ground arities i.subject) (sym its_arities) valid_task.1, tt);
+        is_ground = (subst (λ arities. Ground arities i.subject) (sym its_arities) valid_task.1, tt);
         few_nodes = omega (arith, valid_task.2);
         few_symbols = omega (arith, ap length g.arities_are, g.valid.symbols.few_symbols);
       }

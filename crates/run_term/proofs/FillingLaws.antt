@@ -87,7 +87,7 @@ module _ {arities nodes sizes : List ℕ} {s : Term} {n : ℕ} (l : Loaded ariti
   few_nodes = omega (arith, l.few_nodes)
 
   filling_is_ground : Ground arities (filling arities)
-  filling_is_ground = let z = constant_in arities s l.ground.0 in filling_ground arities z.0 z.1
+  filling_is_ground = let z = constant_in arities s l.is_ground.0 in filling_ground arities z.0 z.1
 
   constant_low : constant < first_variable
   unfolding filling
@@ -114,7 +114,7 @@ module _ {arities nodes sizes : List ℕ} {s : Term} {n : ℕ} (l : Loaded ariti
   unfolding filling prefix subterms size
   filling_put = record {
     few_symbols = l.few_symbols;
-    ground = filling_is_ground;
+    is_ground = filling_is_ground;
     stored = record {
       bytes = put_there nodes filling_node constant (omega (arith, l.nodes_length));
       sizes_there = put_there sizes filling_node 1 (omega (arith, l.sizes_length));
@@ -130,7 +130,7 @@ module _ {arities nodes sizes : List ℕ} {s : Term} {n : ℕ} (l : Loaded ariti
     symbols = λ i h. symbols_kept i;
     stored = record {
       few_symbols = l.few_symbols;
-      ground = l.ground.0;
+      is_ground = l.is_ground.0;
       stored = record { bytes = term_bytes_kept; sizes_there = term_sizes_kept };
       low = omega arith;
       within = omega (arith, few_nodes);

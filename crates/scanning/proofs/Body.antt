@@ -30,7 +30,7 @@ by_wanted {text} {d} {arities} {w} {v} {r} e g = subst (λ u. ScanRead text d ar
 
 module _ (text : List ℕ) (d : Span) (arities : List ℕ) (w : Wanted) (r : Scanned) (g : ScanRead text d arities w r) where
   abbrev scan_result : Result (List ℕ)
-  scan_result = scan arities w.ground (span_bytes text d) w.terms w.nodes
+  scan_result = scan arities w.is_ground (span_bytes text d) w.terms w.nodes
 
   pub scan_refusal : {x : Refusal} → r.status ≡ Refused x → scan_result ≡ refuse x
   scan_refusal e = g.given ∙ ap (status_result (bytes_between text r.at d.end)) e
@@ -116,7 +116,7 @@ module _ (arities : List ℕ) (known : length arities ≤ max_symbols) where
 
 -- 4. What the equation's code puts together: the left side's scan, and what is known of the right side.
 abbrev pub left_side : Wanted
-left_side = record { terms = 1; nodes = max_side_nodes; ground = false; width = 0 }
+left_side = record { terms = 1; nodes = max_side_nodes; is_ground = false; width = 0 }
 
 pub equation_status : (text : List ℕ) (d : Span) (k : Known) → FrameReady text d k → (l : Scanned) → ScanRead text d (known_arities k) left_side l
     → l.status ≡ Done

@@ -22,18 +22,18 @@ use Rattle.scanning.specs.Theory.Between.{between_end, two_more, first_byte, byt
 use Rattle.terms.specs.Term.{arity}
 
 -- 1. A node: of a known symbol, of an unknown one.
-pub after_known : (n : ℕ) (xs : List ℕ) (ground : Bool) (f need : ℕ) → f < n → after_node (listed n xs) ground (symbol f) need ≡ give (get_or xs f 0 + need)
+pub after_known : (n : ℕ) (xs : List ℕ) (is_ground : Bool) (f need : ℕ) → f < n → after_node (listed n xs) is_ground (symbol f) need ≡ give (get_or xs f 0 + need)
 unfolding after_node arity
-after_known n xs ground f need h = go (ltb f (length (listed n xs))) (lt-ltb f (length (listed n xs)) (omega (arith, length_listed n xs)))
+after_known n xs is_ground f need h = go (ltb f (length (listed n xs))) (lt-ltb f (length (listed n xs)) (omega (arith, length_listed n xs)))
   where
     go : (t : Bool) → t ≡ true
         → ◌≡◌ {A = Result ℕ} (elim t [ true ↦ give (get_or (listed n xs) f 0 + need) | false ↦ refuse FrameBytes ]) (give (get_or xs f 0 + need))
     go true e = ap (λ a. give (a + need)) (get_or_listed n xs f h)
     go false e = let z : ◌≡◌ {A = ℕ} 0 1 = cc in absurd (omega arith)
 
-after_unknown : (arities : List ℕ) (ground : Bool) (f need : ℕ) → length arities ≤ f → after_node arities ground (symbol f) need ≡ refuse FrameBytes
+after_unknown : (arities : List ℕ) (is_ground : Bool) (f need : ℕ) → length arities ≤ f → after_node arities is_ground (symbol f) need ≡ refuse FrameBytes
 unfolding after_node arity
-after_unknown arities ground f need h = go (ltb f (length arities)) (le-ltb f (length arities) h)
+after_unknown arities is_ground f need h = go (ltb f (length arities)) (le-ltb f (length arities) h)
   where
     go : (t : Bool) → t ≡ false → ◌≡◌ {A = Result ℕ} (elim t [ true ↦ give (get_or arities f 0 + need) | false ↦ refuse FrameBytes ]) (refuse FrameBytes)
     go true e = let z : ◌≡◌ {A = ℕ} 0 1 = cc in absurd (omega arith)
@@ -41,68 +41,68 @@ after_unknown arities ground f need h = go (ltb f (length arities)) (le-ltb f (l
 
 -- A byte by its class, as the code tells it.
 module _ (b : ℕ) {c : Class} (told : c ≡ class_of b) (arities : List ℕ) (need : ℕ) where
-  by_class : {k : Class} → c ≡ k → (ground : Bool) → after_node arities ground (class_of b) need ≡ after_node arities ground k need
-  by_class e ground = ap (λ k. after_node arities ground k need) (sym told ∙ e)
+  by_class : {k : Class} → c ≡ k → (is_ground : Bool) → after_node arities is_ground (class_of b) need ≡ after_node arities is_ground k need
+  by_class e is_ground = ap (λ k. after_node arities is_ground k need) (sym told ∙ e)
 
-  pub other_symbol : {f : ℕ} → c ≡ symbol f → (ground : Bool) → length arities ≤ b → after_node arities ground (class_of b) need ≡ refuse FrameBytes
-  other_symbol {f} e ground h = by_class e ground ∙ after_unknown arities ground f need (omega (arith, (class_symbol b f (sym told ∙ e)).0))
+  pub other_symbol : {f : ℕ} → c ≡ symbol f → (is_ground : Bool) → length arities ≤ b → after_node arities is_ground (class_of b) need ≡ refuse FrameBytes
+  other_symbol {f} e is_ground h = by_class e is_ground ∙ after_unknown arities is_ground f need (omega (arith, (class_symbol b f (sym told ∙ e)).0))
 
-  pub other_variable : {v : ℕ} → c ≡ variable v → {ground : Bool} → ground ≡ false → {w : ℕ} → w ≡ v
-      → (after_node arities ground (class_of b) need ≡ give need) × (node_width (class_of b) ≡ w + 1)
+  pub other_variable : {v : ℕ} → c ≡ variable v → {is_ground : Bool} → is_ground ≡ false → {w : ℕ} → w ≡ v
+      → (after_node arities is_ground (class_of b) need ≡ give need) × (node_width (class_of b) ≡ w + 1)
   unfolding after_node
-  other_variable {v} e {ground} g {w} x =
-      (by_class e ground ∙ ap (λ t. after_node arities t (variable v) need) g, ap node_width (sym told ∙ e) ∙ sym (add-one w ∙ ap suc x))
+  other_variable {v} e {is_ground} g {w} x =
+      (by_class e is_ground ∙ ap (λ t. after_node arities t (variable v) need) g, ap node_width (sym told ∙ e) ∙ sym (add-one w ∙ ap suc x))
 
-  pub other_not_ground : {v : ℕ} → c ≡ variable v → {ground : Bool} → ground ≡ true → after_node arities ground (class_of b) need ≡ refuse NotGround
+  pub other_not_ground : {v : ℕ} → c ≡ variable v → {is_ground : Bool} → is_ground ≡ true → after_node arities is_ground (class_of b) need ≡ refuse NotGround
   unfolding after_node
-  other_not_ground {v} e {ground} g = by_class e ground ∙ ap (λ t. after_node arities t (variable v) need) g
+  other_not_ground {v} e {is_ground} g = by_class e is_ground ∙ ap (λ t. after_node arities t (variable v) need) g
 
-  pub other_foreign : c ≡ foreign → (ground : Bool) → after_node arities ground (class_of b) need ≡ refuse FrameBytes
+  pub other_foreign : c ≡ foreign → (is_ground : Bool) → after_node arities is_ground (class_of b) need ≡ refuse FrameBytes
   unfolding after_node
-  other_foreign e ground = by_class e ground
+  other_foreign e is_ground = by_class e is_ground
 
 -- 2. A scan of one node more.
-pub scan_none : (arities : List ℕ) (ground : Bool) (bs : List ℕ) (room : ℕ) → scan arities ground bs 0 room ≡ give bs
+pub scan_none : (arities : List ℕ) (is_ground : Bool) (bs : List ℕ) (room : ℕ) → scan arities is_ground bs 0 room ≡ give bs
 unfolding scan
-scan_none arities ground [] room = refl
-scan_none arities ground (b ∷ bs) room = refl
+scan_none arities is_ground [] room = refl
+scan_none arities is_ground (b ∷ bs) room = refl
 
-pub scan_early : (arities : List ℕ) (ground : Bool) (need room : ℕ) → 0 < need → scan arities ground [] need room ≡ refuse FrameBytes
+pub scan_early : (arities : List ℕ) (is_ground : Bool) (need room : ℕ) → 0 < need → scan arities is_ground [] need room ≡ refuse FrameBytes
 unfolding scan
-scan_early arities ground zero room h = absurd (omega arith)
-scan_early arities ground (suc need) room h = refl
+scan_early arities is_ground zero room h = absurd (omega arith)
+scan_early arities is_ground (suc need) room h = refl
 
-pub scan_full : (arities : List ℕ) (ground : Bool) (b : ℕ) (bs : List ℕ) (need : ℕ) → 0 < need → scan arities ground (b ∷ bs) need 0 ≡ refuse FrameBytes
+pub scan_full : (arities : List ℕ) (is_ground : Bool) (b : ℕ) (bs : List ℕ) (need : ℕ) → 0 < need → scan arities is_ground (b ∷ bs) need 0 ≡ refuse FrameBytes
 unfolding scan
-scan_full arities ground b bs zero h = absurd (omega arith)
-scan_full arities ground b bs (suc need) h = refl
+scan_full arities is_ground b bs zero h = absurd (omega arith)
+scan_full arities is_ground b bs (suc need) h = refl
 
-pub after_scan : (arities : List ℕ) (ground : Bool) (bs : List ℕ) (room : ℕ) → Result ℕ → Result (List ℕ)
-after_scan arities ground bs room r = elim r [ refuse x ↦ refuse x | give n ↦ scan arities ground bs n room ]
+pub after_scan : (arities : List ℕ) (is_ground : Bool) (bs : List ℕ) (room : ℕ) → Result ℕ → Result (List ℕ)
+after_scan arities is_ground bs room r = elim r [ refuse x ↦ refuse x | give n ↦ scan arities is_ground bs n room ]
 
-pub scan_node : (arities : List ℕ) (ground : Bool) (b : ℕ) (bs : List ℕ) (need room : ℕ) (r : Result ℕ) → 0 < need → 0 < room
-    → after_node arities ground (class_of b) (need - 1) ≡ r
-    → scan arities ground (b ∷ bs) need room ≡ after_scan arities ground bs (room - 1) r
+pub scan_node : (arities : List ℕ) (is_ground : Bool) (b : ℕ) (bs : List ℕ) (need room : ℕ) (r : Result ℕ) → 0 < need → 0 < room
+    → after_node arities is_ground (class_of b) (need - 1) ≡ r
+    → scan arities is_ground (b ∷ bs) need room ≡ after_scan arities is_ground bs (room - 1) r
 unfolding scan after_scan
-scan_node arities ground b bs zero room r h i e = absurd (omega arith)
-scan_node arities ground b bs (suc need) zero r h i e = absurd (omega arith)
-scan_node arities ground b bs (suc need) (suc room) r h i e =
+scan_node arities is_ground b bs zero room r h i e = absurd (omega arith)
+scan_node arities is_ground b bs (suc need) zero r h i e = absurd (omega arith)
+scan_node arities is_ground b bs (suc need) (suc room) r h i e =
     let a : suc need - 1 ≡ need = omega arith in
     let d : suc room - 1 ≡ room = omega arith in
-    let f : after_node arities ground (class_of b) need ≡ r = ap (after_node arities ground (class_of b)) (sym a) ∙ e in
-    ap (after_scan arities ground bs room) f ∙ ap (λ m. after_scan arities ground bs m r) (sym d)
+    let f : after_node arities is_ground (class_of b) need ≡ r = ap (after_node arities is_ground (class_of b)) (sym a) ∙ e in
+    ap (after_scan arities is_ground bs room) f ∙ ap (λ m. after_scan arities is_ground bs m r) (sym d)
 
-pub scan_refused : (arities : List ℕ) (ground : Bool) (b : ℕ) (bs : List ℕ) (need room : ℕ) (x : Refusal) → 0 < need → 0 < room
-    → after_node arities ground (class_of b) (need - 1) ≡ refuse x
-    → scan arities ground (b ∷ bs) need room ≡ refuse x
+pub scan_refused : (arities : List ℕ) (is_ground : Bool) (b : ℕ) (bs : List ℕ) (need room : ℕ) (x : Refusal) → 0 < need → 0 < room
+    → after_node arities is_ground (class_of b) (need - 1) ≡ refuse x
+    → scan arities is_ground (b ∷ bs) need room ≡ refuse x
 unfolding after_scan
-scan_refused arities ground b bs need room x h i e = scan_node arities ground b bs need room (refuse x) h i e
+scan_refused arities is_ground b bs need room x h i e = scan_node arities is_ground b bs need room (refuse x) h i e
 
-pub scan_more : (arities : List ℕ) (ground : Bool) (b : ℕ) (bs : List ℕ) (need room n : ℕ) → 0 < need → 0 < room
-    → after_node arities ground (class_of b) (need - 1) ≡ give n
-    → scan arities ground (b ∷ bs) need room ≡ scan arities ground bs n (room - 1)
+pub scan_more : (arities : List ℕ) (is_ground : Bool) (b : ℕ) (bs : List ℕ) (need room n : ℕ) → 0 < need → 0 < room
+    → after_node arities is_ground (class_of b) (need - 1) ≡ give n
+    → scan arities is_ground (b ∷ bs) need room ≡ scan arities is_ground bs n (room - 1)
 unfolding after_scan
-scan_more arities ground b bs need room n h i e = scan_node arities ground b bs need room (give n) h i e
+scan_more arities is_ground b bs need room n h i e = scan_node arities is_ground b bs need room (give n) h i e
 
 -- 3. The highest variable.
 pub width_low : (b : ℕ) → node_width (class_of b) ≤ variable_count
@@ -117,7 +117,7 @@ width_low b = go (class_of b) refl
 pub record Scanning (text : List ℕ) (d : Span) (arities : List ℕ) (w : Wanted) (at need room highest : ℕ) : Type 0 where
   pub body : BodyReady text at d.end
   pub few : need + max_byte * room ≤ max_need
-  pub same : scan arities w.ground (span_bytes text d) w.terms w.nodes ≡ scan arities w.ground (bytes_between text at d.end) need room
+  pub same : scan arities w.is_ground (span_bytes text d) w.terms w.nodes ≡ scan arities w.is_ground (bytes_between text at d.end) need room
   pub widths : max w.width (widest (span_bytes text d)) ≡ max highest (widest (bytes_between text at d.end))
   pub low : highest ≤ variable_count
 
@@ -136,7 +136,7 @@ module _ (text : List ℕ) (d : Span) (arities : List ℕ) (w : Wanted) where
     Stops o = ScanRead text d arities w (record { status = o; at = at; width = highest })
 
     -- It stops with what the rest gives.
-    scanning_stop : (o : ReadStatus) → scan arities w.ground rest need room ≡ status_result rest o → Stops o
+    scanning_stop : (o : ReadStatus) → scan arities w.is_ground rest need room ≡ status_result rest o → Stops o
     unfolding rest
     scanning_stop o e = record { given = g.same ∙ e; behind = g.body; widths = g.widths; low_width = g.low }
 
@@ -144,13 +144,13 @@ module _ (text : List ℕ) (d : Span) (arities : List ℕ) (w : Wanted) where
     unfolding rest
     stop_done h =
         let e : need ≡ 0 = omega arith in
-        scanning_stop Done (ap (λ n. scan arities w.ground rest n room) e ∙ scan_none arities w.ground rest room)
+        scanning_stop Done (ap (λ n. scan arities w.is_ground rest n room) e ∙ scan_none arities w.is_ground rest room)
 
     pub stop_early : at ≡ d.end → 0 < need → Stops (Refused FrameBytes)
     unfolding rest
     stop_early e h =
         scanning_stop (Refused FrameBytes)
-        (ap (λ bs. scan arities w.ground bs need room) (between_end text at d.end (omega arith)) ∙ scan_early arities w.ground need room h)
+        (ap (λ bs. scan arities w.is_ground bs need room) (between_end text at d.end (omega arith)) ∙ scan_early arities w.is_ground need room h)
 
     module _ (more : at ≡ d.end → ⊥) where
       pub next_inside : at + 2 ≤ length text
@@ -165,14 +165,14 @@ module _ (text : List ℕ) (d : Span) (arities : List ℕ) (w : Wanted) where
 
       module _ (some_need : 0 < need) where
         pub stop_full : room ≡ 0 → Stops (Refused FrameBytes)
-        stop_full e = scanning_stop (Refused FrameBytes) (cc (is_cons, e, scan_full arities w.ground (pair_at text at) behind need some_need))
+        stop_full e = scanning_stop (Refused FrameBytes) (cc (is_cons, e, scan_full arities w.is_ground (pair_at text at) behind need some_need))
 
         module _ (some_room : room ≡ 0 → ⊥) where
-          pub stop_refused : (x : Refusal) → after_node arities w.ground (class_of (pair_at text at)) (need - 1) ≡ refuse x → Stops (Refused x)
+          pub stop_refused : (x : Refusal) → after_node arities w.is_ground (class_of (pair_at text at)) (need - 1) ≡ refuse x → Stops (Refused x)
           stop_refused x e =
-              scanning_stop (Refused x) (cc (is_cons, scan_refused arities w.ground (pair_at text at) behind need room x some_need (omega arith) e))
+              scanning_stop (Refused x) (cc (is_cons, scan_refused arities w.is_ground (pair_at text at) behind need room x some_need (omega arith) e))
 
-          pub scanning_next : (n : ℕ) → after_node arities w.ground (class_of (pair_at text at)) (need - 1) ≡ give n → n ≤ max_byte + (need - 1)
+          pub scanning_next : (n : ℕ) → after_node arities w.is_ground (class_of (pair_at text at)) (need - 1) ≡ give n → n ≤ max_byte + (need - 1)
               → Scanning text d arities w (at + 2) n (room - 1) (max highest (node_width (class_of (pair_at text at))))
           unfolding widest rest behind
           scanning_next n e l = record {
@@ -180,8 +180,8 @@ module _ (text : List ℕ) (d : Span) (arities : List ℕ) (w : Wanted) where
             few = omega (arith, g.few);
             same =
                 g.same
-                ∙ ap (λ bs. scan arities w.ground bs need room) is_cons
-                ∙ scan_more arities w.ground (pair_at text at) (bytes_between text (at + 2) d.end) need room n some_need (omega arith) e;
+                ∙ ap (λ bs. scan arities w.is_ground bs need room) is_cons
+                ∙ scan_more arities w.is_ground (pair_at text at) (bytes_between text (at + 2) d.end) need room n some_need (omega arith) e;
             widths = g.widths ∙ ap (λ bs. max highest (widest bs)) is_cons ∙ omega arith;
             low = omega (arith, g.low, width_low (pair_at text at));
           }
@@ -194,9 +194,9 @@ pub scanning_declared : (text : List ℕ) (d : Span) (symbols : ℕ) (xs : List 
 scanning_declared text d symbols xs w at need room highest g n h m l {b} {a} x i e k =
     let f = pair_at text at in
     let is_symbol : class_of f ≡ symbol f = symbol_class f (omega arith) in
-    let given : after_node (listed symbols xs) w.ground (class_of f) (need - 1) ≡ give (a + (need - 1)) =
-    ap (λ c. after_node (listed symbols xs) w.ground c (need - 1)) is_symbol
-    ∙ after_known symbols xs w.ground f (need - 1) (omega arith)
+    let given : after_node (listed symbols xs) w.is_ground (class_of f) (need - 1) ≡ give (a + (need - 1)) =
+    ap (λ c. after_node (listed symbols xs) w.is_ground c (need - 1)) is_symbol
+    ∙ after_known symbols xs w.is_ground f (need - 1) (omega arith)
     ∙ ap (λ y. give (y + (need - 1))) (ap (λ j. get_or xs j 0) (sym x) ∙ sym e) in
     let same_width : max highest (node_width (class_of f)) ≡ highest = ap (λ c. max highest (node_width c)) is_symbol ∙ omega arith in
     subst (Scanning text d (listed symbols xs) w (at + 2) (a + (need - 1)) (room - 1)) same_width
@@ -205,19 +205,19 @@ scanning_declared text d symbols xs w at need room highest g n h m l {b} {a} x i
 -- A node that is no declared symbol.
 module _ (text : List ℕ) (d : Span) (symbols : ℕ) (xs : List ℕ) (w : Wanted) (at need room highest : ℕ) (g : Scanning text d (listed symbols xs) w at need room highest)
     (more : at ≡ d.end → ⊥) (some_need : 0 < need) (some_room : room ≡ 0 → ⊥) {b : ℕ} (is_byte_lem : b ≡ pair_at text at) (undeclared : symbols ≤ b) (r : OtherNode)
-    (read : (arities : List ℕ) (n : ℕ) → length arities ≤ b → OtherRead arities w.ground b n r) where
-  node_read : OtherRead (listed symbols xs) w.ground (pair_at text at) (need - 1) r
+    (read : (arities : List ℕ) (n : ℕ) → length arities ≤ b → OtherRead arities w.is_ground b n r) where
+  node_read : OtherRead (listed symbols xs) w.is_ground (pair_at text at) (need - 1) r
   node_read =
-      subst (λ x. OtherRead (listed symbols xs) w.ground x (need - 1) r) is_byte_lem
+      subst (λ x. OtherRead (listed symbols xs) w.is_ground x (need - 1) r) is_byte_lem
       (read (listed symbols xs) (need - 1) (omega (arith, length_listed symbols xs)))
 
   pub stop_other : {x : Refusal} → r ≡ Node-Refused x → ScanRead text d (listed symbols xs) w (record { status = Refused x; at = at; width = highest })
   stop_other {x} e =
       stop_refused text d (listed symbols xs) w at need room highest g more some_need some_room x
-      (subst (OtherRead (listed symbols xs) w.ground (pair_at text at) (need - 1)) e node_read)
+      (subst (OtherRead (listed symbols xs) w.is_ground (pair_at text at) (need - 1)) e node_read)
 
   pub scanning_variable : {v : ℕ} → r ≡ Variable v → {u : ℕ} → u ≡ max highest v → Scanning text d (listed symbols xs) w (at + 2) (need - 1) (room - 1) u
   scanning_variable {v} e x =
-      let (given, width) = subst (OtherRead (listed symbols xs) w.ground (pair_at text at) (need - 1)) e node_read in
+      let (given, width) = subst (OtherRead (listed symbols xs) w.is_ground (pair_at text at) (need - 1)) e node_read in
       subst (Scanning text d (listed symbols xs) w (at + 2) (need - 1) (room - 1)) (ap (max highest) width ∙ sym x)
       (scanning_next text d (listed symbols xs) w at need room highest g more some_need some_room (need - 1) given (omega arith))

@@ -19,7 +19,7 @@ pub fn ground_terms(known: Known, s: &[u8], span: Span, terms: usize) -> ReadSta
     let wanted = Wanted {
         terms: terms,
         nodes: Limits::TASK_NODES,
-        ground: true,
+        is_ground: true,
         width: 0,
     };
     let r = scan(known, s, span, wanted);
@@ -38,12 +38,12 @@ pub fn ground_terms(known: Known, s: &[u8], span: Span, terms: usize) -> ReadSta
 
 // One side of an equation, behind a side of `width`.
 fn side(width: usize) -> Wanted
-    ensures { result ≡ record { terms = 1; nodes = max_side_nodes; ground = false; width = width } }
+    ensures { result ≡ record { terms = 1; nodes = max_side_nodes; is_ground = false; width = width } }
 {
     Wanted {
         terms: 1,
         nodes: Limits::SIDE_NODES,
-        ground: false,
+        is_ground: false,
         width: width,
     }
 }

@@ -14,14 +14,14 @@ pub enum OtherNode {
     Refused(Refusal),
 }
 
-fn other_node(b: u8, ground: bool) -> OtherNode
-    ensures { (arities : List ℕ) (need : ℕ) → length arities ≤ b → OtherRead arities ground b need result }
+fn other_node(b: u8, is_ground: bool) -> OtherNode
+    ensures { (arities : List ℕ) (need : ℕ) → length arities ≤ b → OtherRead arities is_ground b need result }
 {
     let class = classify(b);
     match class {
         Class::Symbol(_) => OtherNode::Refused(Refusal::FrameBytes),
         Class::Variable(v) => {
-            if ground {
+            if is_ground {
                 OtherNode::Refused(Refusal::NotGround)
             } else {
                 OtherNode::Variable(wide(v) + 1)
@@ -57,7 +57,7 @@ pub struct Scanned {
 pub struct Wanted {
     pub terms: usize,
     pub nodes: usize,
-    pub ground: bool,
+    pub is_ground: bool,
     pub width: usize,
 }
 
@@ -68,7 +68,7 @@ pub fn scan(known: Known, s: &[u8], span: Span, wanted: Wanted) -> Scanned
     let symbols = known.symbols;
     let arities = known.arities;
     let end = span.end;
-    let ground = wanted.ground;
+    let is_ground = wanted.is_ground;
     let mut at = span.from;
     let mut need = wanted.terms;
     let mut room = wanted.nodes;
@@ -96,7 +96,7 @@ pub fn scan(known: Known, s: &[u8], span: Span, wanted: Wanted) -> Scanned
             at = at + 2;
             continue;
         }
-        match other_node(b as u8, ground) {
+        match other_node(b as u8, is_ground) {
             OtherNode::Refused(r) => {
                 return Scanned {
                     status: ReadStatus::Refused(r),

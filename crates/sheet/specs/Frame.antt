@@ -57,12 +57,12 @@ symbols_body [] = refuse symbol_frame
 symbols_body (n ∷ arities) = elim (symbols_right n arities) [ true ↦ give (within (record { arities = arities; equations = []; tasks = [] })) | false ↦ refuse symbol_frame ]
 
 -- A node of the next term, `need` terms coming behind that term: how many terms are to come after the node.
-unfoldable pub after_node : (arities : List ℕ) → (ground : Bool) → Class → (need : ℕ) → Result ℕ
+unfoldable pub after_node : (arities : List ℕ) → (is_ground : Bool) → Class → (need : ℕ) → Result ℕ
 unfolding arity
-after_node arities ground (symbol f) need = elim (ltb f (length arities)) [ true ↦ give (arity arities f + need) | false ↦ refuse frame_bytes ]
+after_node arities is_ground (symbol f) need = elim (ltb f (length arities)) [ true ↦ give (arity arities f + need) | false ↦ refuse frame_bytes ]
 after_node arities true (variable v) need = refuse not_ground
 after_node arities false (variable v) need = give need
-after_node arities ground foreign need = refuse frame_bytes
+after_node arities is_ground foreign need = refuse frame_bytes
 
 -- "bytes left over"
 unfoldable pub all_read : Terms → Result (List ℕ) → Result Terms
@@ -87,13 +87,13 @@ with_task s t = within (record { arities = s.arities; equations = s.equations; t
 -- With any number of variables.
 module _ (variables : ℕ) where
   -- `need` terms in a row that may have `room` nodes together, byte by byte: the bytes behind them, or "the first of 5 and 6 by byte (5 where one byte earns both)".
-  unfoldable pub scan_with : (arities : List ℕ) → (ground : Bool) → List ℕ → (need room : ℕ) → Result (List ℕ)
+  unfoldable pub scan_with : (arities : List ℕ) → (is_ground : Bool) → List ℕ → (need room : ℕ) → Result (List ℕ)
   unfolding after_node class_of_with
-  scan_with arities ground [] zero room = give []
-  scan_with arities ground [] (suc need) room = refuse frame_bytes
-  scan_with arities ground (b ∷ bs) zero room = give (b ∷ bs)
-  scan_with arities ground (b ∷ bs) (suc need) zero = refuse frame_bytes
-  scan_with arities ground (b ∷ bs) (suc need) (suc room) = elim (after_node arities ground (class_of_with variables b) need) [ refuse r ↦ refuse r | give n ↦ scan_with arities ground bs n room ]
+  scan_with arities is_ground [] zero room = give []
+  scan_with arities is_ground [] (suc need) room = refuse frame_bytes
+  scan_with arities is_ground (b ∷ bs) zero room = give (b ∷ bs)
+  scan_with arities is_ground (b ∷ bs) (suc need) zero = refuse frame_bytes
+  scan_with arities is_ground (b ∷ bs) (suc need) (suc room) = elim (after_node arities is_ground (class_of_with variables b) need) [ refuse r ↦ refuse r | give n ↦ scan_with arities is_ground bs n room ]
 
   -- "the terms of one task together at most 160"
   unfoldable pub ground_terms_with : (arities : List ℕ) → ℕ → List ℕ → Result Terms
@@ -159,7 +159,7 @@ module _ (variables : ℕ) where
   read_frame_with state (b ∷ body) = read_kind_with state (kind_of b) body
 
 -- With the sheet's number of variables.
-unfoldable pub scan : (arities : List ℕ) → (ground : Bool) → List ℕ → (need room : ℕ) → Result (List ℕ)
+unfoldable pub scan : (arities : List ℕ) → (is_ground : Bool) → List ℕ → (need room : ℕ) → Result (List ℕ)
 unfolding scan_with class_of
 scan = scan_with variable_count
 

@@ -44,10 +44,10 @@ unfolding prefix
 symbol_at {nodes} {sizes} {arities} {subject} {node} {p} s h e = go (part_at subject p) (subst (λ i. GroundStored nodes sizes arities i (part_at subject p)) (sym e) (part_stored s.stored p h))
   where
     go : (t : Term) → GroundStored nodes sizes arities node t → SymbolIs arities (get_or nodes node 0) t
-    go (var v) g = absurd g.ground
+    go (var v) g = absurd g.is_ground
     go (app f ts) g =
         let byte = stored_head g.stored.bytes in
-        record { arguments = ts; is = ap (λ x. app x ts) (sym byte); known = omega (arith, byte, g.ground.0) }
+        record { arguments = ts; is = ap (λ x. app x ts) (sym byte); known = omega (arith, byte, g.is_ground.0) }
 
 -- However the subject is read, it has as many nodes.
 same_size : {nodes sizes arities others : List ℕ} {s t : Term} → SubjectIs nodes sizes arities s → SubjectIs nodes sizes others t → size s ≡ size t

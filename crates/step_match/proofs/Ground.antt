@@ -30,7 +30,7 @@ module _ {nodes stored_sizes arities : List ℕ} {a b : ℕ} {s t : Term} (g : G
       let y = ground_size h in
       let d = length_prefix s in
       let z : length (prefix s) ≡ length (prefix t) = omega (arith, length_prefix t) in (
-        λ same. prefix_injective arities g.few_symbols s t (ground_fits arities s g.ground) (ground_fits arities t h.ground)
+        λ same. prefix_injective arities g.few_symbols s t (ground_fits arities s g.is_ground) (ground_fits arities t h.is_ground)
             (ext_get_or 0 (prefix s) (prefix t) z (λ k l. sym (ground_byte g k (omega arith)) ∙ (same.each k (omega arith) ∙ ground_byte h k (omega arith)))),
         λ q. record { each = λ k l. ground_byte g k (omega arith) ∙ (ap (λ u. get_or (prefix u) k 0) q ∙ sym (ground_byte h k (omega arith))) },
       )

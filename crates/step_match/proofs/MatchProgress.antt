@@ -75,7 +75,7 @@ module _ {bytes : List ℕ} {end : ℕ} {nodes sizes arities : List ℕ} {s t : 
           → match s t no_match ≡ none
       go (variable_first b k r) ts w c x = absurd (omega arith)
       go (symbol_first b k a r) nil w c x = absurd (omega arith)
-      go (symbol_first b k a r) (cons (var v) ts) w c x = absurd w.ground.0
+      go (symbol_first b k a r) (cons (var v) ts) w c x = absurd w.is_ground.0
       go (symbol_first {f} {args} {ss} b k a r) (cons (app g us) ts) w c x = x ∙ other_symbol args us ss ts p.found f g (λ e. n (b ∙ (e ∙ sym (row_symbol w))))
 
   pub symbol_same : i < end → get_or bytes i 0 < first_variable → get_or bytes i 0 ≡ get_or nodes at 0 → MatchProgress bytes end nodes sizes arities s t values (i + 1) (at + 1)
@@ -86,10 +86,10 @@ module _ {bytes : List ℕ} {end : ℕ} {nodes sizes arities : List ℕ} {s t : 
           → MatchProgress bytes end nodes sizes arities s t values (i + 1) (at + 1)
       go (variable_first b k r) ts w c x = absurd (omega arith)
       go (symbol_first b k a r) nil w c x = absurd (omega arith)
-      go (symbol_first b k a r) (cons (var v) ts) w c x = absurd w.ground.0
+      go (symbol_first b k a r) (cons (var v) ts) w c x = absurd w.is_ground.0
       go (symbol_first {f} {args} {ss} b k a r) (cons (app g us) ts) w c x =
           let d : g ≡ f = sym (row_symbol w) ∙ (sym e ∙ b) in
-          let n : count args ≡ count us = a ∙ (ap (arity arities) (sym d) ∙ sym w.ground.0.1) in
+          let n : count args ≡ count us = a ∙ (ap (arity arities) (sym d) ∙ sym w.is_ground.0.1) in
           record {
             patterns = append args ss;
             parts = append us ts;

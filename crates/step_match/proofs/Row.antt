@@ -18,7 +18,7 @@ use Rattle.terms.specs.Theory.Stored.{stored_head, stored_tail, stored_first, st
 -- From the node `i` on stand these ground terms.
 pub record Row (nodes stored_sizes arities : List ℕ) (i : ℕ) (ts : Terms) : Type 0 where
   pub few_symbols : length arities ≤ max_symbols
-  pub ground : Grounds arities ts
+  pub is_ground : Grounds arities ts
   pub bytes : PartAt nodes i (prefixes ts)
   pub sizes_there : PartAt stored_sizes i (map size (subterms_of ts))
   pub low : position_count ≤ i
@@ -34,7 +34,7 @@ module _ {nodes sizes arities : List ℕ} {i : ℕ} where
   unfolding prefix subterms size
   row_one {t} g h = record {
     few_symbols = g.few_symbols;
-    ground = (g.ground, tt);
+    is_ground = (g.is_ground, tt);
     bytes = rw (append-nil (prefix t)) g.stored.bytes;
     sizes_there = rw (append-nil (subterms t)) g.stored.sizes_there;
     low = g.low;
@@ -50,7 +50,7 @@ module _ {nodes sizes arities : List ℕ} {i : ℕ} where
     unfolding prefix size
     row_first = record {
       few_symbols = r.few_symbols;
-      ground = r.ground.0;
+      is_ground = r.is_ground.0;
       stored = record {
         bytes = stored_first (prefix t) (prefixes ts) r.bytes;
         sizes_there = stored_first (map size (subterms t)) (map size (subterms_of ts)) lengths_of_row;
@@ -63,7 +63,7 @@ module _ {nodes sizes arities : List ℕ} {i : ℕ} where
     unfolding prefix size
     row_others = record {
       few_symbols = r.few_symbols;
-      ground = r.ground.1;
+      is_ground = r.is_ground.1;
       bytes = stored_rest (prefix t) (prefixes ts) (size t) (length_prefix t) r.bytes;
       sizes_there = stored_rest (map size (subterms t)) (map size (subterms_of ts)) (size t) (length-map (subterms t) size ∙ length_subterms t) lengths_of_row;
       low = omega (arith, r.low);
@@ -79,7 +79,7 @@ module _ {nodes sizes arities : List ℕ} {i : ℕ} where
     unfolding prefix subterms size
     row_arguments = record {
       few_symbols = r.few_symbols;
-      ground = grounds_append arities args ts r.ground.0.2 r.ground.1;
+      is_ground = grounds_append arities args ts r.is_ground.0.2 r.is_ground.1;
       bytes = rw (prefixes_append args ts) (stored_tail r.bytes);
       sizes_there = rw (subterms_append args ts) (stored_tail r.sizes_there);
       low = omega (arith, r.low);

@@ -26,7 +26,7 @@ use Rattle.step_take.proofs.Written.{Front, written_behind}
 pub ground_result : {bytes : List ℕ} {side : Arguments} {arities nodes sizes values : List ℕ} {node n : ℕ} {subject t : Term} {ρ : Values} {p : ℕ}
     → ReplacementIs bytes side arities nodes sizes values node n subject t ρ p → Ground arities (replace subject p (inst ρ t))
 ground_result {arities = arities} {subject = subject} {t} {ρ} {p} r =
-    ground_replace arities (inst ρ t) (instance_ground arities ρ (λ v. Ground arities (ρ v)) (λ v g. g) t r.instance_is.fits (variables_are (λ v. Ground arities (ρ v)) t (λ v e. (r.instance_is.given v e).ground))) subject p r.stands.stored.ground
+    ground_replace arities (inst ρ t) (instance_ground arities ρ (λ v. Ground arities (ρ v)) (λ v g. g) t r.instance_is.fits (variables_are (λ v. Ground arities (ρ v)) t (λ v e. (r.instance_is.given v e).is_ground))) subject p r.stands.stored.is_ground
 
 -- What stands behind a new front is kept.
 kept_behind : (front all : List ℕ) (k : ℕ) → length front ≤ k → drop k (front ++ drop (length front) all) ≡ drop k all
@@ -130,7 +130,7 @@ module _ {nodes stored_sizes arities : List ℕ} {subject : Term} (s : SubjectIs
         let f = s.filling_stored in
         record {
           few_symbols = f.few_symbols;
-          ground = f.ground;
+          is_ground = f.is_ground;
           stored = record {
             bytes = record { rest = f.stored.bytes.rest; is = nodes_kept ∙ f.stored.bytes.is };
             sizes_there = record { rest = f.stored.sizes_there.rest; is = sizes_kept ∙ f.stored.sizes_there.is };
@@ -151,7 +151,7 @@ module _ {nodes stored_sizes arities : List ℕ} {subject : Term} (s : SubjectIs
     symbols = no_variable;
     stored = record {
       few_symbols = s.stored.few_symbols;
-      ground = g;
+      is_ground = g;
       stored = record {
         bytes = placed_stored placed;
         sizes_there = rw (append-nil (subterms u)) at (placed_sizes arities s.stored.few_symbols (cons u nil) (ground_fits arities u g, tt) after placed_one n one_size stored_sizes measured (drop (position_count + n) stored_sizes) (omega (arith, s.sizes_length)) e);

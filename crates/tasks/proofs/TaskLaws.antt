@@ -89,7 +89,7 @@ module _ {sheet : List ℕ} {known : Known} {equations lengths bounds : List ℕ
       unfolding task_terms prefix size
       found_run {k} h =
           let (u, e) = is_run t (sym there.0 ∙ h) in
-          let (low, ground, few) = valid_as e in (
+          let (low, is_ground, few) = valid_as e in (
             u,
             e,
             record {
@@ -98,7 +98,7 @@ module _ {sheet : List ℕ} {known : Known} {equations lengths bounds : List ℕ
               bounds_length = ready.bounds_length;
               term_in = record {
                 spans = subst (Spans sheet place.from place.end) (sym (append-nil (prefix u))) (terms_of e);
-                ground = (subst (λ a. Ground a u) (sym its_arities) ground, tt);
+                is_ground = (subst (λ a. Ground a u) (sym its_arities) is_ground, tt);
                 few_nodes = omega arith;
                 few_symbols = few_symbols;
               };
@@ -112,7 +112,7 @@ module _ {sheet : List ℕ} {known : Known} {equations lengths bounds : List ℕ
       unfolding task_terms
       found_judgement {k} {d} h =
           let (o, ts, y, n) = is_judgement t (sym there.0 ∙ h) in
-          let (e, is, one_each, ground, few) = valid_as y in (
+          let (e, is, one_each, is_ground, few) = valid_as y in (
             o,
             ts,
             y,
@@ -121,7 +121,7 @@ module _ {sheet : List ℕ} {known : Known} {equations lengths bounds : List ℕ
             record {
               rule_is = record { row = ready.rows.row k e is; number = omega arith };
               solves = every_entry BothSolve s.equations k ready.every is o;
-              terms_in = record { spans = terms_of y; ground = subst (λ a. Grounds a ts) (sym its_arities) ground; few_nodes = few; few_symbols = few_symbols };
+              terms_in = record { spans = terms_of y; is_ground = subst (λ a. Grounds a ts) (sym its_arities) is_ground; few_nodes = few; few_symbols = few_symbols };
               one_each = one_each;
               roomy = ready.knows.roomy;
             },
@@ -137,7 +137,7 @@ module _ {sheet : List ℕ} {known : Known} {equations lengths bounds : List ℕ
             e,
             record {
               spans = subst (Spans sheet place.from place.end) (ap (prefix u ++◌) (sym (append-nil (prefix v)))) (terms_of e);
-              ground = (subst (λ a. Ground a u) (sym its_arities) first, (subst (λ a. Ground a v) (sym its_arities) second, tt));
+              is_ground = (subst (λ a. Ground a u) (sym its_arities) first, (subst (λ a. Ground a v) (sym its_arities) second, tt));
               few_nodes = omega arith;
               few_symbols = few_symbols;
             },

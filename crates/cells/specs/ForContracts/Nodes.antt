@@ -27,7 +27,7 @@ GroundAt nodes sizes = Denotes nodes sizes (λ v t. ⊥)
 
 -- A variable stands for its value, the ground term at the node that `values` has for it.
 pub record ValueOf (nodes sizes values : List ℕ) (v : ℕ) (t : Term) : Type 0 where
-  pub ground : GroundAt nodes sizes (get_or values v 0) t
+  pub is_ground : GroundAt nodes sizes (get_or values v 0) t
 
 abbrev pub TermAt : (nodes sizes values : List ℕ) → ℕ → Term → Type 0
 TermAt nodes sizes values = Denotes nodes sizes (ValueOf nodes sizes values)

@@ -112,7 +112,7 @@ module _ {nodes stored_sizes : List ℕ} where
 
 module _ {nodes sizes values : List ℕ} where
   ground_once : (v : ℕ) (s t : Term) → ValueOf nodes sizes values v s → ValueOf nodes sizes values v t → s ≡ t
-  ground_once v s t x y = unique (λ v s t e d. absurd e) x.ground y.ground
+  ground_once v s t x y = unique (λ v s t e d. absurd e) x.is_ground y.is_ground
 
   -- The same nodes and sizes stand for the same term.
   pub same_nodes_same_term : {i j : ℕ} {s t : Term} → SameBytes nodes i j (get_or sizes i 0) → SameBytes sizes i j (get_or sizes i 0) → TermAt nodes sizes values i s → TermAt nodes sizes values j t → s ≡ t
@@ -141,7 +141,7 @@ module _ {nodes sizes values : List ℕ} where
   value_at {i} (variable_node {v = v} h c o x) l =
       let (e, m) = class_variable (get_or nodes i 0) v c in
       let d : v ≡ get_or nodes i 0 - first_variable = omega arith in
-      record { low = omega arith; value = rw d at x.ground }
+      record { low = omega arith; value = rw d at x.is_ground }
 
 pub ground_symbol : {nodes sizes : List ℕ} {i : ℕ} {t : Term} → GroundAt nodes sizes i t → get_or nodes i 0 < max_symbols
 ground_symbol {nodes} {i = i} (symbol_node {f = f} h c r) = let (e, m) = class_symbol (get_or nodes i 0) f c in omega arith

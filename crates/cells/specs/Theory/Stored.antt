@@ -141,15 +141,15 @@ ground_row_denotes arities known {nodes} {stored_sizes} {i} ts g a b h =
 pub part_stored : {nodes sizes arities : List ℕ} {i : ℕ} {t : Term} → GroundStored nodes sizes arities i t → (p : ℕ) → p < size t → GroundStored nodes sizes arities (i + p) (get_or (subterms t) p (var 0))
 part_stored {nodes} {sizes} {arities} {i} {t} g p h =
     let s = stored_subterm arities g.few_symbols nodes sizes (λ v u. ⊥) var (λ v. ⊥) (λ v x. absurd x) t i p (var 0) (record {
-      fits = ground_fits arities t g.ground;
-      few = ground_no_variable arities t g.ground;
+      fits = ground_fits arities t g.is_ground;
+      few = ground_no_variable arities t g.is_ground;
       bytes = g.stored.bytes;
       sizes_there = g.stored.sizes_there;
       within = g.within;
     }) h in
     record {
       few_symbols = g.few_symbols;
-      ground = no_variable_ground arities (get_or (subterms t) p (var 0)) s.fits s.few;
+      is_ground = no_variable_ground arities (get_or (subterms t) p (var 0)) s.fits s.few;
       stored = record { bytes = s.bytes; sizes_there = s.sizes_there };
       low = omega (arith, g.low);
       within = s.within;

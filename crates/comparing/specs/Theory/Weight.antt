@@ -60,7 +60,7 @@ module _ {nodes stored_sizes values : List ℕ} where
     term_weighs {i} (symbol_node h c r) =
         let e : (i + get_or stored_sizes i 0) - (i + 1) ≡ get_or stored_sizes i 0 - 1 = omega arith in
         weight_first nodes stored_sizes values i (get_or stored_sizes i 0) (some_node (symbol_node h c r)) ∙ rw c (omega (arith, row_weighs r, ap (weight nodes stored_sizes values (i + 1)) e))
-    term_weighs {i} (variable_node h c o x) = rw (o, c) (omega (arith, ground_size x.ground))
+    term_weighs {i} (variable_node h c o x) = rw (o, c) (omega (arith, ground_size x.is_ground))
 
     pub row_weighs : {k end : ℕ} {ts : Terms} → TermsAt nodes stored_sizes values k end ts → row_weight nodes stored_sizes values (record { from = k; end = end }) ≡ sizes ts
     row_weighs {k} {end} (none e) = let d : end - k ≡ 0 = omega arith in rw d

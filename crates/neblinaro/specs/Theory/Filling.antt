@@ -14,7 +14,7 @@ filling_demanded sheet s r =
     let symbols = (accepted_valid sheet s r).0.symbols in
     record {
       term_is = refl;
-      ground = filling_ground s.arities symbols.constant symbols.a_constant;
+      is_ground = filling_ground s.arities symbols.constant symbols.a_constant;
       a_constant = lowest_is_constant s.arities symbols.constant symbols.a_constant;
       none_lower = none_lower s.arities;
     }

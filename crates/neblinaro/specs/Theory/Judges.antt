@@ -39,8 +39,8 @@ named_asked sheet task n = rw (n.reads, n.task_there, n.equation_there)
 -- On an accepted sheet a judgement has its equation, and ground values for its variables.
 unfoldable judgement_named : (sheet : List ℕ) (task : ℕ) (s : Sheet) {e : ℕ} {d : Direction} {ts : Terms} → read sheet ≡ accepted s → entry s.tasks task ≡ some (judgement e d ts) → JudgementNamed sheet task
 judgement_named sheet task s {e} {d} {ts} r x =
-    let (q, there, each, ground, small) = every_entry (ValidTask s.arities s.equations) s.tasks task (accepted_valid sheet s r).0.tasks x in
-    record { content = s; reads = r; equation_number = e; equation = q; direction = d; values = ts; task_there = x; equation_there = there; one_each = each; values_ground = ground }
+    let (q, there, each, is_ground, small) = every_entry (ValidTask s.arities s.equations) s.tasks task (accepted_valid sheet s r).0.tasks x in
+    record { content = s; reads = r; equation_number = e; equation = q; direction = d; values = ts; task_there = x; equation_there = there; one_each = each; values_ground = is_ground }
 
 asked_judgement : (sheet : List ℕ) (task : ℕ) (j : Judgement) → asked true sheet (judgement_task task) ≡ accepted j → (n : JudgementNamed sheet task) × (the_judgement n ≡ j)
 unfolding asked find found judgement_task judgement_in

@@ -27,12 +27,12 @@ descents_end = no_endless_descent
 
 pub reductions_end : NoEndlessReduction
 reductions_end sheet s r =
-    no_endless_reduction s.arities (filling s.arities) (filling_demanded sheet s r).ground s.equations (accepted_valid sheet s r).0.equations
+    no_endless_reduction s.arities (filling s.arities) (filling_demanded sheet s r).is_ground s.equations (accepted_valid sheet s r).0.equations
 
 -- 2. Runs.
 pub runs_end : RunsEnd
 runs_end sheet s r solves =
-    run_ends s.arities (filling s.arities) (filling_demanded sheet s r).ground s.equations (accepted_valid sheet s r).0.equations solves
+    run_ends s.arities (filling s.arities) (filling_demanded sheet s r).is_ground s.equations (accepted_valid sheet s r).0.equations solves
 
 pub runs_end_once : RunsEndOnce
 runs_end_once = run_ends_once

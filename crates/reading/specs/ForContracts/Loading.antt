@@ -11,7 +11,7 @@ use Rattle.reading.specs.ForContracts.Seek.{Spans}
 module _ (sheet arities : List ℕ) (from end : ℕ) where
   pub record TermsIn (ts : Terms) : Type 0 where
     pub spans : Spans sheet from end (prefixes ts)
-    pub ground : Grounds arities ts
+    pub is_ground : Grounds arities ts
     pub few_nodes : sizes ts ≤ max_task_nodes
     pub few_symbols : length arities ≤ max_symbols
 
@@ -22,7 +22,7 @@ module _ (sheet arities : List ℕ) (from end : ℕ) where
 -- These ground terms stand from the subject's first node on, and have `n` nodes. No variable stands among the nodes.
 pub record Loaded (arities nodes stored_sizes : List ℕ) (ts : Terms) (n : ℕ) : Type 0 where
   pub few_symbols : length arities ≤ max_symbols
-  pub ground : Grounds arities ts
+  pub is_ground : Grounds arities ts
   pub counted : n ≡ sizes ts
   pub few_nodes : sizes ts ≤ max_task_nodes
   pub nodes_length : length nodes ≡ node_count

@@ -48,9 +48,9 @@ widest [] = 0
 widest (b ∷ bs) = max (node_width (class_of b)) (widest bs)
 
 -- A node that is no declared symbol is passed, or refused.
-abbrev pub OtherRead : (arities : List ℕ) → (ground : Bool) → (b need : ℕ) → OtherNode → Type 0
-OtherRead arities ground b need (Variable w) = (after_node arities ground (class_of b) need ≡ give need) × (node_width (class_of b) ≡ w)
-OtherRead arities ground b need (Node-Refused x) = after_node arities ground (class_of b) need ≡ refuse x
+abbrev pub OtherRead : (arities : List ℕ) → (is_ground : Bool) → (b need : ℕ) → OtherNode → Type 0
+OtherRead arities is_ground b need (Variable w) = (after_node arities is_ground (class_of b) need ≡ give need) × (node_width (class_of b) ≡ w)
+OtherRead arities is_ground b need (Node-Refused x) = after_node arities is_ground (class_of b) need ≡ refuse x
 
 -- The digits are bytes, and the numbers are as small as those of a frame.
 pub record ScanReady (text : List ℕ) (d : Span) (symbols : ℕ) (w : Wanted) : Type 0 where
@@ -66,7 +66,7 @@ status_result rest (Refused r) = refuse r
 
 -- What the scan gives, where it stands, and the highest variable so far.
 pub record ScanRead (text : List ℕ) (d : Span) (arities : List ℕ) (w : Wanted) (r : Scanned) : Type 0 where
-  pub given : scan arities w.ground (span_bytes text d) w.terms w.nodes ≡ status_result (bytes_between text r.at d.end) r.status
+  pub given : scan arities w.is_ground (span_bytes text d) w.terms w.nodes ≡ status_result (bytes_between text r.at d.end) r.status
   pub behind : BodyReady text r.at d.end
   pub widths : max w.width (widest (span_bytes text d)) ≡ max r.width (widest (bytes_between text r.at d.end))
   pub low_width : r.width ≤ variable_count

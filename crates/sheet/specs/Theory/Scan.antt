@@ -24,21 +24,21 @@ GroundIf true arities ts = Grounds arities ts
 GroundIf false arities ts = Unit {0}
 
 -- `bs` spells `need` terms, of at most `room` nodes, and then `rest`.
-pub record Spells (arities : List ℕ) (ground : Bool) (bs : List ℕ) (need room : ℕ) (rest : List ℕ) : Type 0 where
+pub record Spells (arities : List ℕ) (is_ground : Bool) (bs : List ℕ) (need room : ℕ) (rest : List ℕ) : Type 0 where
   pub terms : Terms
   pub counted : count terms ≡ need
   pub spelled : bs ≡ prefixes terms ++ rest
   pub within : sizes terms ≤ room
   pub fit : AllFit arities terms
-  pub grounded : GroundIf ground arities terms
+  pub grounded : GroundIf is_ground arities terms
 
 module _ (arities : List ℕ) where
   -- A symbol's node takes its arguments from the terms behind it.
-  put_symbol : (ground : Bool) (f : ℕ) (bs : List ℕ) (need room : ℕ) (rest : List ℕ) → f < length arities
-      → Spells arities ground bs (arity arities f + need) room rest
-      → Spells arities ground (f ∷ bs) (suc need) (suc room) rest
+  put_symbol : (is_ground : Bool) (f : ℕ) (bs : List ℕ) (need room : ℕ) (rest : List ℕ) → f < length arities
+      → Spells arities is_ground bs (arity arities f + need) room rest
+      → Spells arities is_ground (f ∷ bs) (suc need) (suc room) rest
   unfolding count size prefix
-  put_symbol ground f bs need room rest known s =
+  put_symbol is_ground f bs need room rest known s =
       let n = arity arities f in
       let ts = s.terms in
       let (fa, fd) = fit_take_drop arities n ts s.fit in
@@ -49,7 +49,7 @@ module _ (arities : List ℕ) where
         spelled = ap (f ∷◌) (s.spelled ∙ ap (λ us. prefixes us ++ rest) (sym (take_drop_terms n ts)) ∙ ap (◌++ rest) (prefixes_append (take_terms n ts) (drop_terms n ts)));
         within = omega (arith, sizes_take_drop n ts, s.within);
         fit = ((known, c, fa), fd);
-        grounded = grounds ground n ts c s.grounded;
+        grounded = grounds is_ground n ts c s.grounded;
       }
     where
       grounds : (g : Bool) (n : ℕ) (ts : Terms) → count (take_terms n ts) ≡ arity arities f → GroundIf g arities ts
@@ -71,46 +71,46 @@ module _ (arities : List ℕ) where
   }
 
   -- One node in front of a scan.
-  put_node_byte : (ground : Bool) (b : ℕ) (c : Class) (bs : List ℕ) (need n room : ℕ) (rest : List ℕ) → class_of b ≡ c
-      → after_node arities ground c need ≡ give n → Spells arities ground bs n room rest
-      → Spells arities ground (b ∷ bs) (suc need) (suc room) rest
+  put_node_byte : (is_ground : Bool) (b : ℕ) (c : Class) (bs : List ℕ) (need n room : ℕ) (rest : List ℕ) → class_of b ≡ c
+      → after_node arities is_ground c need ≡ give n → Spells arities is_ground bs n room rest
+      → Spells arities is_ground (b ∷ bs) (suc need) (suc room) rest
   unfolding after_node prefix
-  put_node_byte ground b (symbol f) bs need n room rest e d s = go (ltb f (length arities)) refl d
+  put_node_byte is_ground b (symbol f) bs need n room rest e d s = go (ltb f (length arities)) refl d
     where
       go : (t : Bool) → ltb f (length arities) ≡ t → elim t as (λ t. Result ℕ) [ true ↦ give (arity arities f + need) | false ↦ refuse frame_bytes ] ≡ give n
-          → Spells arities ground (b ∷ bs) (suc need) (suc room) rest
+          → Spells arities is_ground (b ∷ bs) (suc need) (suc room) rest
       go true k d =
           let x : arity arities f + need ≡ n = cc in
-          rw (class_symbol b f e).0 (put_symbol ground f bs need room rest (ltb-true f (length arities) k) (rw x s))
+          rw (class_symbol b f e).0 (put_symbol is_ground f bs need room rest (ltb-true f (length arities) k) (rw x s))
       go false k d = let z : ◌≡◌ {A = ℕ} 0 1 = cc in absurd (omega arith)
   put_node_byte true b (variable v) bs need n room rest e d s = let z : ◌≡◌ {A = ℕ} 0 1 = cc in absurd (omega arith)
   put_node_byte false b (variable v) bs need n room rest e d s =
       let x : need ≡ n = cc in
       let (y, small) = class_variable b v e in
       put_variable v bs need room rest b (ap (◌∷ []) y) small (rw x s)
-  put_node_byte ground b foreign bs need n room rest e d s = let z : ◌≡◌ {A = ℕ} 0 1 = cc in absurd (omega arith)
+  put_node_byte is_ground b foreign bs need n room rest e d s = let z : ◌≡◌ {A = ℕ} 0 1 = cc in absurd (omega arith)
 
-  nothing_scanned : (ground : Bool) (bs : List ℕ) (room : ℕ) (rest : List ℕ) → ◌≡◌ {A = Result (List ℕ)} (give bs) (give rest)
-      → Spells arities ground bs 0 room rest
+  nothing_scanned : (is_ground : Bool) (bs : List ℕ) (room : ℕ) (rest : List ℕ) → ◌≡◌ {A = Result (List ℕ)} (give bs) (give rest)
+      → Spells arities is_ground bs 0 room rest
   unfolding count size prefix
-  nothing_scanned ground bs room rest e = record { terms = nil; counted = refl; spelled = cc; within = omega arith; fit = tt; grounded = trivial ground }
+  nothing_scanned is_ground bs room rest e = record { terms = nil; counted = refl; spelled = cc; within = omega arith; fit = tt; grounded = trivial is_ground }
     where
       trivial : (g : Bool) → GroundIf g arities nil
       trivial true = tt
       trivial false = tt
 
-  pub scan_sound : (ground : Bool) (bs : List ℕ) (need room : ℕ) (rest : List ℕ) → scan arities ground bs need room ≡ give rest
-      → Spells arities ground bs need room rest
+  pub scan_sound : (is_ground : Bool) (bs : List ℕ) (need room : ℕ) (rest : List ℕ) → scan arities is_ground bs need room ≡ give rest
+      → Spells arities is_ground bs need room rest
   unfolding scan
-  scan_sound ground [] zero room rest e = nothing_scanned ground [] room rest e
-  scan_sound ground [] (suc need) room rest e = let z : ◌≡◌ {A = ℕ} 0 1 = cc in absurd (omega arith)
-  scan_sound ground (b ∷ bs) zero room rest e = nothing_scanned ground (b ∷ bs) room rest e
-  scan_sound ground (b ∷ bs) (suc need) zero rest e = let z : ◌≡◌ {A = ℕ} 0 1 = cc in absurd (omega arith)
-  scan_sound ground (b ∷ bs) (suc need) (suc room) rest e = go (λ n d. scan_sound ground bs n room rest d) (after_node arities ground (class_of b) need) refl e
+  scan_sound is_ground [] zero room rest e = nothing_scanned is_ground [] room rest e
+  scan_sound is_ground [] (suc need) room rest e = let z : ◌≡◌ {A = ℕ} 0 1 = cc in absurd (omega arith)
+  scan_sound is_ground (b ∷ bs) zero room rest e = nothing_scanned is_ground (b ∷ bs) room rest e
+  scan_sound is_ground (b ∷ bs) (suc need) zero rest e = let z : ◌≡◌ {A = ℕ} 0 1 = cc in absurd (omega arith)
+  scan_sound is_ground (b ∷ bs) (suc need) (suc room) rest e = go (λ n d. scan_sound is_ground bs n room rest d) (after_node arities is_ground (class_of b) need) refl e
     where
-      go : ((n : ℕ) → scan arities ground bs n room ≡ give rest → Spells arities ground bs n room rest)
-          → (r : Result ℕ) → after_node arities ground (class_of b) need ≡ r
-          → elim r as (λ r. Result (List ℕ)) [ refuse x ↦ refuse x | give n ↦ scan arities ground bs n room ] ≡ give rest
-          → Spells arities ground (b ∷ bs) (suc need) (suc room) rest
+      go : ((n : ℕ) → scan arities is_ground bs n room ≡ give rest → Spells arities is_ground bs n room rest)
+          → (r : Result ℕ) → after_node arities is_ground (class_of b) need ≡ r
+          → elim r as (λ r. Result (List ℕ)) [ refuse x ↦ refuse x | give n ↦ scan arities is_ground bs n room ] ≡ give rest
+          → Spells arities is_ground (b ∷ bs) (suc need) (suc room) rest
       go ih (refuse x) d e = let z : ◌≡◌ {A = ℕ} 0 1 = cc in absurd (omega arith)
-      go ih (give n) d e = put_node_byte ground b (class_of b) bs need n room rest refl d (ih n e)
+      go ih (give n) d e = put_node_byte is_ground b (class_of b) bs need n room rest refl d (ih n e)

@@ -78,7 +78,7 @@ module _ {nodes sizes nodes' sizes' : List ℕ} (n : Fronted nodes nodes') (l : 
   pub ground_kept : {arities : List ℕ} {i : ℕ} {t : Term} → GroundStored nodes sizes arities i t → GroundStored nodes' sizes' arities i t
   ground_kept g = record {
     few_symbols = g.few_symbols;
-    ground = g.ground;
+    is_ground = g.is_ground;
     stored = record { bytes = part_kept n g.low g.stored.bytes; sizes_there = part_kept l g.low g.stored.sizes_there };
     low = g.low;
     within = g.within;

@@ -34,7 +34,7 @@ use Rattle.rules.specs.ForContracts.Lines.{VariableAt, HaveVariable, AllHaveVari
 -- A ground term that is stored stands there.
 pub stored_ground : {nodes sizes arities : List ℕ} {i : ℕ} {t : Term} → GroundStored nodes sizes arities i t → GroundAt nodes sizes i t
 unfolding prefix subterms size
-stored_ground {nodes} {sizes} {arities} {i} {t} g = first (ground_row_denotes arities g.few_symbols (cons t nil) (g.ground, tt)
+stored_ground {nodes} {sizes} {arities} {i} {t} g = first (ground_row_denotes arities g.few_symbols (cons t nil) (g.is_ground, tt)
     (subst (PartAt nodes i) (sym (append-nil (prefix t))) g.stored.bytes)
     (subst (λ l. PartAt sizes i (map size l)) (sym (append-nil (subterms t))) g.stored.sizes_there) (omega (arith, g.within)))
   where
@@ -57,7 +57,7 @@ pub record AtFront (nodes sizes values arities : List ℕ) (e : Equation) (ρ : 
 
 module _ {nodes stored_sizes values arities : List ℕ} {e : Equation} {ρ : Values} {P : ℕ → Type 0} (front : AtFront nodes stored_sizes values arities e ρ P) where
   given_value : (v : ℕ) → P v → ValueOf nodes stored_sizes values v (ρ v)
-  given_value v h = record { ground = stored_ground (front.given v h) }
+  given_value v h = record { is_ground = stored_ground (front.given v h) }
 
   abbrev Stored : ℕ → Term → Type 0
   Stored = TermStored arities front.few_symbols nodes stored_sizes (ValueOf nodes stored_sizes values) ρ P given_value
@@ -99,7 +99,7 @@ module _ {nodes stored_sizes values arities : List ℕ} {e : Equation} {ρ : Val
   unfolding value
   position_ground p h =
       let s = position_stored p h in
-      instance_ground arities ρ P (λ v x. (front.given v x).ground) (term_at e p) s.fits s.few
+      instance_ground arities ρ P (λ v x. (front.given v x).is_ground) (term_at e p) s.fits s.few
 
   -- A variable of the equation resolves to a node of the subject.
   variable_low : (p v : ℕ) → Stored p (var v) → position_count ≤ resolved nodes values p

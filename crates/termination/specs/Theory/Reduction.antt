@@ -18,14 +18,14 @@ unfolding target
 target_fits v left_right = v.right_fits
 target_fits v right_left = v.left_fits
 
-module _ (arities : List ℕ) (filling : Term) (ground : Ground arities filling) (es : List Equation) (valid : Every (ValidEquation arities) es) where
+module _ (arities : List ℕ) (filling : Term) (is_ground : Ground arities filling) (es : List Equation) (valid : Every (ValidEquation arities) es) where
   pub reduces_ground : {s t : Term} → Reduces filling es s t → Ground arities s → Ground arities t
   reduces_ground {s} r g =
       let e = r.equation in
       let d = r.direction in
       let v : ValidEquation arities e = every_entry (ValidEquation arities) es r.number valid r.equation_there in
       let x : Ground arities (inst r.values (source e d)) = rw r.matches at (part_ground arities s r.position (var 0) g r.inside) in
-      rw r.gives (ground_replace arities _ (filled_ground arities r.values (target e d) (source e d) (target_fits v d) (λ w h. rw (r.fills w h) ground) x) s r.position g)
+      rw r.gives (ground_replace arities _ (filled_ground arities r.values (target e d) (source e d) (target_fits v d) (λ w h. rw (r.fills w h) is_ground) x) s r.position g)
 
   module _ (terms : ℕ → Term) (reduction : (i : ℕ) → Reduces filling es (terms i) (terms (suc i))) where
     all_ground : Ground arities (terms 0) → (i : ℕ) → Ground arities (terms i)

@@ -25,7 +25,7 @@ use Rattle.reducing.proofs.Theory.Reference.{reduces_exceeds, taken_step, all_ag
 use Rattle.termination.specs.Run.{run_allowed, RunEnds}
 use Rattle.termination.specs.Theory.Reduction.{reduces_ground}
 
-module _ (arities : List ℕ) (filling : Term) (ground : Ground arities filling) (es : List Equation) (valid : Every (ValidEquation arities) es) where
+module _ (arities : List ℕ) (filling : Term) (is_ground : Ground arities filling) (es : List Equation) (valid : Every (ValidEquation arities) es) where
   within : Every WithinLimits es
   within = every_map (λ e v. v.limits) es valid
 
@@ -58,7 +58,7 @@ module _ (arities : List ℕ) (filling : Term) (ground : Ground arities filling)
       where
         go : ((t : Term) → Ground arities t → subject ≻ t → RunEnds filling es t) → (o : Option Step) → step filling line_test es subject ≡ o → RunEnds filling es subject
         go ih none e = no_step subject e
-        go ih (some s) e = let r = step_reduces subject s e in one_step subject s e (ih s.result (reduces_ground arities filling ground es valid r g) (reduces_exceeds r))
+        go ih (some s) e = let r = step_reduces subject s e in one_step subject s e (ih s.result (reduces_ground arities filling is_ground es valid r g) (reduces_exceeds r))
 
     pub run_ends : (subject : Term) → Ground arities subject → RunEnds filling es subject
     run_ends subject g = ends_from (ground_accessible arities subject g) g

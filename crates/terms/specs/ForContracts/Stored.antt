@@ -20,7 +20,7 @@ module _ (nodes sizes : List ℕ) where
   -- A ground term over symbols with these arities starts at node `i`, which stands behind an equation's.
   pub record GroundStored (arities : List ℕ) (i : ℕ) (t : Term) : Type 0 where
     pub few_symbols : length arities ≤ max_symbols
-    pub ground : Ground arities t
+    pub is_ground : Ground arities t
     pub stored : StoredAt i t
     pub low : position_count ≤ i
     pub within : i + size t ≤ node_count

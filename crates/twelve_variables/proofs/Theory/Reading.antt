@@ -70,7 +70,7 @@ module _ (few extra : ℕ) where
           neither (inr h) = omega arith
       go (no n) (no m) = inr (inr (omega arith))
 
-  foreign_refused : (arities : List ℕ) (ground : Bool) (need : ℕ) → after_node arities ground foreign need ≡ refuse frame_bytes
+  foreign_refused : (arities : List ℕ) (is_ground : Bool) (need : ℕ) → after_node arities is_ground foreign need ≡ refuse frame_bytes
   unfolding after_node
   foreign_refused arities true need = refl
   foreign_refused arities false need = refl
@@ -81,19 +81,19 @@ module _ (few extra : ℕ) where
   terms_same arities (b ∷ bs) h = λ i. put_node arities (class_same b h.0 i) (terms_same arities bs h.1 i)
 
   -- 2. A scan.
-  scan_alike : (arities : List ℕ) (ground : Bool) (bs : List ℕ) (need room : ℕ) → Alike (AllOld bs) (scan_with few arities ground bs need room) (scan_with (few + extra) arities ground bs need room)
+  scan_alike : (arities : List ℕ) (is_ground : Bool) (bs : List ℕ) (need room : ℕ) → Alike (AllOld bs) (scan_with few arities is_ground bs need room) (scan_with (few + extra) arities is_ground bs need room)
   unfolding scan_with
-  scan_alike arities ground [] zero room = inr refl
-  scan_alike arities ground [] (suc need) room = inr refl
-  scan_alike arities ground (b ∷ bs) zero room = inr refl
-  scan_alike arities ground (b ∷ bs) (suc need) zero = inr refl
-  scan_alike arities ground (b ∷ bs) (suc need) (suc room) = go (λ n. scan_alike arities ground bs n room) (new_or_old b)
+  scan_alike arities is_ground [] zero room = inr refl
+  scan_alike arities is_ground [] (suc need) room = inr refl
+  scan_alike arities is_ground (b ∷ bs) zero room = inr refl
+  scan_alike arities is_ground (b ∷ bs) (suc need) zero = inr refl
+  scan_alike arities is_ground (b ∷ bs) (suc need) (suc room) = go (λ n. scan_alike arities is_ground bs n room) (new_or_old b)
     where
       less : ℕ → Result (List ℕ)
-      less n = scan_with few arities ground bs n room
+      less n = scan_with few arities is_ground bs n room
 
       more : ℕ → Result (List ℕ)
-      more n = scan_with (few + extra) arities ground bs n room
+      more n = scan_with (few + extra) arities is_ground bs n room
 
       IH : Type 0
       IH = (n : ℕ) → Alike (AllOld bs) (less n) (more n)
@@ -109,49 +109,49 @@ module _ (few extra : ℕ) where
       each ih (refuse r) = inr refl
       each ih (give n) = behind (less n) (more n) (ih n)
 
-      go : IH → New b ⊎ Old few extra b → Alike (AllOld (b ∷ bs)) (next less (after_node arities ground (class_of_with few b) need)) (next more (after_node arities ground (class_of_with (few + extra) b) need))
-      go ih (inl x) = inl (ap (λ c. next less (after_node arities ground c need)) x.0 ∙ ap (next less) (foreign_refused arities ground need), λ h. x.1 h.0)
+      go : IH → New b ⊎ Old few extra b → Alike (AllOld (b ∷ bs)) (next less (after_node arities is_ground (class_of_with few b) need)) (next more (after_node arities is_ground (class_of_with (few + extra) b) need))
+      go ih (inl x) = inl (ap (λ c. next less (after_node arities is_ground c need)) x.0 ∙ ap (next less) (foreign_refused arities is_ground need), λ h. x.1 h.0)
       go ih (inr o) =
-          let node : Class → Result ℕ = λ c. after_node arities ground c need in
+          let node : Class → Result ℕ = λ c. after_node arities is_ground c need in
           alike_then (next less (node (class_of_with few b))) (next more (node (class_of_with few b))) (next more (node (class_of_with (few + extra) b)))
           (ap (λ c. next more (node c)) (class_same b o)) (each ih (node (class_of_with few b)))
 
   -- The bytes in front of what a scan leaves are old.
-  scan_old : (arities : List ℕ) (ground : Bool) (bs : List ℕ) (need room : ℕ) (rest : List ℕ) → scan_with few arities ground bs need room ≡ give rest → AllOld rest → AllOld bs
+  scan_old : (arities : List ℕ) (is_ground : Bool) (bs : List ℕ) (need room : ℕ) (rest : List ℕ) → scan_with few arities is_ground bs need room ≡ give rest → AllOld rest → AllOld bs
   unfolding scan_with
-  scan_old arities ground [] need room rest e h = tt
-  scan_old arities ground (b ∷ bs) zero room rest e h = let x : rest ≡ b ∷ bs = cc in rw x at h
-  scan_old arities ground (b ∷ bs) (suc need) zero rest e h = let z : ◌≡◌ {A = ℕ} 0 1 = cc in absurd (omega arith)
-  scan_old arities ground (b ∷ bs) (suc need) (suc room) rest e h = go (λ n x. scan_old arities ground bs n room rest x h) (new_or_old b) e
+  scan_old arities is_ground [] need room rest e h = tt
+  scan_old arities is_ground (b ∷ bs) zero room rest e h = let x : rest ≡ b ∷ bs = cc in rw x at h
+  scan_old arities is_ground (b ∷ bs) (suc need) zero rest e h = let z : ◌≡◌ {A = ℕ} 0 1 = cc in absurd (omega arith)
+  scan_old arities is_ground (b ∷ bs) (suc need) (suc room) rest e h = go (λ n x. scan_old arities is_ground bs n room rest x h) (new_or_old b) e
     where
       next : Result ℕ → Result (List ℕ)
-      next o = elim o [ refuse r ↦ refuse r | give n ↦ scan_with few arities ground bs n room ]
+      next o = elim o [ refuse r ↦ refuse r | give n ↦ scan_with few arities is_ground bs n room ]
 
       IH : Type 0
-      IH = (n : ℕ) → scan_with few arities ground bs n room ≡ give rest → AllOld bs
+      IH = (n : ℕ) → scan_with few arities is_ground bs n room ≡ give rest → AllOld bs
 
       each : IH → (o : Result ℕ) → next o ≡ give rest → AllOld bs
       each ih (refuse r) e = let z : ◌≡◌ {A = ℕ} 0 1 = cc in absurd (omega arith)
       each ih (give n) e = ih n e
 
-      go : IH → New b ⊎ Old few extra b → next (after_node arities ground (class_of_with few b) need) ≡ give rest → AllOld (b ∷ bs)
+      go : IH → New b ⊎ Old few extra b → next (after_node arities is_ground (class_of_with few b) need) ≡ give rest → AllOld (b ∷ bs)
       go ih (inl x) e =
-          let y : next (after_node arities ground (class_of_with few b) need) ≡ refuse frame_bytes = ap (λ c. next (after_node arities ground c need)) x.0 ∙ ap next (foreign_refused arities ground need) in
+          let y : next (after_node arities is_ground (class_of_with few b) need) ≡ refuse frame_bytes = ap (λ c. next (after_node arities is_ground c need)) x.0 ∙ ap next (foreign_refused arities is_ground need) in
           let z : ◌≡◌ {A = ℕ} 0 1 = cc in
           absurd (omega arith)
-      go ih (inr o) e = (o, each ih (after_node arities ground (class_of_with few b) need) e)
+      go ih (inr o) e = (o, each ih (after_node arities is_ground (class_of_with few b) need) e)
 
   -- What a scan leaves of old bytes is old.
-  scan_rest : (arities : List ℕ) (ground : Bool) (bs : List ℕ) (need room : ℕ) (rest : List ℕ) → scan_with few arities ground bs need room ≡ give rest → AllOld bs → AllOld rest
+  scan_rest : (arities : List ℕ) (is_ground : Bool) (bs : List ℕ) (need room : ℕ) (rest : List ℕ) → scan_with few arities is_ground bs need room ≡ give rest → AllOld bs → AllOld rest
   unfolding scan_with
-  scan_rest arities ground [] zero room rest e h = let x : [] ≡ rest = cc in rw (← x) h
-  scan_rest arities ground [] (suc need) room rest e h = let z : ◌≡◌ {A = ℕ} 0 1 = cc in absurd (omega arith)
-  scan_rest arities ground (b ∷ bs) zero room rest e h = let x : b ∷ bs ≡ rest = cc in rw (← x) h
-  scan_rest arities ground (b ∷ bs) (suc need) zero rest e h = let z : ◌≡◌ {A = ℕ} 0 1 = cc in absurd (omega arith)
-  scan_rest arities ground (b ∷ bs) (suc need) (suc room) rest e h = go (λ n x. scan_rest arities ground bs n room rest x h.1) (after_node arities ground (class_of_with few b) need) e
+  scan_rest arities is_ground [] zero room rest e h = let x : [] ≡ rest = cc in rw (← x) h
+  scan_rest arities is_ground [] (suc need) room rest e h = let z : ◌≡◌ {A = ℕ} 0 1 = cc in absurd (omega arith)
+  scan_rest arities is_ground (b ∷ bs) zero room rest e h = let x : b ∷ bs ≡ rest = cc in rw (← x) h
+  scan_rest arities is_ground (b ∷ bs) (suc need) zero rest e h = let z : ◌≡◌ {A = ℕ} 0 1 = cc in absurd (omega arith)
+  scan_rest arities is_ground (b ∷ bs) (suc need) (suc room) rest e h = go (λ n x. scan_rest arities is_ground bs n room rest x h.1) (after_node arities is_ground (class_of_with few b) need) e
     where
-      go : ((n : ℕ) → scan_with few arities ground bs n room ≡ give rest → AllOld rest)
-          → (o : Result ℕ) → ◌≡◌ {A = Result (List ℕ)} (elim o [ refuse r ↦ refuse r | give n ↦ scan_with few arities ground bs n room ]) (give rest) → AllOld rest
+      go : ((n : ℕ) → scan_with few arities is_ground bs n room ≡ give rest → AllOld rest)
+          → (o : Result ℕ) → ◌≡◌ {A = Result (List ℕ)} (elim o [ refuse r ↦ refuse r | give n ↦ scan_with few arities is_ground bs n room ]) (give rest) → AllOld rest
       go ih (refuse r) e = let z : ◌≡◌ {A = ℕ} 0 1 = cc in absurd (omega arith)
       go ih (give n) e = ih n e
 

@@ -38,10 +38,10 @@ module _ (few : ℕ) (arities : List ℕ) where
   unfolding drop_terms
   nothing_passed bs room rest e = let x : bs ≡ rest = cc in rw (← x) (record { behind = refl; within = omega arith })
 
-  node_passed : (ground : Bool) (b : ℕ) (bs : List ℕ) (need n room : ℕ) (rest : List ℕ) → after_node arities ground (class_of_with few b) need ≡ give n → Passed bs n room rest
+  node_passed : (is_ground : Bool) (b : ℕ) (bs : List ℕ) (need n room : ℕ) (rest : List ℕ) → after_node arities is_ground (class_of_with few b) need ≡ give n → Passed bs n room rest
       → Passed (b ∷ bs) (suc need) (suc room) rest
   unfolding terms_of_with after_node size
-  node_passed ground b bs need n room rest e s = let p = put ground (class_of_with few b) e in record { behind = p.0; within = p.1 }
+  node_passed is_ground b bs need n room rest e s = let p = put is_ground (class_of_with few b) e in record { behind = p.0; within = p.1 }
     where
       ts : Terms
       ts = terms_of_with few arities bs
@@ -63,20 +63,20 @@ module _ (few : ℕ) (arities : List ℕ) where
       put true foreign e = let z : ◌≡◌ {A = ℕ} 0 1 = cc in absurd (omega arith)
       put false foreign e = let z : ◌≡◌ {A = ℕ} 0 1 = cc in absurd (omega arith)
 
-  pub scan_passed : (ground : Bool) (bs : List ℕ) (need room : ℕ) (rest : List ℕ) → scan_with few arities ground bs need room ≡ give rest → Passed bs need room rest
+  pub scan_passed : (is_ground : Bool) (bs : List ℕ) (need room : ℕ) (rest : List ℕ) → scan_with few arities is_ground bs need room ≡ give rest → Passed bs need room rest
   unfolding scan_with
-  scan_passed ground [] zero room rest e = nothing_passed [] room rest e
-  scan_passed ground [] (suc need) room rest e = let z : ◌≡◌ {A = ℕ} 0 1 = cc in absurd (omega arith)
-  scan_passed ground (b ∷ bs) zero room rest e = nothing_passed (b ∷ bs) room rest e
-  scan_passed ground (b ∷ bs) (suc need) zero rest e = let z : ◌≡◌ {A = ℕ} 0 1 = cc in absurd (omega arith)
-  scan_passed ground (b ∷ bs) (suc need) (suc room) rest e = go (λ n d. scan_passed ground bs n room rest d) (after_node arities ground (class_of_with few b) need) refl e
+  scan_passed is_ground [] zero room rest e = nothing_passed [] room rest e
+  scan_passed is_ground [] (suc need) room rest e = let z : ◌≡◌ {A = ℕ} 0 1 = cc in absurd (omega arith)
+  scan_passed is_ground (b ∷ bs) zero room rest e = nothing_passed (b ∷ bs) room rest e
+  scan_passed is_ground (b ∷ bs) (suc need) zero rest e = let z : ◌≡◌ {A = ℕ} 0 1 = cc in absurd (omega arith)
+  scan_passed is_ground (b ∷ bs) (suc need) (suc room) rest e = go (λ n d. scan_passed is_ground bs n room rest d) (after_node arities is_ground (class_of_with few b) need) refl e
     where
-      go : ((n : ℕ) → scan_with few arities ground bs n room ≡ give rest → Passed bs n room rest)
-          → (r : Result ℕ) → after_node arities ground (class_of_with few b) need ≡ r
-          → elim r as (λ r. Result (List ℕ)) [ refuse x ↦ refuse x | give n ↦ scan_with few arities ground bs n room ] ≡ give rest
+      go : ((n : ℕ) → scan_with few arities is_ground bs n room ≡ give rest → Passed bs n room rest)
+          → (r : Result ℕ) → after_node arities is_ground (class_of_with few b) need ≡ r
+          → elim r as (λ r. Result (List ℕ)) [ refuse x ↦ refuse x | give n ↦ scan_with few arities is_ground bs n room ] ≡ give rest
           → Passed (b ∷ bs) (suc need) (suc room) rest
       go ih (refuse x) d e = let z : ◌≡◌ {A = ℕ} 0 1 = cc in absurd (omega arith)
-      go ih (give n) d e = node_passed ground b bs need n room rest d (ih n e)
+      go ih (give n) d e = node_passed is_ground b bs need n room rest d (ih n e)
 
   -- The first term of a row is no larger than what was passed for it.
   first_small : (bs : List ℕ) (room : ℕ) (rest : List ℕ) → 0 < room → Passed bs 1 room rest → size (first_term (terms_of_with few arities bs)) ≤ room

@@ -42,13 +42,13 @@ returns c =
     let there = placed nodes _ _ _ _ (omega (arith, start.requires.1.0)) decoded.1 in
     record {
       few_symbols = are.few_symbols;
-      ground = are.ground;
+      is_ground = are.is_ground;
       counted = decoded.0 ∙ length_prefixes ts;
       few_nodes = are.few_nodes;
       nodes_length = c.before.before.before.before.before.before.nodes.given.1 ∙ start.requires.1.0;
       sizes_length = c.before.before.measure.auto.1.1.0 ∙ start.requires.1.1;
       symbols =
-          placed_symbols nodes _ _ _ _ symbols (grounds_symbols _ are.few_symbols ts are.ground) (symbols_take (length nodes - position_count) (drop position_count nodes) behind)
+          placed_symbols nodes _ _ _ _ symbols (grounds_symbols _ are.few_symbols ts are.is_ground) (symbols_take (length nodes - position_count) (drop position_count nodes) behind)
           (symbols_drop (length nodes - position_count) (drop position_count nodes) behind) decoded.1;
       bytes = placed_stored there;
       sizes_there = sizes_stored are _ start.args.sizes.now _ _ _ there decoded.0 (omega (arith, start.requires.1.1)) c.before.before.measure.ensures;

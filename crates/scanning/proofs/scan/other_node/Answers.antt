@@ -6,12 +6,12 @@ use Rattle.scanning.proofs.scan.other_node.Goals as goal
 pub returns-in-Symbol : goal.returns-in-Symbol
 returns-in-Symbol c = λ arities need h. other_symbol _ c.classify-class.ensures arities need c.in-Symbol.is _ h
 
-pub returns-then-ground : goal.returns-then-ground
-returns-then-ground c = λ arities need h. other_not_ground _ c.classify-class.ensures arities need c.in-Variable.is c.if-ground.true
+pub returns-then-is_ground : goal.returns-then-is_ground
+returns-then-is_ground c = λ arities need h. other_not_ground _ c.classify-class.ensures arities need c.in-Variable.is c.if-is_ground.true
 
-pub returns-else-ground : goal.returns-else-ground
-returns-else-ground c = λ arities need h.
-    other_variable _ c.classify-class.ensures arities need c.in-Variable.is c.if-ground.false c.wide.ensures.value
+pub returns-else-is_ground : goal.returns-else-is_ground
+returns-else-is_ground c = λ arities need h.
+    other_variable _ c.classify-class.ensures arities need c.in-Variable.is c.if-is_ground.false c.wide.ensures.value
 
 pub returns-in-Foreign : goal.returns-in-Foreign
 returns-in-Foreign c = λ arities need h. other_foreign _ c.classify-class.ensures arities need c.in-Foreign.is _

@@ -10,7 +10,7 @@ invariant-loop-need l =
       from =
           l.initial.at;
       end = l.end;
-    }) (listed l.symbols l.arities) (record { terms = l.initial.need; nodes = l.initial.room; ground = l.ground; width = l.initial.widest }) l.at l.need l.room l.widest
+    }) (listed l.symbols l.arities) (record { terms = l.initial.need; nodes = l.initial.room; is_ground = l.is_ground; width = l.initial.widest }) l.at l.need l.room l.widest
 
 abbrev pub decreases-loop-need : goal.decreases-loop-need
 decreases-loop-need l = l.room
