@@ -14,7 +14,7 @@ use Rattle.solving.specs.Line.{Bindings, lookup}
 use Rattle.solving.specs.Walk.{enough, occurs}
 use Rattle.solving.specs.Theory.Seen.{bound_variable, variable_bound, occurs_up, occurs_back}
 use Rattle.solving.specs.ForContracts.Seen.{Reaches, stays, goes, Occurs, here, inside}
-use Rattle.solving.specs.Theory.Reach.{enough_suffices, occurs_found, occurs_finds}
+use Rattle.solving.proofs.Theory.Reach.{enough_suffices, occurs_found, occurs_finds}
 use Rattle.bindings.specs.ForContracts.PrefixForm.{view_of, InPrefixForm}
 use Rattle.bindings.specs.ForContracts.Bindings.{bindings_of, Readable}
 use Rattle.bindings.specs.Theory.PrefixForm.{get_d_any, variable_seen, seen_variable, form_layout}

@@ -9,7 +9,7 @@ use lib.ListN.{get_or}
 use Rattle.format.specs.Limits.{first_variable}
 use Rattle.terms.specs.Term.{Term, Terms, app, Ground}
 use Rattle.terms.specs.ForContracts.Arguments.{arguments_at}
-use Rattle.ordering.specs.Order.{◌≻◌, L1, SomeReaches, ExceedsAll}
+use Rattle.path_order.specs.Order.{◌≻◌, L1, SomeReaches, ExceedsAll}
 use Rattle.ordering.specs.declared.verdict.Verdict.{Verdict}
 use Rattle.ordering.specs.declared.verdict.Verdict.TheVariants.{Smaller as smaller, Equal as equal, Greater as greater}
 use Rattle.ordering.specs.declared.decision.Clause.{Clause}
@@ -18,10 +18,10 @@ use Rattle.ordering.specs.declared.decision.Decision.TheVariants.{Smaller as sma
 use Rattle.ordering.specs.Verdict.{verdict}
 use Rattle.ordering.specs.Decision.{first_clause, decision, verdict_of}
 use Rattle.ordering.specs.Theory.Question.{exceeds_below}
-use Rattle.ordering.specs.Theory.Subterm.{exceeds_arguments}
+use Rattle.path_order.proofs.Theory.Subterm.{exceeds_arguments}
 use Rattle.ordering.specs.Theory.Verdict.{means_verdict, told_greater}
 use Rattle.ordering.specs.Theory.Total.{verdict_smaller, reached_or_exceeded, exceeded_not_reached}
-use Rattle.ordering.specs.Theory.Decision.{reached_L1, greater_symbol_L2, no_greater_symbol_L3}
+use Rattle.ordering.proofs.Theory.Decision.{reached_L1, greater_symbol_L2, no_greater_symbol_L3}
 use Rattle.cells.specs.ForContracts.Nodes.{TermAt}
 use Rattle.cells.specs.ForContracts.Cells.{BothGround}
 use Rattle.comparing.specs.ForContracts.Comparing.{greater_if, Compares, FindsReaching, ComparesWithAll}

@@ -15,7 +15,7 @@ use Rattle.ordering.specs.declared.decision.Decision.TheVariants.{Smaller as sma
 use Rattle.ordering.specs.Verdict.{verdict, verdict_number}
 use Rattle.ordering.specs.Decision.{decision, verdict_of, clause_number, clause_number_of}
 use Rattle.ordering.specs.Theory.Verdict.{number_few}
-use Rattle.ordering.specs.Theory.Decision.{decision_verdict, decision_unique, is_smaller, is_equal, is_greater}
+use Rattle.ordering.proofs.Theory.Decision.{decision_verdict, decision_unique, is_smaller, is_equal, is_greater}
 use Rattle.cells.specs.ForContracts.Nodes.{TermAt}
 use Rattle.cells.specs.ForContracts.Cells.{BothGround, clause_unit, Settles, SettledCells, CellHolds}
 use Rattle.cells.specs.Theory.Cells.{cell_settles}

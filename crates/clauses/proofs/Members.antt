@@ -10,9 +10,9 @@ use Rattle.format.specs.Theory.Lists.{false_true}
 use Rattle.terms.specs.Term.{Term, Terms}
 use Rattle.terms.specs.Theory.Induction.{Member, first, later}
 use Rattle.terms.specs.declared.arguments.Arguments.{Arguments}
-use Rattle.ordering.specs.Order.{ExceedsAll}
-use Rattle.ordering.specs.Theory.Laws.{≻_irrefl}
-use Rattle.ordering.specs.Theory.Subterm.{member_reached}
+use Rattle.path_order.specs.Order.{ExceedsAll}
+use Rattle.path_order.proofs.Theory.Laws.{≻_irrefl}
+use Rattle.path_order.proofs.Theory.Subterm.{member_reached}
 use Rattle.ordering.specs.Theory.Decide.{all_head, all_tail}
 use Rattle.cells.specs.ForContracts.Nodes.{TermAt, TermsAt}
 use Rattle.comparing.specs.ForContracts.Comparing.{FindsReaching, ComparesWithAll}

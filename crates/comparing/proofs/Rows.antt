@@ -8,7 +8,7 @@ use Rattle.format.specs.Theory.Lists.{false_true}
 use Rattle.terms.specs.Term.{Term, Terms, cons}
 use Rattle.terms.specs.declared.arguments.Arguments.{Arguments}
 use Rattle.terms.specs.ForContracts.Arguments.{behind_first}
-use Rattle.ordering.specs.Order.{SomeReaches, there, ExceedsAll, none, more}
+use Rattle.path_order.specs.Order.{SomeReaches, there, ExceedsAll, none, more}
 use Rattle.ordering.specs.declared.verdict.Verdict.{Verdict}
 use Rattle.ordering.specs.declared.verdict.Verdict.TheVariants.{Smaller as smaller, Greater as greater}
 use Rattle.ordering.specs.Theory.Decide.{some_nil, all_head, all_tail}

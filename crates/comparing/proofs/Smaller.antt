@@ -10,7 +10,7 @@ use Rattle.format.specs.Limits.{first_variable}
 use Rattle.terms.specs.Term.{Term, Terms, app, nil, cons}
 use Rattle.terms.specs.declared.arguments.Arguments.{Arguments}
 use Rattle.terms.specs.Theory.Append.{append}
-use Rattle.ordering.specs.Order.{◌≻◌, L1, SomeReaches, here_equal, here_greater, there, ExceedsAll, none, more}
+use Rattle.path_order.specs.Order.{◌≻◌, L1, SomeReaches, here_equal, here_greater, there, ExceedsAll, none, more}
 use Rattle.ordering.specs.Theory.Decide.{all_head, all_tail}
 use Rattle.ordering.specs.Theory.Question.{greater_symbol, smaller_symbol}
 use Rattle.cells.specs.ForContracts.Nodes.{none as row-none, more as row_more, TermAt, TermsAt}

@@ -1,7 +1,6 @@
 -- Texts and listings at the edges of document 01, checked against the definitions by computation.
 use Rattle.std.specs.Prelude.{ℕ, zero, suc, ◌+◌, ◌*◌, ◌≡◌, refl, List, [], ◌∷◌, ◌++◌, map}
 use Prim.Native.String.{String, ◌++◌ as ◌then◌}
-use Rattle.solving.specs.Line.{line}
 use Rattle.outcomes.specs.Outcome.{check_call}
 use Rattle.cases.specs.Cases.{Case, lists}
 use Rattle.cases.specs.Checked.{ascii, computed, stated}

@@ -9,7 +9,7 @@ use lib.ListN.{length, get_or}
 use lib.Seq.{slice}
 use Rattle.format.specs.Limits.{position_count}
 use Rattle.terms.specs.Term.{Term, Values}
-use Rattle.ordering.specs.Order.{◌≻◌}
+use Rattle.path_order.specs.Order.{◌≻◌}
 use Rattle.solving.specs.Line.{Element, equal, greater, element_bytes}
 use Rattle.solving.specs.Holds.{ElementsHold}
 use Rattle.line_bytes.specs.declared.element.Relation.TheVariants.{Equal, Greater}

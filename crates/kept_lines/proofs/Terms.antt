@@ -7,7 +7,7 @@ use native.Mathlib.Omega.{arith}
 use lib.ListN.{length, get_or}
 use Rattle.format.specs.Limits.{position_count, first_variable, variable_count}
 use Rattle.terms.specs.Term.{Term, Terms, app, nil, Values}
-use Rattle.ordering.specs.Order.{◌≻◌, L1, L2, L3, none}
+use Rattle.path_order.specs.Order.{◌≻◌, L1, L2, L3, none}
 use Rattle.ordering.specs.declared.verdict.Verdict.{Verdict}
 use Rattle.ordering.specs.declared.verdict.Verdict.TheVariants.{Smaller as smaller, Equal as equal, Greater as greater}
 use Rattle.ordering.specs.Verdict.{verdict}

@@ -3,7 +3,7 @@
 ghost use Rattle.std.specs.Prelude.{◌≡◌, ◌↔◌, true, List, ℕ, ◌<◌};
 ghost use Rattle.format.specs.Limits.{variable_count};
 ghost use Rattle.terms.specs.Term.{Term, Values};
-ghost use Rattle.ordering.specs.Order.{◌≻◌};
+ghost use Rattle.path_order.specs.Order.{◌≻◌};
 ghost use Rattle.solving.specs.Line.{Bindings, Element, greater, Line};
 ghost use Rattle.solving.specs.Holds.{BindingsHold, ElementsHold, LineHolds};
 ghost use Rattle.solving.specs.Judge.{first_holding};

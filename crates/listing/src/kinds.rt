@@ -26,13 +26,13 @@ impl PrintedKind {
 
     // Each is the one of the definitions.
     pub fn stated()
-        ensures* do_value { do ⌜ (← (⟦PrintedKind::TABLE⟧).entry) ≡ table_kind ⌝ }
-        ensures* do_value_2 { do ⌜ (← (⟦PrintedKind::LINE⟧).entry) ≡ line_kind ⌝ }
-        ensures* do_value_3 { do ⌜ (← (⟦PrintedKind::RUN⟧).entry) ≡ run_kind ⌝ }
-        ensures* do_value_4 { do ⌜ (← (⟦PrintedKind::STEP⟧).entry) ≡ step_kind ⌝ }
-        ensures* do_value_5 { do ⌜ (← (⟦PrintedKind::JUDGEMENT⟧).entry) ≡ judgement_kind ⌝ }
-        ensures* do_value_6 { do ⌜ (← (⟦PrintedKind::COMPARISON⟧).entry) ≡ comparison_kind ⌝ }
-        ensures* do_value_7 { do ⌜ (← (⟦PrintedKind::TOTAL⟧).entry) ≡ total_kind ⌝ }
-        ensures* do_value_8 { do ⌜ (← (⟦PrintedKind::REFUSAL⟧).entry) ≡ refusal_kind ⌝ }
+        ensures table { Self.TABLE ≡ table_kind }
+        ensures line { Self.LINE ≡ line_kind }
+        ensures run { Self.RUN ≡ run_kind }
+        ensures step { Self.STEP ≡ step_kind }
+        ensures judgement { Self.JUDGEMENT ≡ judgement_kind }
+        ensures comparison { Self.COMPARISON ≡ comparison_kind }
+        ensures total { Self.TOTAL ≡ total_kind }
+        ensures refusal { Self.REFUSAL ≡ refusal_kind }
     {}
 }

@@ -3,7 +3,7 @@ use Rattle.std.specs.Prelude.{◌≡◌}
 pub use Rattle.ordering.specs.declared.decision.Clause.{Clause}
 pub use Rattle.ordering.specs.declared.decision.Clause.TheVariants.{L1 as by_L1, L2 as by_L2, L3 as by_L3}
 use Rattle.terms.specs.Term.{Term}
-use Rattle.ordering.specs.Order.{◌≻◌, L1, L2, L3}
+use Rattle.path_order.specs.Order.{◌≻◌, L1, L2, L3}
 
 -- The clause that a derivation of s > t ends with: each is a constructor of `◌≻◌`. Two terms can have derivations by different clauses.
 unfoldable pub clause_of : {s t : Term} → s ≻ t → Clause

@@ -7,7 +7,7 @@ use Rattle.ordering.specs.Verdict.{Verdict, smaller, equal, greater, verdict}
 use Rattle.ordering.specs.Clause.{Clause, by_L1, by_L2, by_L3}
 use Rattle.ordering.specs.Theory.Decide.{applies?}
 
--- "the first of L1, L2, L3 that applies". Where s > t one of them does, and this is the first (`first_applies`, Theory/Decision); where s does not exceed t it means nothing.
+-- "the first of L1, L2, L3 that applies". Where s > t one of them does, and this is the first (`first_applies`, proofs/Theory/Decision); where s does not exceed t it means nothing.
 unfoldable pub first_clause : Term → Term → Clause
 unfolding applies?
 first_clause s t = elim (applies? by_L1 s t) [ yes x ↦ by_L1 | no n ↦ elim (applies? by_L2 s t) [ yes x ↦ by_L2 | no m ↦ by_L3 ] ]

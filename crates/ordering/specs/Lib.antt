@@ -1,5 +1,3 @@
-pub mod Order
-pub mod Below
 pub mod Clause
 pub mod Theory
 pub mod Verdict

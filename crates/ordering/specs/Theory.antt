@@ -1,14 +1,9 @@
 -- The laws of the ordering.
-pub mod Accessible
-pub mod Subterm
-pub mod Laws
-pub mod Context
 pub mod Clause
 pub mod Decide
 pub mod Descent
 pub mod Total
 pub mod Verdict
-pub mod Decision
 pub mod Question
 pub mod Literal
 pub mod Examples

@@ -8,7 +8,7 @@ use Rattle.format.specs.Limits.{variable_count, max_task_nodes}
 use Rattle.terms.specs.Term.{Term, size, Values, inst}
 use Rattle.terms.specs.Position.{subterms, replace}
 use Rattle.terms.specs.Equation.{Equation, Direction, left_right, right_left, source, target}
-use Rattle.ordering.specs.Order.{◌≻◌}
+use Rattle.path_order.specs.Order.{◌≻◌}
 pub use Rattle.reducing.specs.declared.ending.Ending.{Ending}
 pub use Rattle.reducing.specs.declared.ending.Ending.TheVariants.{NoneFound as none_found, LimitReached as limit_reached, ResultTooLarge as result_too_large}
 use Rattle.reducing.specs.Match.{unmet, no_match, match, values_of}

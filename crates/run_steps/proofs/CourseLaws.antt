@@ -17,7 +17,7 @@ use Rattle.reducing.specs.declared.ending.Ending.{Ending}
 use Rattle.reducing.specs.declared.ending.Ending.TheVariants.{NoneFound as none_found, LimitReached as limit_reached, ResultTooLarge as result_too_large}
 use Rattle.reducing.specs.Run.{Step, Run, after_step, step, run, last_term}
 use Rattle.reducing.specs.Test.{line_test, line_run}
-use Rattle.reducing.specs.Theory.Runs.{stopped, at_limit, unless_large, below_limit}
+use Rattle.reducing.proofs.Theory.Runs.{stopped, at_limit, unless_large, below_limit}
 use Rattle.reducing.specs.Theory.Rules.{rule_parts}
 use Rattle.outcomes.specs.Outcome.{log_of}
 use Rattle.outcomes.specs.Theory.Outcomes.{length_log}

@@ -16,7 +16,7 @@ use Rattle.terms.specs.Filling.{lowest_constant, filling}
 use Rattle.terms.specs.ForContracts.Stored.{PartAt, GroundStored, SubjectIs, AllSymbols}
 use Rattle.terms.specs.Theory.Prefix.{length_prefix}
 use Rattle.terms.specs.Theory.Position.{length_subterms}
-use Rattle.terms.specs.Theory.Filling.{filling_ground}
+use Rattle.terms.proofs.Theory.Filling.{filling_ground}
 use Rattle.reading.specs.ForContracts.Loading.{Loaded}
 
 -- 1. The lowest constant.

@@ -18,7 +18,7 @@ use Rattle.scanning.specs.declared.known.Known.{Known}
 use Rattle.scanning.specs.ForContracts.Scan.{known_arities}
 use Rattle.reading.specs.ForContracts.Loading.{TermsIn, HasTermsIn, Loaded}
 use Rattle.reducing.specs.Test.{line_test, line_run}
-use Rattle.reducing.specs.Theory.Runs.{run_few}
+use Rattle.reducing.proofs.Theory.Runs.{run_few}
 use Rattle.rules.specs.ForContracts.Rows.{RowsAre}
 use Rattle.rules.specs.ForContracts.Walks.{RulesAt, LinesReady}
 use Rattle.step_by_position.specs.ForContracts.Next.{NextIs, RulesKept, HasRulesKept}

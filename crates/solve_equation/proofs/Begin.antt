@@ -16,7 +16,7 @@ use Rattle.solving.specs.Line.{no_bindings, records}
 use Rattle.solving.specs.Walk.{Walked, solved, enough, over_limit, opening, walk}
 use Rattle.solving.specs.Turns.{table_after}
 use Rattle.solving.specs.Theory.Turns.{same_table}
-use Rattle.solving.specs.Theory.Whole.{no_bindings_proper}
+use Rattle.solving.proofs.Theory.Whole.{no_bindings_proper}
 use Rattle.walking.specs.declared.walk.Walk.{Walk}
 use Rattle.walking.specs.declared.walk.Advanced.{Advanced}
 use Rattle.walking.specs.declared.walk.WalkProgress.TheVariants.{Going, Refused}

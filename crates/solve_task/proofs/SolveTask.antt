@@ -9,7 +9,7 @@ use Rattle.format.specs.declared.refusal.Refusal.{Refusal}
 use Rattle.terms.specs.Equation.{Equation, Direction}
 use Rattle.solving.specs.Line.{records}
 use Rattle.solving.specs.Walk.{Walked, solve}
-use Rattle.solving.specs.Theory.Solve.{solved_line_count}
+use Rattle.solving.proofs.Theory.Solve.{solved_line_count}
 use Rattle.reducing.specs.Walks.{equation_line}
 use Rattle.solve_equation.specs.declared.positions.WalkEnd.TheVariants.{Solved, Refused}
 use Rattle.solve_equation.specs.declared.positions.WalkResult.{WalkResult as Reported}

@@ -15,7 +15,7 @@ unfoldable pub is_unbound : Option ℕ → Bool
 is_unbound none = true
 is_unbound (some p) = false
 
--- "a finished line with no binding and no element". A line without elements is finished: there is none to treat (`empty_finished`, Theory/Always).
+-- "a finished line with no binding and no element". A line without elements is finished: there is none to treat (`empty_finished`, proofs/Theory/Always).
 unfoldable pub is_empty : Line → Bool
 unfolding all is_unbound
 is_empty (line θ []) = all is_unbound θ

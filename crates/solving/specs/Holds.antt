@@ -2,7 +2,7 @@
 use Rattle.std.specs.Prelude.{ℕ, suc, ◌≡◌, ◌⊎◌, List, [], ◌∷◌}
 use Rattle.std.proofs.Math.Option.{none, some}
 use Rattle.terms.specs.Term.{Term, Values}
-use Rattle.ordering.specs.Order.{◌≻◌}
+use Rattle.path_order.specs.Order.{◌≻◌}
 use Rattle.solving.specs.Line.{Bindings, Element, equal, greater, Line, line}
 
 module _ (ρ : Values) (value : ℕ → Term) where

@@ -15,7 +15,7 @@ use Rattle.terms.specs.Equation.{Equation, Direction, view, source_position, tar
 use Rattle.solving.specs.Line.{Bindings, unbound, lookup, bind, Element, equal, greater, Line, line}
 
 -- How deep the recursions through the bindings may go. `enough` is what the walk takes: a variable is bound to a term or to a higher
--- variable, and no descent meets more positions than there are. No larger fuel changes a turn of a table that the walk comes to (Theory/Fuel).
+-- variable, and no descent meets more positions than there are. No larger fuel changes a turn of a table that the walk comes to (proofs/Theory/Fuel).
 pub record Fuel : Type 0 where
   pub hops : ℕ
   pub occurs_depth : ℕ

@@ -23,7 +23,7 @@ use Rattle.terms.specs.Theory.Prefix.{length_prefix}
 use Rattle.terms.specs.Theory.Stored.{stored_head, stored_room}
 use Rattle.solving.specs.Line.{Line, line, binding_byte, element_bytes}
 use Rattle.solving.specs.Judge.{first_holding}
-use Rattle.reducing.specs.Theory.Step.{tested}
+use Rattle.reducing.proofs.Theory.Step.{tested}
 use Rattle.reducing.specs.Match.{Match, no_match, match, match_each, values_of}
 use Rattle.reducing.specs.Run.{Step, try}
 use Rattle.reducing.specs.Test.{line_test}

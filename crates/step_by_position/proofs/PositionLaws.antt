@@ -18,7 +18,7 @@ use Rattle.terms.specs.Theory.Stored.{stored_head, ground_size}
 use Rattle.reducing.specs.Run.{Step, try, step}
 use Rattle.reducing.specs.Test.{line_test}
 use Rattle.reducing.specs.ForContracts.Rules.{rule_number}
-use Rattle.reducing.specs.Theory.First.{NoneAt, step_none, step_first}
+use Rattle.reducing.proofs.Theory.First.{NoneAt, step_none, step_first}
 use Rattle.reducing.specs.ForContracts.Part.{part_at}
 use Rattle.reducing.specs.Theory.Rules.{rule_of, rule_below}
 use Rattle.cells.specs.Theory.Cells.{none_ready, zero_bytes}

@@ -21,10 +21,10 @@ use Rattle.reducing.specs.Match.{Match, no_match, match}
 use Rattle.reducing.specs.Run.{Step, try, step}
 use Rattle.reducing.specs.Test.{line_test, BothSolve}
 use Rattle.reducing.specs.ForContracts.Rules.{rule_number}
-use Rattle.reducing.specs.Theory.First.{step_none, step_first}
+use Rattle.reducing.proofs.Theory.First.{step_none, step_first}
 use Rattle.reducing.specs.ForContracts.Part.{part_at}
 use Rattle.reducing.specs.Theory.Rules.{rule_of, rule_low}
-use Rattle.reducing.specs.Theory.Step.{none_matches}
+use Rattle.reducing.proofs.Theory.Step.{none_matches}
 use Rattle.cells.specs.Theory.Cells.{none_ready, zero_bytes}
 use Rattle.step_match.specs.ForContracts.Matching.{Matched, SidePart}
 use Rattle.walking.specs.ForContracts.Walking.{memory_bytes}

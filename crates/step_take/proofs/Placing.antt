@@ -19,7 +19,7 @@ use Rattle.terms.specs.Theory.Placed.{Placed, placed_stored, placed_measurable, 
 use Rattle.terms.specs.Theory.Ground.{instance_ground}
 use Rattle.terms.specs.Theory.Replace.{ground_replace}
 use Rattle.terms.specs.Theory.Symbols.{symbols_append, ground_symbols}
-use Rattle.reducing.specs.Theory.Variables.{variables_are}
+use Rattle.reducing.proofs.Theory.Variables.{variables_are}
 use Rattle.step_take.specs.ForContracts.Replacing.{ReplacementIs}
 use Rattle.step_take.proofs.Written.{Front, written_behind}
 

@@ -20,7 +20,7 @@ use Rattle.terms.specs.ForContracts.Stored.{GroundStored}
 use Rattle.terms.specs.Theory.Prefix.{fits_variables}
 use Rattle.reducing.specs.Match.{no_match, match, values_of, has_variable, have_variable}
 use Rattle.reducing.specs.Run.{Step}
-use Rattle.reducing.specs.Theory.Match.{either}
+use Rattle.reducing.proofs.Theory.Match.{either}
 use Rattle.reducing.specs.ForContracts.Part.{part_at}
 use Rattle.step_match.specs.ForContracts.Matching.{SlotIs, MatchIs, Matched, SidePart}
 use Rattle.step_take.specs.ForContracts.Replacing.{ReplacementIs, ReplacedAs}

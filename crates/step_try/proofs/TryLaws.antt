@@ -9,7 +9,7 @@ use Rattle.terms.specs.Equation.{Equation, Direction, source}
 use Rattle.reducing.specs.Match.{Match, no_match, match}
 use Rattle.reducing.specs.Run.{try}
 use Rattle.reducing.specs.Test.{line_test}
-use Rattle.reducing.specs.Theory.Step.{stepped, tested, outcome, try_is, none_matches}
+use Rattle.reducing.proofs.Theory.Step.{stepped, tested, outcome, try_is, none_matches}
 use Rattle.reducing.specs.ForContracts.Part.{part_at}
 use Rattle.step_try.specs.ForContracts.Trying.{Applies, LinesTell}
 

@@ -13,7 +13,7 @@ use Rattle.solving.specs.Walk.{enough, solved, over_limit}
 use Rattle.solving.specs.Turns.{table_after}
 use Rattle.solving.specs.Always.{is_empty, has_empty}
 use Rattle.solving.specs.Theory.Turns.{until_ends, same_table, Unstopped, walk_goes_on, walk_stops}
-use Rattle.solving.specs.Theory.Always.{none_before}
+use Rattle.solving.proofs.Theory.Always.{none_before}
 use Rattle.bindings.specs.ForContracts.PrefixForm.{view_of}
 use Rattle.line_bytes.specs.ForContracts.Resting.{RestingLine, line_of}
 use Rattle.line_bytes.specs.ForContracts.Layout.{line_bytes}

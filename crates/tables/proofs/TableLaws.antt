@@ -17,7 +17,7 @@ use Rattle.terms.specs.ForContracts.Limits.{positions}
 use Rattle.solving.specs.Line.{Bindings, Element, Line, line, records}
 use Rattle.solving.specs.Theory.Records.{length_records}
 use Rattle.solving.specs.Walk.{solved, solve}
-use Rattle.solving.specs.Theory.Solve.{solved_lines}
+use Rattle.solving.proofs.Theory.Solve.{solved_lines}
 use Rattle.solve_equation.specs.declared.positions.WalkEnd.TheVariants.{Solved, Refused}
 use Rattle.solve_equation.specs.declared.positions.WalkResult.{WalkResult as Reported}
 use Rattle.solve_equation.specs.ForContracts.Reports.{LeavesEnd, Leaves}

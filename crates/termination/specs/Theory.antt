@@ -3,7 +3,5 @@ pub mod Weight
 pub mod Turns
 pub mod Unbound
 pub mod Lower
-pub mod Limits
-pub mod Walks
 pub mod Reduction
 pub mod Runs

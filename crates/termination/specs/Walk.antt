@@ -14,7 +14,7 @@ unfoldable pub slots : Equation → ℕ
 unfolding equation_width
 slots e = max variable_count (equation_width e)
 
--- How deep the recursions through the bindings may go: as `enough`, but by this equation's slots and positions. No larger fuel changes the walk (`deeper_walk`, Theory/Walks).
+-- How deep the recursions through the bindings may go: as `enough`, but by this equation's slots and positions. No larger fuel changes the walk (`deeper_walk`, proofs/Theory/Walks).
 unfoldable pub enough_for : Equation → Fuel
 unfolding slots
 enough_for e = record { hops = slots e; occurs_depth = suc (positions e); unify_depth = suc (positions e) }

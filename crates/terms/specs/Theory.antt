@@ -11,7 +11,6 @@ pub mod Sizes
 pub mod Stored
 pub mod Variables
 pub mod Ground
-pub mod Filling
 pub mod Spelled
 pub mod Symbols
 pub mod Replace

@@ -6,9 +6,7 @@ pub mod Walk
 pub mod Solve
 pub mod Judge
 pub mod Runs
-pub mod Reading
 pub mod Scan
 pub mod Sheet
 pub mod Frames
-pub mod Listing
 pub mod Examples

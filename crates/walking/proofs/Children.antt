@@ -13,9 +13,9 @@ use Rattle.format.specs.Limits.{variable_count, max_elements}
 use Rattle.format.specs.Theory.Lists.{every_left, every_right, every_append}
 use Rattle.solving.specs.Line.{Bindings, Element, Line, line}
 use Rattle.solving.specs.Walk.{enough, becomes, treat, treat_line, crowded}
-use Rattle.solving.specs.Theory.Reach.{enough_suffices}
+use Rattle.solving.proofs.Theory.Reach.{enough_suffices}
 use Rattle.solving.specs.ForContracts.Within.{Within, AllWithin}
-use Rattle.solving.specs.Theory.Table.{ProperTable, treat_proper}
+use Rattle.solving.proofs.Theory.Table.{ProperTable, treat_proper}
 use Rattle.bindings.specs.ForContracts.PrefixForm.{view_of}
 use Rattle.bindings.specs.ForContracts.Bindings.{bindings_of, Readable}
 use Rattle.line_bytes.specs.ForContracts.Resting.{RestingLine, line_of}

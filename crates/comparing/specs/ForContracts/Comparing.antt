@@ -3,7 +3,7 @@ use Rattle.std.specs.Prelude.{ℕ, ◌≤◌, ◌<◌, ◌≡◌, ◌↔◌, Boo
 use Rattle.format.specs.Limits.{position_count}
 use Rattle.terms.specs.Term.{Term, Terms, size, sizes}
 use Rattle.terms.specs.declared.arguments.Arguments.{Arguments}
-use Rattle.ordering.specs.Order.{◌≻◌, SomeReaches, ExceedsAll}
+use Rattle.path_order.specs.Order.{◌≻◌, SomeReaches, ExceedsAll}
 use Rattle.ordering.specs.declared.verdict.Verdict.{Verdict}
 use Rattle.ordering.specs.declared.verdict.Verdict.TheVariants.{Smaller as smaller, Equal as equal, Greater as greater}
 use Rattle.ordering.specs.Verdict.{verdict}

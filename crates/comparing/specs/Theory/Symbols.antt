@@ -5,7 +5,7 @@ use Rattle.format.specs.Theory.Lists.{false_true}
 use Rattle.format.specs.Limits.{first_variable}
 use Rattle.terms.specs.Term.{Term}
 use Rattle.terms.specs.ForContracts.Arguments.{arguments_at}
-use Rattle.ordering.specs.Order.{◌≻◌}
+use Rattle.path_order.specs.Order.{◌≻◌}
 use Rattle.ordering.specs.declared.verdict.Verdict.TheVariants.{Smaller as smaller, Greater as greater}
 use Rattle.ordering.specs.Verdict.{verdict}
 use Rattle.ordering.specs.Theory.Verdict.{means_verdict}

@@ -6,7 +6,7 @@ use Rattle.format.specs.Limits.{max_lines}
 use Rattle.terms.specs.Term.{Terms}
 use Rattle.terms.specs.Equation.{Equation, Direction, value}
 use Rattle.solving.specs.Judge.{first_holding}
-use Rattle.solving.specs.Theory.Solve.{solved_line_count}
+use Rattle.solving.proofs.Theory.Solve.{solved_line_count}
 use Rattle.solving.specs.Theory.Judge.{first_holding_low}
 use Rattle.reducing.specs.Test.{holding_in, holding_line, given_values}
 use Rattle.outcomes.specs.Buffer.{filled}

@@ -3,7 +3,7 @@ use Rattle.std.specs.Prelude.{ℕ, ◌≡◌, refl, Bool, true, List}
 use Rattle.std.proofs.Common.{sym, ap, ◌∙◌}
 use Rattle.sheet.specs.Reading.{Reading, refused_at, accepted}
 use Rattle.solving.specs.Always.{Answered, answered, unanswered, always}
-use Rattle.solving.specs.Theory.Always.{always_solved, always_no, always_refused, yes_stands, yes_reached, always_yes}
+use Rattle.solving.proofs.Theory.Always.{always_solved, always_no, always_refused, yes_stands, yes_reached, always_yes}
 use Rattle.outcomes.specs.Buffer.{fields, refusal_byte, cleared, blanked}
 use Rattle.outcomes.specs.Asked.{asked, Directed, direction_asked}
 use Rattle.outcomes.specs.Outcome.{table_fits, table_unsolved, directed_answer, directed_call, solve_walked, solve_directed, solve_call, answer_number, always_answered, always_directed, always_call}

@@ -1,10 +1,10 @@
 -- W5 of document 02: the filling of an accepted sheet is its lowest constant, and every direction is usable with it.
 use Rattle.std.specs.Prelude.{refl}
 use Rattle.terms.specs.Filling.{filling}
-use Rattle.terms.specs.Theory.Filling.{lowest_is_constant, none_lower, filling_ground}
+use Rattle.terms.proofs.Theory.Filling.{lowest_is_constant, none_lower, filling_ground}
 use Rattle.sheet.specs.Theory.Accepted.{accepted_valid}
-use Rattle.reducing.specs.Theory.Reference.{run_reduces}
-use Rattle.reducing.specs.Theory.Irreducible.{run_irreducible}
+use Rattle.reducing.proofs.Theory.Reference.{run_reduces}
+use Rattle.reducing.proofs.Theory.Irreducible.{run_irreducible}
 use Rattle.neblinaro.specs.Demands.{FillingDemanded, RunsReduce, RunsEndIrreducible}
 use Rattle.neblinaro.specs.Theory.Walks.{accepted_limits}
 

@@ -16,9 +16,9 @@ use Rattle.sheet.specs.ForContracts.Valid.{ValidTask}
 use Rattle.sheet.specs.Theory.Accepted.{accepted_valid}
 use Rattle.solving.specs.Judge.{first_holding}
 use Rattle.solving.specs.Theory.Judge.{first_holding_pos, first_holding_is, first_holding_low}
-use Rattle.solving.specs.Theory.Solve.{solve_exact, solved_line_count}
+use Rattle.solving.proofs.Theory.Solve.{solve_exact, solved_line_count}
 use Rattle.reducing.specs.Test.{BothSolve, holding_in, holding_line, line_test, EverySolves}
-use Rattle.reducing.specs.Theory.Reference.{line_test_is}
+use Rattle.reducing.proofs.Theory.Reference.{line_test_is}
 use Rattle.reducing.specs.Walks.{equation_line, WalkRefusal, first_refusal}
 use Rattle.outcomes.specs.Buffer.{fields, refusal_byte, cleared, blanked}
 use Rattle.outcomes.specs.Asked.{found, find, asked, Judgement, values_in, judgement_in, judgement_task}

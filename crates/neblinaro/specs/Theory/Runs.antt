@@ -15,7 +15,7 @@ use Rattle.sheet.specs.Reading.{Reading, refused_at, accepted, read}
 use Rattle.sheet.specs.ForContracts.Valid.{ValidTask}
 use Rattle.sheet.specs.Theory.Accepted.{accepted_valid}
 use Rattle.reducing.specs.Test.{reference_run, EverySolves}
-use Rattle.reducing.specs.Theory.Reference.{run_is_reference_run, run_descending}
+use Rattle.reducing.proofs.Theory.Reference.{run_is_reference_run, run_descending}
 use Rattle.reducing.specs.Walks.{WalkRefusal, first_refusal}
 use Rattle.outcomes.specs.Buffer.{refusal_byte}
 use Rattle.outcomes.specs.Asked.{found, find, asked, Reduction, reduction_in, reduction_task}

@@ -15,7 +15,7 @@ use Rattle.solving.specs.Line.{Bindings, lookup, Element, equal, greater, Line, 
 use Rattle.solving.specs.Walk.{Walked, solved, refused, solve}
 use Rattle.solving.specs.ForContracts.Within.{AllWithin}
 use Rattle.solving.specs.ForContracts.Written.{Inequalities, WrittenLines}
-use Rattle.solving.specs.Theory.Solve.{solve_exact, solved_lines}
+use Rattle.solving.proofs.Theory.Solve.{solve_exact, solved_lines}
 use Rattle.outcomes.specs.Buffer.{fields, refusal_byte, cleared}
 use Rattle.outcomes.specs.Asked.{found, find, asked, directed_in, direction_asked}
 use Rattle.outcomes.specs.Outcome.{table_fits, table_unsolved, directed_answer, directed_call, solve_walked, solve_directed, solve_call}

@@ -5,11 +5,11 @@ use Rattle.format.specs.Buffer.{written}
 use Rattle.format.specs.Theory.Lists.{every_entry}
 use Rattle.terms.specs.Filling.{filling}
 use Rattle.terms.specs.ForContracts.Limits.{WithinLimits}
-use Rattle.ordering.specs.Theory.Accessible.{ground_accessible}
+use Rattle.path_order.proofs.Theory.Accessible.{ground_accessible}
 use Rattle.ordering.specs.Theory.Descent.{no_endless_descent}
 use Rattle.sheet.specs.Theory.Accepted.{accepted_valid}
 use Rattle.solving.specs.Line.{records}
-use Rattle.termination.specs.Theory.Walks.{walk_unlimited, ends_as_solved, walk_ends_once, deeper_walk}
+use Rattle.termination.proofs.Theory.Walks.{walk_unlimited, ends_as_solved, walk_ends_once, deeper_walk}
 use Rattle.termination.specs.Theory.Reduction.{no_endless_reduction}
 use Rattle.termination.specs.Theory.Runs.{run_ends, ends_as_run, run_ends_once}
 use Rattle.outcomes.specs.Buffer.{fields}

@@ -18,7 +18,7 @@ use Rattle.ordering.specs.Verdict.{verdict, verdict_number}
 use Rattle.ordering.specs.Decision.{decision, verdict_of, clause_number_of}
 use Rattle.ordering.specs.Theory.Verdict.{number_few, number_unique}
 use Rattle.ordering.specs.Theory.Total.{VerdictSays, verdict_exact}
-use Rattle.ordering.specs.Theory.Decision.{decision_verdict, DecisionSays, decision_exact, decision_unique}
+use Rattle.ordering.proofs.Theory.Decision.{decision_verdict, DecisionSays, decision_exact, decision_unique}
 use Rattle.sheet.specs.Sheet.{Task, run, judgement, comparison, Sheet}
 use Rattle.sheet.specs.Reading.{Reading, refused_at, accepted, read}
 use Rattle.sheet.specs.ForContracts.Valid.{ValidTask}

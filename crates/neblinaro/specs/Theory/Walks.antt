@@ -12,7 +12,7 @@ use Rattle.sheet.specs.Theory.Accepted.{accepted_valid}
 use Rattle.solving.specs.Line.{Line}
 use Rattle.solving.specs.Walk.{enough, solved, over_limit, opening, solve}
 use Rattle.solving.specs.Always.{answered, always}
-use Rattle.solving.specs.Theory.Always.{always_no, yes_reached}
+use Rattle.solving.proofs.Theory.Always.{always_no, yes_reached}
 use Rattle.solving.specs.Theory.Invariant.{walk_keeps}
 use Rattle.outcomes.specs.Buffer.{field_limit}
 use Rattle.neblinaro.specs.Demands.{TurnsFit}

@@ -2,7 +2,7 @@
 use Rattle.std.specs.Prelude.{ℕ, ◌<◌, ◌≡◌, refl, ◌↔◌}
 use Rattle.std.proofs.Common.{arith}
 use Rattle.terms.specs.Term.{Term, Terms, var, app}
-use Rattle.ordering.specs.Order.{◌≻◌, L1, L2, L3, SomeReaches, ExceedsAll, Lexicographic}
+use Rattle.path_order.specs.Order.{◌≻◌, L1, L2, L3, SomeReaches, ExceedsAll, Lexicographic}
 use Rattle.ordering.specs.Clause.{Clause, by_L1, by_L2, by_L3, clause_of, Applies}
 
 -- The clause of a derivation applies.

@@ -3,11 +3,11 @@ use Rattle.std.specs.Prelude.{ℕ, ◌≡◌, refl}
 use Rattle.std.proofs.Math.Decide.{ℕ_discrete, dec_lt}
 use Rattle.terms.specs.Term.{Term, Terms, var, app, nil, cons, identical?}
 use Rattle.terms.specs.Theory.Induction.{Each, each_nil, each_cons, term_ind}
-use Rattle.ordering.specs.Order.{◌≻◌, SomeReaches, here_equal, here_greater, there, ExceedsAll, none, more, Lexicographic, at_first, at_later}
+use Rattle.path_order.specs.Order.{◌≻◌, SomeReaches, here_equal, here_greater, there, ExceedsAll, none, more, Lexicographic, at_first, at_later}
 use Rattle.ordering.specs.Clause.{Clause, by_L1, by_L2, by_L3, Applies}
 use Rattle.ordering.specs.Theory.Clause.{none_applies, L1-asks, L2-asks, L3-asks, var_not_L2, var_not_L3}
-use Rattle.ordering.specs.Theory.Subterm.{var_exceeds_nothing}
-use Rattle.ordering.specs.Theory.Laws.{≻_irrefl}
+use Rattle.path_order.proofs.Theory.Subterm.{var_exceeds_nothing}
+use Rattle.path_order.proofs.Theory.Laws.{≻_irrefl}
 
 abbrev Decided : Term → Term → Type 0
 Decided s t = Dec (s ≻ t)

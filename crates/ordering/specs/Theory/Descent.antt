@@ -2,9 +2,9 @@
 use Rattle.std.specs.Prelude.{ℕ, suc, ◌≡◌, refl, List}
 use mathlib.Core.WellFounded.{Acc}
 use Rattle.terms.specs.Term.{Term, Ground}
-use Rattle.ordering.specs.Order.{◌≻◌}
-use Rattle.ordering.specs.Below.{Below}
-use Rattle.ordering.specs.Theory.Accessible.{below_well_founded}
+use Rattle.path_order.specs.Order.{◌≻◌}
+use Rattle.path_order.specs.Below.{Below}
+use Rattle.path_order.proofs.Theory.Accessible.{below_well_founded}
 use Rattle.ordering.specs.Theory.Decide.{exceeds?}
 
 module _ (arities : List ℕ) (s : ℕ → Term) (is_ground : (i : ℕ) → Ground arities (s i)) where

@@ -2,7 +2,7 @@
 use Rattle.std.specs.Prelude.{ℕ, ◌≡◌, refl}
 use Rattle.terms.specs.Term.{Term, app, nil, cons}
 use Rattle.std.proofs.Common.{arith}
-use Rattle.ordering.specs.Order.{L1, here_equal, here_greater, there, none, more, at_first}
+use Rattle.path_order.specs.Order.{L1, here_equal, here_greater, there, none, more, at_first}
 use Rattle.ordering.specs.Clause.{by_L1, by_L2, by_L3, Applies}
 use Rattle.ordering.specs.Theory.Clause.{L2-asks, L3-asks}
 use Rattle.ordering.specs.Decision.{smaller_by, equal_terms, greater_by, decision}

@@ -7,7 +7,7 @@ use native.Mathlib.Omega.{arith}
 use Rattle.terms.specs.Term.{Term, Terms, app, nil, cons, count, nth}
 use Rattle.ordering.specs.Clause.{Clause, by_L1, by_L2, by_L3, clause_of, Applies}
 use Rattle.ordering.specs.Theory.Clause.{applied, L1-asks, L2-asks, L3-asks}
-use Rattle.ordering.specs.Order.{◌≻◌, SomeReaches, here_equal, here_greater, there, ExceedsAll, none, more, Lexicographic, at_first, at_later}
+use Rattle.path_order.specs.Order.{◌≻◌, SomeReaches, here_equal, here_greater, there, ExceedsAll, none, more, Lexicographic, at_first, at_later}
 
 -- s is `app f ss` and t is `app g ts`; m is `count ss` and n is `count ts`; si is `nth ss i d` and ti is `nth ts i d`.
 -- (`nth` gives `d` beyond the end of a list, and no place beyond the end is asked for.)

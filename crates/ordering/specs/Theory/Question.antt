@@ -4,9 +4,9 @@ use Rattle.std.specs.Prelude.{ℕ, ◌<◌, ◌≡◌, refl, ◌↔◌}
 use Rattle.std.proofs.Common.{arith}
 use Rattle.terms.specs.Term.{Term, Terms, app, nil, cons}
 use Rattle.terms.specs.Theory.Append.{append}
-use Rattle.ordering.specs.Order.{◌≻◌, L1, L2, L3, SomeReaches, here_equal, here_greater, there, ExceedsAll, Lexicographic, at_first, at_later}
-use Rattle.ordering.specs.Theory.Subterm.{reached_exceeded}
-use Rattle.ordering.specs.Theory.Laws.{≻_trans, ≻_irrefl, ≻_asym}
+use Rattle.path_order.specs.Order.{◌≻◌, L1, L2, L3, SomeReaches, here_equal, here_greater, there, ExceedsAll, Lexicographic, at_first, at_later}
+use Rattle.path_order.proofs.Theory.Subterm.{reached_exceeded}
+use Rattle.path_order.proofs.Theory.Laws.{≻_trans, ≻_irrefl, ≻_asym}
 use Rattle.ordering.specs.Theory.Decide.{all_tail, lexicographic_nil_left, lexicographic_nil_right, lexicographic_tail, lexicographic_head}
 use Rattle.ordering.specs.Verdict.{smaller}
 use Rattle.ordering.specs.Theory.Verdict.{Means, some_later}

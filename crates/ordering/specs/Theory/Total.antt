@@ -5,9 +5,9 @@ use Rattle.std.proofs.Common.{sym, subst, inl, inr, arith}
 use Rattle.std.proofs.Math.Decide.{ℕ_discrete, dec_lt}
 use Rattle.terms.specs.Term.{Term, Terms, app, nil, cons, count, Ground, Grounds, identical?}
 use Rattle.terms.specs.Theory.Induction.{Each, each_nil, each_cons, each_map, term_ind}
-use Rattle.ordering.specs.Order.{◌≻◌, L1, L2, L3, SomeReaches, here_equal, here_greater, there, ExceedsAll, none, more, Lexicographic, at_first, at_later}
+use Rattle.path_order.specs.Order.{◌≻◌, L1, L2, L3, SomeReaches, here_equal, here_greater, there, ExceedsAll, none, more, Lexicographic, at_first, at_later}
 use Rattle.ordering.specs.Verdict.{Verdict, smaller, equal, greater, verdict}
-use Rattle.ordering.specs.Theory.Laws.{≻_irrefl, ≻_asym}
+use Rattle.path_order.proofs.Theory.Laws.{≻_irrefl, ≻_asym}
 use Rattle.ordering.specs.Theory.Decide.{exceeds?}
 
 -- Exactly one of s > t, s = t, t > s.

@@ -2,9 +2,9 @@
 use Rattle.std.specs.Prelude.{◌<◌, ◌≡◌, refl}
 use Rattle.std.proofs.Common.{sym, subst, ◌∙◌, arith}
 use Rattle.terms.specs.Term.{Term, Terms, cons, identical?}
-use Rattle.ordering.specs.Order.{◌≻◌, SomeReaches, here_equal, here_greater, there}
+use Rattle.path_order.specs.Order.{◌≻◌, SomeReaches, here_equal, here_greater, there}
 use Rattle.ordering.specs.Verdict.{Verdict, smaller, equal, greater, verdict, verdict_number}
-use Rattle.ordering.specs.Theory.Laws.{≻_irrefl}
+use Rattle.path_order.proofs.Theory.Laws.{≻_irrefl}
 use Rattle.ordering.specs.Theory.Decide.{exceeds?}
 
 abbrev pub Means : Verdict → Term → Term → Type 0

@@ -8,8 +8,8 @@ use Rattle.solving.specs.Line.{Bindings, Element, equal, greater, Line, line}
 use Rattle.solving.specs.Walk.{solved, solve}
 use Rattle.solving.specs.ForContracts.Seen.{Reaches, stays, goes}
 use Rattle.solving.specs.Theory.Seen.{Reduced, left_variable, right_variable, bound_variable}
-use Rattle.solving.specs.Theory.Reduced.{AllReduced, Finished}
-use Rattle.solving.specs.Theory.Solve.{solved_reduced, solved_lines}
+use Rattle.solving.proofs.Theory.Reduced.{AllReduced, Finished}
+use Rattle.solving.proofs.Theory.Solve.{solved_reduced, solved_lines}
 use Rattle.rules.specs.ForContracts.Lines.{VariableAt, HaveVariable, AllHaveVariable, ProperLines}
 
 -- Only from a variable do the bindings lead on, so what leads to a variable is one.

@@ -5,7 +5,7 @@ use mathlib.Core.List.{List, [], ◌∷◌, ◌++◌, map}
 use Rattle.std.proofs.Math.Decide.{ℕ_discrete, dec_lt}
 use Rattle.terms.specs.Term.{Term, Terms, app, nil, cons}
 use Rattle.terms.specs.Theory.View.{values_at}
-use Rattle.ordering.specs.Order.{◌≻◌, L1, L2, L3, SomeReaches, here_equal, here_greater, there, ExceedsAll, none, more, Lexicographic, at_first, at_later}
+use Rattle.path_order.specs.Order.{◌≻◌, L1, L2, L3, SomeReaches, here_equal, here_greater, there, ExceedsAll, none, more, Lexicographic, at_first, at_later}
 use Rattle.solving.specs.Line.{Element, equal}
 use Rattle.solving.specs.Walk.{argument_choices, exceeds_each, lexicographic_choices, precedence_choices, same_symbol_choices, choices}
 use Rattle.solving.specs.Holds.{ElementHolds, ElementsHold}

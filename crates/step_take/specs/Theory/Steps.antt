@@ -9,7 +9,7 @@ use Rattle.terms.specs.Equation.{Equation, Direction, source, target}
 use Rattle.reducing.specs.Match.{Match, no_match, match, values_of}
 use Rattle.reducing.specs.Run.{Step, try}
 use Rattle.reducing.specs.Test.{line_test}
-use Rattle.reducing.specs.Theory.Step.{stepped, tested, outcome, try_is, try_some}
+use Rattle.reducing.proofs.Theory.Step.{stepped, tested, outcome, try_is, try_some}
 use Rattle.reducing.specs.ForContracts.Part.{part_at}
 
 -- What a possible step is, in the direction that was tried.

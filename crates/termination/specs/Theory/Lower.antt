@@ -17,9 +17,9 @@ use Rattle.solving.specs.ForContracts.Seen.{Reaches}
 use Rattle.solving.specs.ForContracts.Bindings.{Proper}
 use Rattle.solving.specs.ForContracts.Within.{Within, AllWithin}
 use Rattle.solving.specs.Theory.Rank.{reaches_le}
-use Rattle.solving.specs.Theory.Reach.{Sufficient, reach_reaches}
-use Rattle.solving.specs.Theory.Unified.{unify_gives}
-use Rattle.solving.specs.Theory.Table.{ProperTable, leftmost_proper}
+use Rattle.solving.proofs.Theory.Reach.{Sufficient, reach_reaches}
+use Rattle.solving.proofs.Theory.Unified.{unify_gives}
+use Rattle.solving.proofs.Theory.Table.{ProperTable, leftmost_proper}
 use Rattle.termination.specs.Theory.Unbound.{unbound_count, Narrows, unified_narrows}
 use Rattle.termination.specs.Theory.Weight.{power, power_pos, power_step, weight, weigh, weigh_append, Light, light_choices}
 use Rattle.termination.specs.Theory.Turns.{Halts, halts_append, halts_nil, halts_finished, halts_treated}

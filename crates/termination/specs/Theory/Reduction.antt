@@ -10,8 +10,8 @@ use Rattle.terms.specs.Theory.Replace.{ground_replace}
 use Rattle.ordering.specs.Theory.Descent.{no_endless_descent}
 use Rattle.sheet.specs.ForContracts.Valid.{ValidEquation}
 use Rattle.reducing.specs.Reduction.{Reduces}
-use Rattle.reducing.specs.Theory.Reference.{reduces_exceeds}
-use Rattle.reducing.specs.Theory.Variables.{filled_ground}
+use Rattle.reducing.proofs.Theory.Reference.{reduces_exceeds}
+use Rattle.reducing.proofs.Theory.Variables.{filled_ground}
 
 target_fits : {arities : List ℕ} {e : Equation} → ValidEquation arities e → (d : Direction) → Fits arities (target e d)
 unfolding target

@@ -11,17 +11,17 @@ use Rattle.format.specs.Theory.Lists.{every_map}
 use Rattle.terms.specs.Term.{Term, Ground}
 use Rattle.terms.specs.Equation.{Equation}
 use Rattle.terms.specs.ForContracts.Limits.{WithinLimits}
-use Rattle.ordering.specs.Order.{◌≻◌}
-use Rattle.ordering.specs.Below.{Below}
-use Rattle.ordering.specs.Theory.Accessible.{ground_accessible}
+use Rattle.path_order.specs.Order.{◌≻◌}
+use Rattle.path_order.specs.Below.{Below}
+use Rattle.path_order.proofs.Theory.Accessible.{ground_accessible}
 use Rattle.sheet.specs.ForContracts.Valid.{ValidEquation}
 use Rattle.reducing.specs.declared.ending.Ending.TheVariants.{NoneFound as none_found}
 use Rattle.reducing.specs.Reduction.{Reduces}
 use Rattle.reducing.specs.Run.{Step, Run, after_step, step, run_within_with, run_within}
 use Rattle.reducing.specs.Test.{EverySolves, line_test, reference_test, line_run}
-use Rattle.reducing.specs.Theory.Step.{step_taken}
-use Rattle.reducing.specs.Theory.Runs.{Runs, no_step as none_left, all_done, too_large, one_step as step_then, run_runs, step_same}
-use Rattle.reducing.specs.Theory.Reference.{reduces_exceeds, taken_step, all_agree, all_exact}
+use Rattle.reducing.proofs.Theory.Step.{step_taken}
+use Rattle.reducing.proofs.Theory.Runs.{Runs, no_step as none_left, all_done, too_large, one_step as step_then, run_runs, step_same}
+use Rattle.reducing.proofs.Theory.Reference.{reduces_exceeds, taken_step, all_agree, all_exact}
 use Rattle.termination.specs.Run.{run_allowed, RunEnds}
 use Rattle.termination.specs.Theory.Reduction.{reduces_ground}
 

@@ -1,5 +1,5 @@
 -- With more variables than the equations have, matches give the same values, and runs take the same steps.
-use Rattle.std.specs.Prelude.{ℕ, ◌+◌, ◌<◌, ◌≡◌, refl, Bool, true, false, List, [], ◌∷◌, length, get_or, ltb}
+use Rattle.std.specs.Prelude.{ℕ, ◌+◌, ◌<◌, ◌≡◌, refl, Bool, true, false, List, length, get_or, ltb}
 use Rattle.std.proofs.Math.Path.{ap}
 use Rattle.std.proofs.Common.{◌∙◌}
 use Rattle.std.proofs.Math.Option
@@ -15,8 +15,8 @@ use Rattle.terms.specs.ForContracts.Limits.{VariablesBelow, AllVariablesBelow}
 use Rattle.reducing.specs.Match.{Match, unmet, meet, match, match_each, values_of}
 use Rattle.reducing.specs.Run.{Step, try_with}
 use Rattle.reducing.specs.Test.{line_test_with, line_run_with}
-use Rattle.reducing.specs.Theory.Step.{tested}
-use Rattle.reducing.specs.Theory.Runs.{SameTries, run_same_with}
+use Rattle.reducing.proofs.Theory.Step.{tested}
+use Rattle.reducing.proofs.Theory.Runs.{SameTries, run_same_with}
 use Rattle.twelve_variables.specs.Theory.Padded.{padded}
 use Rattle.twelve_variables.specs.Theory.Few.{Few}
 use Rattle.twelve_variables.specs.Theory.Slots.{padded_free, padded_get_or, Alike, alike_padded, alike_set, alike_then, alike_if}

@@ -9,9 +9,9 @@ use Rattle.terms.specs.Theory.Positions.{source_within, target_within}
 use Rattle.terms.specs.Theory.View.{Layout, layout_below}
 use Rattle.solving.specs.Line.{Bindings, greater, line}
 use Rattle.solving.specs.Walk.{enough_with, over_limit, opening, walk_until, solve_with}
-use Rattle.solving.specs.Theory.Reach.{Sufficient}
-use Rattle.solving.specs.Theory.Fuel.{walk_until_fuel}
-use Rattle.solving.specs.Theory.Whole.{opening_proper}
+use Rattle.solving.proofs.Theory.Reach.{Sufficient}
+use Rattle.solving.proofs.Theory.Fuel.{walk_until_fuel}
+use Rattle.solving.proofs.Theory.Whole.{opening_proper}
 use Rattle.twelve_variables.specs.Theory.Padded.{padded_walk}
 use Rattle.twelve_variables.specs.Theory.Few.{Few}
 use Rattle.twelve_variables.specs.Theory.Slots.{padded_free}

@@ -17,8 +17,8 @@ use Rattle.terms.specs.Position.{Node, var_node, app_node}
 use Rattle.terms.specs.Theory.View.{Layout}
 use Rattle.solving.specs.Line.{Bindings, Element, equal, greater, Line, line}
 use Rattle.solving.specs.Walk.{Fuel, bound_to, follow, reach, occurs_in, occurs, bind_unless, unify_variables, unify_each, unify_nodes, unify, choices, Treatment, fully_reduced, becomes, unified, in_front, behind, treat_greater, treat, treat_leftmost, treat_line, turn, Walked, solved, refused, crowded, over_limit, walk_until}
-use Rattle.solving.specs.Theory.Reach.{Sufficient}
-use Rattle.solving.specs.Theory.Table.{ProperTable, turn_proper}
+use Rattle.solving.proofs.Theory.Reach.{Sufficient}
+use Rattle.solving.proofs.Theory.Table.{ProperTable, turn_proper}
 use Rattle.twelve_variables.specs.Theory.Padded.{padded, padded_line, padded_table, padded_walk}
 use Rattle.twelve_variables.specs.Theory.Slots.{padded_get_or, Alike, alike_padded, alike_set, alike_then, alike_if}
 

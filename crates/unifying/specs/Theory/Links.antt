@@ -8,7 +8,7 @@ use Rattle.solving.specs.Walk.{enough, reach}
 use Rattle.solving.specs.ForContracts.Seen.{Reaches, stays}
 use Rattle.solving.specs.ForContracts.Unified.{Unified as Unification}
 use Rattle.solving.specs.Theory.Seen.{reaches_unbound}
-use Rattle.solving.specs.Theory.Unified.{Extends, unified_extends}
+use Rattle.solving.proofs.Theory.Unified.{Extends, unified_extends}
 use Rattle.unifying.specs.declared.unify.UnifierAnswer.TheVariants.{Unified}
 use Rattle.bindings.specs.ForContracts.PrefixForm.{view_of}
 use Rattle.bindings.specs.ForContracts.Bindings.{bindings_of, Readable}

@@ -7,8 +7,8 @@ use Rattle.solving.specs.Line.{Bindings, lookup}
 use Rattle.solving.specs.ForContracts.Seen.{Reaches, stays, goes}
 use Rattle.solving.specs.ForContracts.Unified.{Unified as Unification, EachUnified, equal_variables, bound_left, bound_right, symbols, no_more, one_more}
 use Rattle.solving.specs.Theory.Seen.{bound_variable, symbol_unbound, variable_bound, reaches_unique}
-use Rattle.solving.specs.Theory.Bind.{bind_same}
-use Rattle.solving.specs.Theory.Unified.{Extends, each_extends}
+use Rattle.solving.proofs.Theory.Bind.{bind_same}
+use Rattle.solving.proofs.Theory.Unified.{Extends, each_extends}
 use Rattle.bindings.specs.ForContracts.PrefixForm.{view_of}
 use Rattle.bindings.specs.ForContracts.Bindings.{bindings_of, Readable}
 use Rattle.unifying.specs.ForContracts.Links.{Same, EachSame, one_position, one_variable, one_symbol, none_left, and_then}

@@ -14,10 +14,10 @@ use Rattle.solving.specs.Walk.{enough, reach, occurs, bind_unless, unify_variabl
 use Rattle.solving.specs.Theory.Seen.{variable_bound, reaches_unbound}
 use Rattle.solving.specs.ForContracts.Seen.{Reaches}
 use Rattle.solving.specs.Theory.Rank.{rank, rank_le, rank_down}
-use Rattle.solving.specs.Theory.Fuel.{unify_found}
+use Rattle.solving.proofs.Theory.Fuel.{unify_found}
 use Rattle.terms.specs.Theory.View.{In, head, tail}
-use Rattle.solving.specs.Theory.Reach.{enough_suffices, reach_reaches}
-use Rattle.solving.specs.Theory.Unified.{unified_proper, unify_gives}
+use Rattle.solving.proofs.Theory.Reach.{enough_suffices, reach_reaches}
+use Rattle.solving.proofs.Theory.Unified.{unified_proper, unify_gives}
 use Rattle.solving.specs.ForContracts.Unified.{Unified as Unification, EachUnified, equal_variables, symbols, no_more, one_more}
 use Rattle.unifying.specs.declared.unify.UnifierAnswer.{UnifierAnswer}
 use Rattle.unifying.specs.declared.unify.UnifierAnswer.TheVariants.{Unified, Failed}

@@ -6,7 +6,7 @@ use borrow.Author.Rules.{rules}
 use Rattle.listing.specs.Listing.{run_kind, digits, printed}
 use Rattle.listing.specs.Theory.Printed.{length_digits}
 use Rattle.listing.specs.Theory.Appended.{appended_join, appended_text}
-use Rattle.reducing.specs.Theory.Runs.{ending_low}
+use Rattle.reducing.proofs.Theory.Runs.{ending_low}
 use Rattle.frames.proofs.steps.put_run.Statement.{statement}
 use Rattle.frames.proofs.steps.put_run.Tie as tie
 

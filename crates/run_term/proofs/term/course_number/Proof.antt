@@ -2,7 +2,7 @@
 use mathlib.Core.Path.{ap, ◌∙◌}
 use native.Mathlib.Omega.{arith}
 use borrow.Author.Rules.{rules}
-use Rattle.reducing.specs.Theory.Runs.{ending_low}
+use Rattle.reducing.proofs.Theory.Runs.{ending_low}
 use Rattle.outcomes.specs.Buffer.{fields}
 use Rattle.run_term.proofs.term.course_number.Statement.{statement}
 use Rattle.run_term.proofs.term.course_number.Tie as tie

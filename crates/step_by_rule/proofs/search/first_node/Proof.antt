@@ -7,7 +7,7 @@ use denote.Enum.Declared.{tag_of}
 use Rattle.format.specs.Limits.{cell_count}
 use Rattle.rules.specs.contracts.keep.RuleKept.{the_type}
 use Rattle.terms.specs.Filling.{filling}
-use Rattle.reducing.specs.Theory.Step.{none_matches}
+use Rattle.reducing.proofs.Theory.Step.{none_matches}
 use Rattle.step_by_rule.proofs.RulewiseLaws.{none_for, source_there, kept_ends, kept_at_front, front_behind, scratch_after_walk, scratch_after_cells}
 use Rattle.step_by_rule.proofs.search.first_node.Statement.{statement}
 use Rattle.step_by_rule.proofs.search.first_node.Tie as tie

@@ -1,0 +1,13 @@
+pub mod Reach
+pub mod Bind
+pub mod Unified
+pub mod Values
+pub mod Table
+pub mod Fuel
+pub mod Complete
+pub mod Exact
+pub mod Reduced
+pub mod Written
+pub mod Whole
+pub mod Always
+pub mod Solve
