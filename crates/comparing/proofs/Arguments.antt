@@ -10,7 +10,7 @@ use Rattle.terms.specs.ForContracts.Arguments.{behind_first}
 use Rattle.terms.specs.Theory.Append.{append, arguments_differ, nil_cons, append_first, sizes_append}
 use Rattle.ordering.specs.declared.verdict.Verdict.{Verdict}
 use Rattle.ordering.specs.declared.verdict.Verdict.TheVariants.{Smaller as smaller, Equal as equal, Greater as greater}
-use Rattle.ordering.specs.Theory.Laws.{≻_irrefl}
+use Rattle.path_order.proofs.Theory.Laws.{≻_irrefl}
 use Rattle.ordering.specs.Theory.Question.{greater_argument, smaller_argument, more_arguments, fewer_arguments}
 use Rattle.ordering.specs.Theory.Verdict.{Means, verdict_told, told_equal}
 use Rattle.ordering.specs.Theory.Decide.{some_nil}

@@ -1,5 +1,5 @@
 -- `binding_holds` meets its contract: without a value, where the symbols differ, and by the verdict.
-use Rattle.ordering.specs.Theory.Decision.{verdict_of_equal, is_equal}
+use Rattle.ordering.proofs.Theory.Decision.{verdict_of_equal, is_equal}
 use Rattle.kept_lines.proofs.Answer.{so, not_so}
 use Rattle.kept_lines.proofs.Terms.{resolvable, readable, instance_node, has_instance, no_value, value_node, other_symbols, binding_equal, binding_other}
 use Rattle.kept_lines.proofs.holding.binding_holds.Goals as goal

@@ -1,5 +1,5 @@
 -- `inequality_holds` meets its contract, by symbols and sizes where these tell, else by the verdict of the two nodes, asked for in the one order or the other.
-use Rattle.ordering.specs.Theory.Decision.{verdict_of_smaller, verdict_of_greater, is_smaller, is_greater}
+use Rattle.ordering.proofs.Theory.Decision.{verdict_of_smaller, verdict_of_greater, is_smaller, is_greater}
 use Rattle.kept_lines.proofs.Answer.{so, not_so}
 use Rattle.kept_lines.proofs.Terms.{resolvable, readable, measurable, instance_node, has_instance, one_low, inequality_fails, inequality_told, inequality_greater, inequality_not_greater, inequality_smaller, inequality_not_smaller}
 use Rattle.kept_lines.proofs.holding.inequality_holds.Goals as goal
