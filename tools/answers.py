@@ -205,13 +205,13 @@ def turn_context(text, fn, place, var, helpers, where):
         rest = [WORDS.get(g, g) for g in fields[1:]]
         if s and rest and norm(rest[0]) in fn.renamed[s[2]]:
             rest[0] = fn.renamed[s[2]][norm(rest[0])]
-        if s and rest[:1] in (["new"], ["auto"]) and fn.callee[s[2]]:
+        if s and rest[:1] in (["new"], ["auto"], ["last"]) and fn.callee[s[2]]:
             params = fn.info["params"].get(fn.callee[s[2]]) or []
             k = 1
             while k < len(rest) and rest[k] == "1":
                 k += 1
             if k < len(rest) and rest[k] == "0" and k - 1 < len(params):
-                rest[: k + 1] = [rest[0], params[k - 1]]
+                rest[: k + 1] = ["new" if rest[0] == "last" else rest[0], params[k - 1]]
         if not isinstance(clauses, dict) or not clauses.get("fields"):
             return ".".join(out + rest)
         names = clauses["fields"]

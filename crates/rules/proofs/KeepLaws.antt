@@ -27,7 +27,7 @@ use Rattle.kept_lines.specs.ForContracts.Trimmed.{trimmed_lines, RecordsAre, Kep
 use Rattle.rules.specs.ForContracts.Rows.{RuleIs}
 use Rattle.rules.specs.ForContracts.Lines.{RuleLines}
 use Rattle.rules.specs.Theory.Proper.{walked_proper}
-use Rattle.rules.specs.Theory.Kept.{end, ends, records_there, solves, walked_lines}
+use Rattle.rules.specs.Theory.Kept.{ends, records_there, solves, walked_lines}
 
 -- 1. The walk is given the equation's bytes and sizes, and the direction's number.
 numbered_direction : (n i : ℕ) (d : Direction) → n ≡ 2 * i + direction_number d → direction_of (n % 2) ≡ some d

@@ -13,7 +13,7 @@ use Rattle.format.specs.Lists.{entry}
 use Rattle.format.specs.declared.refusal.Refusal.{Refusal}
 use Rattle.format.specs.Theory.Lists.{entry_length}
 use Rattle.terms.specs.Equation.{Equation, Direction}
-use Rattle.solving.specs.Walk.{solve, Solves}
+use Rattle.solving.specs.Walk.{Solves}
 use Rattle.walking.specs.ForContracts.Walking.{memory_bytes}
 use Rattle.line_bytes.specs.ForContracts.Layout.{placed}
 use Rattle.line_bytes.specs.Theory.Placed.{placed_length, drop_placed, slice_placed}

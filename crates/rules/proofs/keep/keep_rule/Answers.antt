@@ -1,6 +1,5 @@
 -- `keep_rule` walks a rule, and keeps the lines of its table.
 use mathlib.Core.Path.{refl}
-use borrow.Author.Rules.{rules}
 use Rattle.rules.proofs.KeepLaws.{lines_kept}
 use Rattle.rules.specs.Theory.Kept.{leaves_refused, records_there, full_kept}
 use Rattle.rules.proofs.keep.keep_rule.Goals as goal
@@ -18,9 +17,9 @@ returns-in-Refused c =
 pub returns-in-Full : goal.returns-in-Full
 returns-in-Full c =
     let solved = c.in-Solved.is in
-    record { by_index = λ arities i e d is. full_kept is.row.limits d (c.walk_rule-walked.ensures.by_index arities i e d is) solved _ _ _ c.keep_lines.result c.keep_lines.ensures c.in-Full.is; scratch_unchanged = c.walk_rule-walked.ensures.scratch_unchanged }
+    record { by_index = λ arities i e d is. full_kept is.row.limits d (c.walk_rule-walked.ensures.by_index arities i e d is) solved c.args.start c.args.table.now c.keep_lines.new.table c.keep_lines.result c.keep_lines.ensures c.in-Full.is; scratch_unchanged = c.walk_rule-walked.ensures.scratch_unchanged }
 
 pub returns-in-End : goal.returns-in-End
 returns-in-End c =
     let solved = c.in-Solved.is in
-    record { by_index = λ arities i e d is. lines_kept is.row.limits d (c.walk_rule-walked.ensures.by_index arities i e d is) solved _ _ _ c.keep_lines.result c.keep_lines.ensures c.in-End.is; scratch_unchanged = c.walk_rule-walked.ensures.scratch_unchanged }
+    record { by_index = λ arities i e d is. lines_kept is.row.limits d (c.walk_rule-walked.ensures.by_index arities i e d is) solved c.args.start c.args.table.now c.keep_lines.new.table c.keep_lines.result c.keep_lines.ensures c.in-End.is; scratch_unchanged = c.walk_rule-walked.ensures.scratch_unchanged }

@@ -2,7 +2,6 @@
 use mathlib.Core.Path.{sym, ◌∙◌}
 use native.Mathlib.Omega.{arith}
 use lib.ListN.{drop}
-use borrow.Author.Rules.{rules}
 use Rattle.walking.specs.ForContracts.Walking.{memory_bytes}
 use Rattle.solve_equation.specs.Theory.Memory.{behind_kept, walk_room}
 use Rattle.rules.proofs.KeepLaws.{rule_direction, leaves_longer}
@@ -41,6 +40,9 @@ walk_direction-requires c =
 
 pub returns : goal.returns
 returns c =
-    let whole = c.walk_direction.auto.memory in record { by_index = λ arities i e d is.
+    let whole = c.walk_direction.auto.memory in record {
+      by_index = λ arities i e d is.
           leaves_longer (c.walk_direction.ensures e d (sides_there is c.wide.ensures.value c.wide-2.ensures.value) (rule_direction is)) (drop memory_bytes c.args.scratch.now)
-          (whole ∙ sym (walk_room c.args.scratch.now c.requires.1)); scratch_unchanged = behind_kept c.args.scratch.now c.walk_direction.new.memory c.requires.1 whole }
+          (whole ∙ sym (walk_room c.args.scratch.now c.requires.1));
+      scratch_unchanged = behind_kept c.args.scratch.now c.walk_direction.new.memory c.requires.1 whole;
+    }

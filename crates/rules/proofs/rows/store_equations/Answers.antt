@@ -1,9 +1,7 @@
 -- Goals of `store_equations`.
-use Prim.Native.Nat.{◌-◌}
 use native.Mathlib.Omega.{arith}
-use borrow.Author.Rules.{rules}
 use Rattle.scanning.specs.Theory.Arities.{symbols_room, symbols_taken}
-use Rattle.rules.proofs.StoreLaws.{arities_few, Storing, none_stored, all_stored, row_low, room_for_equation, row_measurable, one_more_stored}
+use Rattle.rules.proofs.StoreLaws.{arities_few, none_stored, all_stored, row_low, room_for_equation, row_measurable, one_more_stored}
 use Rattle.rules.proofs.rows.store_equations.Goals as goal
 
 pub loop-e-init : goal.loop-e-init

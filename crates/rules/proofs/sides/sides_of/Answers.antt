@@ -1,6 +1,5 @@
 -- `sides_of` reads where the sides of a rule stand off the sizes in its row.
 use native.Mathlib.Omega.{arith}
-use borrow.Author.Rules.{rules}
 use Rattle.rules.proofs.RowLaws.{even_sides, odd_sides}
 use Rattle.rules.specs.Theory.Rows.{row_low, second_low, row_end, row_room}
 use Rattle.rules.proofs.sides.sides_of.Goals as goal

@@ -1,12 +1,10 @@
 -- Goals of `keep_rules`.
-use Prim.Native.Nat.{◌-◌}
 use mathlib.Core.Path.{◌∙◌}
-use mathlib.Core.Logic.{⊎_elim}
 use native.Mathlib.Omega.{arith}
-use borrow.Author.Rules.{rules}
-use Rattle.rules.proofs.WalkLaws.{Walking, Turn, walking_start, walk_refused, refused_behind, turn_full, turn_kept, turn_unkept, all_solve, all_kept}
+use Rattle.rules.proofs.WalkLaws.{Turn, walking_start, walk_refused, refused_behind, turn_full, turn_kept, turn_unkept, all_solve, all_kept}
 use Rattle.rules.specs.Theory.Rows.{rule_there}
 use Rattle.rules.proofs.walks.keep_rules.Goals as goal
+use Rattle.rules.proofs.walks.keep_rules.Goals.{After-keep_rule, in-Full, in-End+then-fits, in-End+else-fits}
 
 pub loop-rule-init : goal.loop-rule-init
 loop-rule-init c = walking_start _ _ _ _ _ c.args.bounds.now c.requires.has_rows.1
@@ -17,36 +15,32 @@ keep_rule-requires c =
     record { has_rule_in = (rule_there c.requires.has_rows.0 c.loop-rule-test.true, omega (arith, k.scratch_length, c.requires.table_bytes_in_bounds.1)); start_le_table_bytes = (k.within, omega (arith, k.table_length, c.requires.table_bytes_in_bounds.0)) }
 
 -- What is known behind the walk of a rule.
-turn_at :
-    (c : tie.After-keep-rule invariant-loop decreases-loop) → let entry = c.before.before.before.before.before.before.before.before.before.before in
-    let loop = c.before.before.before.before.loop in
-    let answer = c.keep-rule in
-    Turn entry.args.equations.now entry.args.lengths.now entry.args.count entry.args.table.now entry.args.scratch.now loop.bounds loop.table loop.scratch loop.fits loop.start loop.rule answer.result answer.new.1.1.1.0 answer.new.1.1.1.1.1.0
+turn_at : (c : After-keep_rule) → Turn c.args.equations.now c.args.lengths.now c.args.count c.args.table.now c.args.scratch.now c.loop-rule.bounds c.loop-rule.table c.loop-rule.scratch c.loop-rule.fits c.loop-rule.start c.loop-rule.rule c.keep_rule.result c.keep_rule.new.table c.keep_rule.new.scratch
 turn_at c =
-    let entry = c.before.before.before.before.before.before.before.before.before.before in
-    let answer = c.keep-rule in
     record {
-      has = entry.requires.0.0;
-      low = c.before.before.before.loop-test.true;
-      room = entry.requires.1.0;
-      walking = c.before.before.before.before.loop.invariant;
-      answer = answer.ensures.0;
-      same_table = answer.auto.1.1.1.0;
-      same_scratch = answer.auto.1.1.1.1.1.0;
-      scratch_rest = answer.ensures.1;
+      has = c.requires.has_rows.0;
+      low = c.loop-rule-test.true;
+      room = c.requires.table_bytes_in_bounds.0;
+      walking = c.loop-rule.invariant;
+      answer = c.keep_rule.ensures.by_index;
+      same_table = c.keep_rule.auto.table;
+      same_scratch = c.keep_rule.auto.scratch;
+      scratch_rest = c.keep_rule.ensures.scratch_unchanged;
     }
 
 pub returns-in-Refused : goal.returns-in-Refused
 returns-in-Refused c =
-    let t = turn_at c in
+    let t = turn_at (goal.at.returns-in-Refused c).After-keep_rule in
     record { by_index = walk_refused t c.in-Refused.is; table_unchanged = refused_behind t c.in-Refused.is; scratch_unchanged = c.keep_rule.ensures.scratch_unchanged ∙ c.loop-rule.invariant.scratch_behind }
 
 pub loop-rule-preserved : goal.loop-rule-preserved
 loop-rule-preserved c =
-    let t = turn_at c in
-    ⊎_elim (λ w. turn_full t w.1.given.1 w.2 w.3)
-    (⊎_elim (λ w. turn_kept t w.1.given.1 w.4 w.5) (λ w. turn_unkept t w.1.given.1 w.4 w.3.left w.5))
-    c.match-keep_rule.branch
+    let t = turn_at (goal.at.loop-rule-preserved c).After-keep_rule in
+    elim c.match-keep_rule.branch [
+      | in-Full w ↦ turn_full t w.in-Full.is w.fits-is w.start-is
+      | in-End+then-fits w ↦ turn_kept t w.in-End.is w.fits-is w.start-is
+      | in-End+else-fits w ↦ turn_unkept t w.in-End.is w.fits-is w.if-fits.false w.start-is
+    ]
 
 pub returns-then-fits-2 : goal.returns-then-fits-2
 returns-then-fits-2 c =

@@ -1,0 +1,14 @@
+-- `count_bindings` counts the variables that are bound. The invariant: those before `v` are counted.
+use Prim.Native.Nat.{◌-◌}
+use mathlib.Core.Logic.{⊎_elim}
+use native.Mathlib.Omega.{arith}
+use borrow.Author.Rules.{rules}
+use Rattle.format.specs.Limits.{variable_count}
+use Rattle.frames.proofs.BindingLaws.{Counted, none_counted, counted_bound, counted_free, counted_moved, all_counted}
+use Rattle.frames.proofs.line.count_bindings.Given as goal
+
+abbrev pub invariant-loop-v : goal.invariant-loop-v
+invariant-loop-v l = Counted l.bytes l.n l.v
+
+abbrev pub decreases-loop-v : goal.decreases-loop-v
+decreases-loop-v l = variable_count - l.v

@@ -1,0 +1,39 @@
+-- Goals of `put_bindings`.
+use Prim.Native.Nat.{◌-◌}
+use mathlib.Core.Logic.{⊎_elim}
+use native.Mathlib.Omega.{arith}
+use borrow.Author.Rules.{rules}
+use Rattle.format.specs.Limits.{variable_count}
+use Rattle.listing.specs.Listing.{digits}
+use Rattle.frames.proofs.BindingLaws.{BindingsPassed, no_binding_passed, free_passed, bound_there, bound_passed, passed_moved, bindings_passed}
+use Rattle.frames.proofs.ElementLaws.{all_bytes}
+use Rattle.frames.proofs.line.put_bindings.Goals as goal
+
+pub loop-v-init : goal.loop-v-init
+loop-v-init c = no_binding_passed _ _ _ _ _
+
+pub bounds-bytes-v : goal.bounds-bytes-v
+bounds-bytes-v c = omega (arith, all_bytes c.requires.0, c.loop-v-test.true)
+
+pub put_byte-behind-requires : goal.put_byte-behind-requires
+put_byte-behind-requires c = omega (arith, c.loop-v.invariant.reached, c.loop-v.invariant.same_length, c.loop-v-test.true, c.requires.1)
+
+pub put_term-to-requires : goal.put_term-to-requires
+unfolding digits
+put_term-to-requires c =
+    let h = c.loop-v-test.true in
+    (bound_there c.loop-v.invariant h c.if-p-lt-NO_POSITION.true c.wide.ensures.value c.requires.0, omega (arith, c.loop-v.invariant.reached, c.loop-v.invariant.same_length, h, c.put_byte-behind.ensures.ends, c.put_byte-behind.ensures.same_length, c.requires.1))
+
+pub loop-v-preserved : goal.loop-v-preserved
+loop-v-preserved c =
+    let h = c.loop-v-test.true in
+    ⊎_elim
+    (λ w. passed_moved w.10 w.11 (bound_passed c.loop-v.invariant h w.0.taken w.5.ensures.0 w.2.ensures w.7.ensures.0 w.7.ensures.1 w.8.given))
+    (λ w. passed_moved w.1 w.2 (free_passed c.loop-v.invariant h w.0.left))
+    c.if-p-lt-NO_POSITION.branch
+
+pub shape_of-out : goal.shape_of-out
+shape_of-out c = c.loop-v.invariant.same_length
+
+pub returns : goal.returns
+returns c = record { appended = bindings_passed c.loop-v.invariant c.loop-v-test.false; upper_bound = omega (arith, c.loop-v.invariant.reached, c.loop-v.invariant.within) }

@@ -1,0 +1,42 @@
+-- Goals of `put_elements`.
+use Prim.Native.Nat.{◌-◌}
+use native.Mathlib.Omega.{arith}
+use borrow.Author.Rules.{rules}
+use Rattle.frames.proofs.ElementLaws.{ElementsPassed, no_element_passed, element_passed, elements_passed, few_elements, all_bytes, left_there, right_there}
+use Rattle.frames.proofs.line.put_elements.Goals as goal
+
+pub bounds-bytes-12 : goal.bounds-bytes-12
+bounds-bytes-12 c = omega (arith, all_bytes c.requires.0)
+
+pub loop-i-init : goal.loop-i-init
+loop-i-init c = no_element_passed _ _ _ _ _
+
+pub bounds-bytes-pair : goal.bounds-bytes-pair
+bounds-bytes-pair c = let r = c.requires.0 in omega (arith, all_bytes r, few_elements r, c.wide-count.ensures.value, c.loop-i-test.true)
+
+pub put_term-behind-requires : goal.put_term-behind-requires
+put_term-behind-requires c =
+    let r = c.requires.0 in
+    let n = c.wide-count.ensures.value in
+    (left_there r (omega (arith, n, c.loop-i-test.true)) c.wide.ensures.value, omega (arith, few_elements r, n, c.loop-i-test.true, c.loop-i.invariant.reached, c.loop-i.invariant.same_length, c.requires.1))
+
+pub bounds-bytes-pair-in-loop-i : goal.bounds-bytes-pair-in-loop-i
+bounds-bytes-pair-in-loop-i c =
+    let r = c.requires.0 in omega (arith, all_bytes r, few_elements r, c.wide-count.ensures.value, c.loop-i-test.true)
+
+pub put_term-to-requires : goal.put_term-to-requires
+put_term-to-requires c =
+    let r = c.requires.0 in
+    let n = c.wide-count.ensures.value in
+    (right_there r (omega (arith, n, c.loop-i-test.true)) c.wide-in-loop-i.ensures.value, omega (arith, few_elements r, n, c.loop-i-test.true, c.loop-i.invariant.reached, c.loop-i.invariant.same_length, c.put_term-behind.ensures.upper_bound, c.out-1.given, c.requires.1))
+
+pub loop-i-preserved : goal.loop-i-preserved
+loop-i-preserved c =
+    element_passed c.loop-i.invariant (omega (arith, c.wide-count.ensures.value, c.loop-i-test.true)) c.wide.ensures.value c.put_term-behind.ensures.appended c.put_term-behind.ensures.upper_bound c.out-1.given c.wide-in-loop-i.ensures.value c.put_term-to.ensures.appended c.put_term-to.ensures.upper_bound c.out-in-loop-i-1.given
+
+pub shape_of-out : goal.shape_of-out
+shape_of-out c = c.loop-i.invariant.same_length
+
+pub returns : goal.returns
+returns c = let n = c.wide-count.ensures.value in
+    record { appended = elements_passed c.loop-i.invariant (omega (arith, n, c.loop-i-test.false)); upper_bound = omega (arith, c.loop-i.invariant.reached, c.loop-i.invariant.within, few_elements c.requires.0) }
