@@ -188,6 +188,8 @@ def turn_context(text, fn, place, var, helpers, where):
         if not fields:
             return "\0CTX\0"
         f = WORDS.get(fields[0], fields[0])
+        if not (steps.get(norm(f)) or all_steps.get(norm(f))) and f[0].isupper():
+            f = f[0].lower() + f[1:]
         s = steps.get(norm(f)) or all_steps.get(norm(f))
         clauses = None
         out = [var]

@@ -1,6 +1,5 @@
 -- `applies` matches the rule's source, and tests the rule's lines at the match.
 use mathlib.Core.Path.{refl}
-use borrow.Author.Rules.{rules}
 use Rattle.terms.specs.Equation.{source}
 use Rattle.terms.specs.Filling.{filling}
 use Rattle.reducing.specs.Match.{no_match, match}
@@ -21,10 +20,14 @@ match_side-requires c =
 
 pub returns-then-not-match_side : goal.returns-then-not-match_side
 returns-then-not-match_side c =
-    record { by_index = λ arities i e d subject p is.
+    record {
+      by_index = λ arities i e d subject p is.
           let side = (c.sides_of-sides.ensures _ _ _ _ _ is.rule_is).0 in
           let answer = c.match_side.ensures _ _ _ (side_part side is.subject_is is.inside is.there) in
-          applies_not (filling arities) subject p i e d (matched_none c.args.nodes.now c.args.sizes.now arities c.match_side.last.1.1.1.1.1.0 (match (source e d) (part_at subject p) no_match) c.match_side.result answer c.if-not-match_side.true-raw); by_index_2 = λ arities subject s. s; settled_2 = c.requires.settled }
+          applies_not (filling arities) subject p i e d (matched_none c.args.nodes.now c.args.sizes.now arities c.match_side.new.values (match (source e d) (part_at subject p) no_match) c.match_side.result answer c.if-not-match_side.true-raw);
+      by_index_2 = λ arities subject s. s;
+      settled_2 = c.requires.settled;
+    }
 
 pub match_holds-requires : goal.match_holds-requires
 match_holds-requires c =
@@ -32,7 +35,8 @@ match_holds-requires c =
     let is = has.is in
     let side = (c.sides_of-sides.ensures _ _ _ _ _ is.rule_is).0 in
     let answer = c.match_side.ensures _ _ _ (side_part side is.subject_is is.inside is.there) in
-    let (m, x, met) = matched_some c.args.nodes.now c.args.sizes.now has.arities c.match_side.last.1.1.1.1.1.0 (match (source has.equation has.direction) (part_at has.subject has.position) no_match) c.match_side.result answer c.if-not-match_side.false-raw in record { has_matched_try = record {
+    let (m, x, met) = matched_some c.args.nodes.now c.args.sizes.now has.arities c.match_side.new.values (match (source has.equation has.direction) (part_at has.subject has.position) no_match) c.match_side.result answer c.if-not-match_side.false-raw in record {
+      has_matched_try = record {
         arities = has.arities;
         number = has.number;
         equation = has.equation;
@@ -40,14 +44,17 @@ match_holds-requires c =
         subject = has.subject;
         found = m;
         is = record { rule_is = is.rule_is; kept = is.kept; kept_are = is.kept_are; kept_there = is.kept_there; subject_is = is.subject_is; part = _; matches = x; met = met };
-      }; settled = c.requires.settled }
+      };
+      settled = c.requires.settled;
+    }
 
 pub returns : goal.returns
 returns c =
-    record { by_index = λ arities i e d subject p is.
+    record {
+      by_index = λ arities i e d subject p is.
           let side = (c.sides_of-sides.ensures _ _ _ _ _ is.rule_is).0 in
           let answer = c.match_side.ensures _ _ _ (side_part side is.subject_is is.inside is.there) in
-          let (m, x, met) = matched_some c.args.nodes.now c.args.sizes.now arities c.match_side.last.1.1.1.1.1.0 (match (source e d) (part_at subject p) no_match) c.match_side.result answer c.if-not-match_side.false-raw in
+          let (m, x, met) = matched_some c.args.nodes.now c.args.sizes.now arities c.match_side.new.values (match (source e d) (part_at subject p) no_match) c.match_side.result answer c.if-not-match_side.false-raw in
           applies_told (filling arities) subject p i e d x (c.match_holds.ensures.by_index arities i e d subject m (record {
             rule_is = is.rule_is;
             kept = is.kept;
@@ -57,4 +64,7 @@ returns c =
             part = _;
             matches = x;
             met = met;
-          })); by_index_2 = c.match_holds.ensures.by_index_2; settled_2 = c.match_holds.ensures.settled_2 }
+          }));
+      by_index_2 = c.match_holds.ensures.by_index_2;
+      settled_2 = c.match_holds.ensures.settled_2;
+    }

@@ -1,8 +1,6 @@
 -- Goals of `forget_rows`.
-use Prim.Native.Nat.{◌-◌, ◌≤◌}
 use native.Mathlib.Omega.{arith}
 use mathlib.Core.Path.{◌≡◌, subst}
-use borrow.Author.Rules.{rules}
 use Rattle.format.specs.Limits.{position_count}
 use Rattle.cells.specs.ForContracts.Cells.{Cleared}
 use Rattle.cells.specs.Theory.Cells.{cleared_none, cleared_more}

@@ -1,11 +1,7 @@
 -- `forget_rows` meets its contract. The invariant: the first `i` bytes are cleared.
 use Prim.Native.Nat.{◌-◌, ◌≤◌}
-use native.Mathlib.Omega.{arith}
-use mathlib.Core.Path.{◌≡◌, subst}
-use borrow.Author.Rules.{rules}
 use Rattle.format.specs.Limits.{position_count}
 use Rattle.cells.specs.ForContracts.Cells.{Cleared}
-use Rattle.cells.specs.Theory.Cells.{cleared_none, cleared_more}
 use Rattle.step_try.proofs.applies.forget_rows.Given as goal
 
 abbrev pub invariant-loop-i : goal.invariant-loop-i

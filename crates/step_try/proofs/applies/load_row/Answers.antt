@@ -4,7 +4,6 @@ use mathlib.Core.Path.{◌≡◌, ap, ◌∙◌}
 use mathlib.Core.List.{List}
 use lib.ListN.{length, take, drop}
 use lib.Seq.{length-take-le, take_at}
-use borrow.Author.Rules.{rules}
 use Rattle.format.specs.Limits.{position_count}
 use Rattle.format.specs.Buffer.{written}
 use Rattle.step_try.proofs.applies.load_row.Goals as goal
