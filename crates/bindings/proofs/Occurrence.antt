@@ -193,3 +193,8 @@ module _ {nodes sizes variables bs : List ℕ} {v p seen through : ℕ} (g : Sou
       go : (b : Bool) → occurs enough (view_of nodes sizes) enough.occurs_depth (bindings_of bs) v p ≡ b → false ≡ b
       go true e = absurd (search_nowhere g l k a (occurs_found (form_layout (laid g)) (enough_suffices (laid g).few) g.readable.proper enough.occurs_depth v p e))
       go false e = refl
+
+-- The same, from what the test is lent.
+pub lent_true : {nodes sizes variables bs : List ℕ} {v p seen through w : ℕ} → Readable nodes sizes bs → HasVariables nodes sizes variables → lookup (bindings_of bs) v ≡ none → p < length nodes
+    → Search nodes sizes variables bs v p seen through → Has seen w → w ≡ v → true ≡ occurs enough (view_of nodes sizes) enough.occurs_depth (bindings_of bs) v p
+lent_true readable sets free l k h e = search_true (record { readable = readable; sets = sets; free = free }) l k h e

@@ -13,6 +13,7 @@ use format::byte::wide;
 use format::limits::Limits;
 
 // Whether the free variable `v` occurs in the term at `p`.
+#[tactic(auto, using(crate::proofs::Occurrence::lent_true, crate::proofs::Bits::joined_more))]
 pub fn occurs_at(
     nodes: &[u8],
     sizes: &[u8],

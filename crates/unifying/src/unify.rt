@@ -27,6 +27,7 @@ pub enum UnifierAnswer {
 }
 
 // "Two unbound variables: bind the smaller number to the other's position." `v` stands at `p`, `w` at `q`.
+#[tactic(auto, using(crate::specs::Theory::Unify::variables_same, crate::specs::Theory::Unify::variables_less, crate::specs::Theory::Unify::variables_more))]
 fn bind_variables(bindings: &mut [u8], v: usize, w: usize, p: usize, q: usize) -> UnifierAnswer
     requires { (v < length bindings.old) × (w < length bindings.old) × (p < no_position) × (q < no_position) }
     ensures { unify_variables (bindings_of bindings.old) v w p q (ℕ_discrete v w) (dec_lt v w) ≡ answered result (bindings_of bindings.new) }

@@ -1,7 +1,7 @@
 -- Goals of `occurs_at`.
 use native.Mathlib.Omega.{arith}
-use Rattle.bindings.proofs.Bits.{joined_more}
-use Rattle.bindings.proofs.Occurrence.{Sought, slots, search_start, bound_within, search_free, search_bound, search_true, search_false}
+use Rattle.std.proofs.Common.{rules}
+use Rattle.bindings.proofs.Occurrence.{Sought, slots, search_start, bound_within, search_free, search_bound, search_false}
 use Rattle.bindings.proofs.occurs.occurs_at.Goals as goal
 use Rattle.bindings.proofs.occurs.occurs_at.Goals.{Start}
 
@@ -23,10 +23,6 @@ loop-seen-init c =
 pub lowest_beside-w-requires : goal.lowest_beside-w-requires
 lowest_beside-w-requires c = (c.loop-seen.invariant.0.within, c.loop-seen-test.true)
 
-pub returns-then-w-v : goal.returns-then-w-v
-returns-then-w-v c =
-    search_true (sought (goal.at.returns-then-w-v c).Start) c.requires.p_in_bounds.0 c.loop-seen.invariant.0 c.lowest_beside-w.ensures.0 c.if-w-v.true
-
 pub singleton-requires : goal.singleton-requires
 singleton-requires c = (c.loop-seen.invariant.0.each _ c.lowest_beside-w.ensures.0).low
 
@@ -36,23 +32,15 @@ bounds-bindings-w c =
 
 pub bounds-variables-wide : goal.bounds-variables-wide
 bounds-variables-wide c =
-    omega (arith, bound_within (sought (goal.at.bounds-variables-wide c).Start) c.requires.p_in_bounds.0 c.loop-seen.invariant.0 c.lowest_beside-w.ensures.0 (omega (arith, c.if-next-lt-NO_POSITION.true)), c.wide.ensures.value, c.requires.readable.1.same_length)
-
-pub loop-seen-smaller-then-next-lt-NO_POSITION : goal.loop-seen-smaller-then-next-lt-NO_POSITION
-loop-seen-smaller-then-next-lt-NO_POSITION c =
-    omega (arith, joined_more c.singleton.ensures c.joined-through.ensures c.lowest_beside-w.ensures.1, c.loop-seen.invariant.1)
+    omega (arith, bound_within (sought (goal.at.bounds-variables-wide c).Start) c.requires.p_in_bounds.0 c.loop-seen.invariant.0 c.lowest_beside-w.ensures.0 (search rules), c.wide.ensures.value, c.requires.readable.1.same_length)
 
 pub loop-seen-preserved-then-next-lt-NO_POSITION : goal.loop-seen-preserved-then-next-lt-NO_POSITION
 loop-seen-preserved-then-next-lt-NO_POSITION c =
-    (search_bound (sought (goal.at.loop-seen-preserved-then-next-lt-NO_POSITION c).Start) c.requires.p_in_bounds.0 c.loop-seen.invariant.0 c.lowest_beside-w.ensures.0 c.if-w-v.false c.singleton.ensures c.joined-through.ensures (omega (arith, c.if-next-lt-NO_POSITION.true)) (rw c.wide.ensures.value at c.joined-seen.ensures), c.joined-through.type_inv)
-
-pub loop-seen-smaller : goal.loop-seen-smaller
-loop-seen-smaller c =
-    omega (arith, joined_more c.singleton.ensures c.joined-through.ensures c.lowest_beside-w.ensures.1, c.loop-seen.invariant.1)
+    (search_bound (sought (goal.at.loop-seen-preserved-then-next-lt-NO_POSITION c).Start) c.requires.p_in_bounds.0 c.loop-seen.invariant.0 c.lowest_beside-w.ensures.0 (search rules) c.singleton.ensures c.joined-through.ensures (search rules) (rw c.wide.ensures.value at c.joined-seen.ensures), c.joined-through.type_inv)
 
 pub loop-seen-preserved : goal.loop-seen-preserved
 loop-seen-preserved c =
-    (search_free (sought (goal.at.loop-seen-preserved c).Start) c.requires.p_in_bounds.0 c.loop-seen.invariant.0 c.lowest_beside-w.ensures.0 c.if-w-v.false c.singleton.ensures c.joined-through.ensures c.if-next-lt-NO_POSITION.false, c.joined-through.type_inv)
+    (search_free (sought (goal.at.loop-seen-preserved c).Start) c.requires.p_in_bounds.0 c.loop-seen.invariant.0 c.lowest_beside-w.ensures.0 (search rules) c.singleton.ensures c.joined-through.ensures (search rules), c.joined-through.type_inv)
 
 pub returns : goal.returns
 returns c =
