@@ -1,0 +1,71 @@
+-- Goals of `walk_judged`.
+use Prim.Native.Nat.{ℕ, ◌+◌}
+use mathlib.Core.Path.{sym, subst, ◌∙◌}
+use mathlib.Core.List.{List}
+use native.Mathlib.Omega.{arith}
+use Rattle.judge_rule.proofs.JudgeLaws.{Judging, judging_start, judging_done, judging_refused, judging_records, judging_passed, judging_kept, never_full}
+use Rattle.rules.specs.Theory.Rows.{rule_there}
+use Rattle.judge_rule.proofs.judge.walk_judged.Goals as goal
+use Rattle.judge_rule.proofs.judge.walk_judged.Goals.{then-rule-judged+in-End, then-rule-judged+in_default-kept, else-rule-judged}
+
+pub overflow_add-rules : goal.overflow_add-rules
+overflow_add-rules c = let has = c.requires.0 in omega (arith, has.counted, has.are.few)
+
+pub loop-rule-init : goal.loop-rule-init
+loop-rule-init c = judging_start _ _ _ _ _ _
+
+pub walk_rule-walked-requires : goal.walk_rule-walked-requires
+walk_rule-walked-requires c = let k = c.loop-rule.invariant in (rule_there c.requires.0 c.loop-rule-test.true, omega (arith, k.scratch_length, c.requires.2))
+
+pub shape_of-table-in-Refused : goal.shape_of-table-in-Refused
+shape_of-table-in-Refused c = c.loop-rule.invariant.table_length
+
+pub shape_of-scratch-in-Refused : goal.shape_of-scratch-in-Refused
+shape_of-scratch-in-Refused c = c.walk_rule-walked.auto.scratch ∙ c.loop-rule.invariant.scratch_length
+
+pub returns-in-Refused : goal.returns-in-Refused
+returns-in-Refused c =
+    let k = c.loop-rule.invariant in
+    record { by_index = judging_refused k c.requires.0 c.loop-rule-test.true c.walk_rule-walked.ensures.by_index c.in-Refused.is; table_unchanged = k.table_behind; scratch_unchanged = c.walk_rule-walked.ensures.scratch_unchanged ∙ k.scratch_behind }
+
+pub keep_lines-kept-requires : goal.keep_lines-kept-requires
+keep_lines-kept-requires c =
+    let k = c.loop-rule.invariant in (
+      judging_records k c.requires.0 c.loop-rule-test.true c.walk_rule-walked.ensures.by_index c.in_default.is,
+      omega arith,
+      omega (arith, k.table_length, c.requires.1),
+    )
+
+pub overflow_add-rule : goal.overflow_add-rule
+overflow_add-rule c = let has = c.requires.0 in omega (arith, c.loop-rule-test.true, has.counted, has.are.few)
+
+pub loop-rule-smaller : goal.loop-rule-smaller
+loop-rule-smaller c = omega (arith, c.loop-rule-test.true)
+
+pub loop-rule-preserved : goal.loop-rule-preserved
+loop-rule-preserved c =
+    let k = c.loop-rule.invariant in
+    let there = c.loop-rule-test.true in
+    let solves = c.in_default.is in
+    let after = c.walk_rule-walked.new.scratch in
+    let length-kept = c.walk_rule-walked.auto.scratch in
+    let Next : List ℕ → ℕ → Type 0 = λ table end. Judging c.args.equations.now c.args.lengths.now c.args.count c.args.judged c.args.table.now c.args.scratch.now table after end (c.loop-rule.rule + 1) in
+    elim c.if-rule-judged.branch [
+      | then-rule-judged+in-End w ↦
+          subst (λ t. Next t c.if-rule-judged.end) (sym w.table-is) (subst (Next w.keep_lines-kept.new.table) (sym w.end-is)
+          (judging_kept k c.requires.0 there c.walk_rule-walked.ensures.by_index solves length-kept c.walk_rule-walked.ensures.scratch_unchanged c.requires.1 w.if-rule-judged.true w.keep_lines-kept.new.table w.keep_lines-kept.result w.keep_lines-kept.ensures w.in-End.is))
+      | then-rule-judged+in_default-kept w ↦
+          absurd (never_full k c.requires.0 there c.walk_rule-walked.ensures.by_index solves length-kept c.walk_rule-walked.ensures.scratch_unchanged c.requires.1 w.if-rule-judged.true w.keep_lines-kept.new.table w.keep_lines-kept.result w.keep_lines-kept.ensures w.in_default-kept.is)
+      | else-rule-judged w ↦
+          subst (λ t. Next t c.if-rule-judged.end) (sym w.table-is) (subst (Next c.loop-rule.table) (sym w.end-is)
+          (judging_passed k c.requires.0 there c.walk_rule-walked.ensures.by_index solves length-kept c.walk_rule-walked.ensures.scratch_unchanged w.if-rule-judged.false))
+    ]
+
+pub shape_of-table : goal.shape_of-table
+shape_of-table c = c.loop-rule.invariant.table_length
+
+pub shape_of-scratch : goal.shape_of-scratch
+shape_of-scratch c = c.loop-rule.invariant.scratch_length
+
+pub returns : goal.returns
+returns c = let k = c.loop-rule.invariant in record { by_index = judging_done k c.loop-rule-test.false; table_unchanged = k.table_behind; scratch_unchanged = k.scratch_behind }

@@ -1,0 +1,54 @@
+-- Goals of `instance_size`.
+use Prim.Native.Nat.{ℕ, ◌-◌}
+use mathlib.Core.Logic.{⊎_elim}
+use mathlib.Core.List.{List}
+use native.Mathlib.Omega.{arith}
+use borrow.Author.Rules.{rules}
+use Rattle.terms.specs.Term.{Term, Values}
+use Rattle.terms.specs.Theory.Spelled.{spelled_room}
+use Rattle.step_take.specs.ForContracts.Replacing.{InstanceIs}
+use Rattle.step_take.proofs.Left.{value_there}
+use Rattle.step_take.proofs.Counted.{Counted, count_start, of_some, symbol_counted, value_counted, all_counted}
+use Rattle.step_take.proofs.instance.instance_size.Goals as goal
+use Rattle.step_take.proofs.instance.instance_size.Goals.{then-byte-lt-FIRST_VARIABLE, else-byte-lt-FIRST_VARIABLE}
+
+pub loop-i-init : goal.loop-i-init
+loop-i-init c = λ arities t ρ s. count_start s
+
+pub bounds-bytes-i : goal.bounds-bytes-i
+bounds-bytes-i c =
+    let k = of_some c.requires c.loop-i.invariant in
+    let h = c.loop-i-test.true in
+    omega (arith, spelled_room k.left.spelled h)
+
+pub overflow_add-size : goal.overflow_add-size
+overflow_add-size c = omega (arith, (of_some c.requires c.loop-i.invariant).few)
+
+pub bounds-values-wide : goal.bounds-values-wide
+bounds-values-wide c =
+    let k = of_some c.requires c.loop-i.invariant in
+    omega (arith, c.wide.ensures.value, (value_there k.left c.loop-i-test.true c.if-byte-lt-FIRST_VARIABLE.false).slot)
+
+pub bounds-sizes-node : goal.bounds-sizes-node
+bounds-sizes-node c =
+    let k = of_some c.requires c.loop-i.invariant in
+    rw (c.wide-node.ensures.value, c.wide.ensures.value) (value_there k.left c.loop-i-test.true c.if-byte-lt-FIRST_VARIABLE.false).stands.in_lengths
+
+pub overflow_add-size-else-byte-lt-FIRST_VARIABLE : goal.overflow_add-size-else-byte-lt-FIRST_VARIABLE
+overflow_add-size-else-byte-lt-FIRST_VARIABLE c = omega (arith, (of_some c.requires c.loop-i.invariant).few, c.wide-size.ensures.upper_bound)
+
+pub loop-i-smaller : goal.loop-i-smaller
+loop-i-smaller c = let h = c.loop-i-test.true in omega arith
+
+pub loop-i-preserved : goal.loop-i-preserved
+loop-i-preserved c =
+    λ arities t ρ s.
+    let k = c.loop-i.invariant arities t ρ s in
+    elim c.if-byte-lt-FIRST_VARIABLE.branch [
+      | then-byte-lt-FIRST_VARIABLE w ↦ rw w.size-is (symbol_counted k c.loop-i-test.true w.if-byte-lt-FIRST_VARIABLE.true)
+      | else-byte-lt-FIRST_VARIABLE w ↦ rw (w.size-is, w.wide-size.ensures.value, w.wide-node.ensures.value, w.wide.ensures.value) (value_counted k c.loop-i-test.true w.if-byte-lt-FIRST_VARIABLE.false)
+    ]
+
+pub returns : goal.returns
+returns c =
+    record { by_index = λ arities t ρ s. all_counted (c.loop-i.invariant arities t ρ s) c.loop-i-test.false; upper_bound = omega (arith, (of_some c.requires c.loop-i.invariant).few) }
