@@ -10,7 +10,7 @@ use native.Mathlib.Omega.{arith}
 use lib.ListN.{get_or}
 use lib.Dec.{eqb→eq}
 use Rattle.format.specs.Limits.{variable_count}
-use Rattle.terms.specs.Term.{Term, Terms, var, app, nil, cons, sizes, inst}
+use Rattle.terms.specs.Term.{Term, Terms, var, app, nil, cons, inst}
 use Rattle.terms.specs.Filling.{filling}
 use Rattle.terms.specs.ForContracts.Limits.{VariablesBelow, AllVariablesBelow}
 use Rattle.terms.specs.Position.{replace}

@@ -9,7 +9,6 @@ use Rattle.solving.specs.Judge.{first_holding}
 use Rattle.solving.proofs.Theory.Solve.{solved_line_count}
 use Rattle.solving.specs.Theory.Judge.{first_holding_low}
 use Rattle.reducing.specs.Test.{holding_in, holding_line, given_values}
-use Rattle.outcomes.specs.Buffer.{filled}
 use Rattle.scanning.specs.declared.known.Known.{Known}
 use Rattle.judge_task.specs.ForContracts.JudgeTask.{ValuesIn}
 

@@ -3,7 +3,6 @@ use Rattle.std.specs.Prelude.{ℕ, ◌≡◌, Bool, true, false}
 use Rattle.std.proofs.Common.{sym, ap, ap₂, subst, ◌∙◌, arith}
 use Rattle.std.proofs.Math.Option.{Option, none, some}
 use Rattle.terms.specs.Term.{Term, inst}
-use Rattle.terms.specs.Filling.{filling}
 use Rattle.terms.specs.Position.{replace}
 use Rattle.terms.specs.Equation.{Equation, Direction, source, target}
 use Rattle.reducing.specs.Match.{Match, no_match, match, values_of}

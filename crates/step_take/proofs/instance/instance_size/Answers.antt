@@ -1,14 +1,8 @@
 -- Goals of `instance_size`.
-use Prim.Native.Nat.{ℕ, ◌-◌}
-use mathlib.Core.Logic.{⊎_elim}
-use mathlib.Core.List.{List}
 use native.Mathlib.Omega.{arith}
-use borrow.Author.Rules.{rules}
-use Rattle.terms.specs.Term.{Term, Values}
 use Rattle.terms.specs.Theory.Spelled.{spelled_room}
-use Rattle.step_take.specs.ForContracts.Replacing.{InstanceIs}
 use Rattle.step_take.proofs.Left.{value_there}
-use Rattle.step_take.proofs.Counted.{Counted, count_start, of_some, symbol_counted, value_counted, all_counted}
+use Rattle.step_take.proofs.Counted.{count_start, of_some, symbol_counted, value_counted, all_counted}
 use Rattle.step_take.proofs.instance.instance_size.Goals as goal
 use Rattle.step_take.proofs.instance.instance_size.Goals.{then-byte-lt-FIRST_VARIABLE, else-byte-lt-FIRST_VARIABLE}
 

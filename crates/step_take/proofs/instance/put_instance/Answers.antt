@@ -1,17 +1,11 @@
 -- Goals of `put_instance`.
-use Prim.Native.Nat.{ℕ, ◌-◌}
 use mathlib.Core.Path.{ap, ◌∙◌}
-use mathlib.Core.Logic.{⊎_elim}
-use mathlib.Core.List.{List}
 use native.Mathlib.Omega.{arith}
 use lib.ListN.{get_or}
-use borrow.Author.Rules.{rules}
-use Rattle.terms.specs.Term.{Term, Values}
 use Rattle.terms.specs.Theory.Spelled.{spelled_room}
-use Rattle.step_take.specs.ForContracts.Replacing.{InstanceIs}
 use Rattle.step_take.proofs.Left.{value_there}
 use Rattle.step_take.proofs.Written.{end_room}
-use Rattle.step_take.proofs.Putting.{Putting, put_start, put_length, symbol_room, value_room, symbol_put, value_put, all_put}
+use Rattle.step_take.proofs.Putting.{put_start, put_length, symbol_room, value_room, symbol_put, value_put, all_put}
 use Rattle.step_take.proofs.instance.put_instance.Goals as goal
 use Rattle.step_take.proofs.instance.put_instance.Goals.{then-byte-lt-FIRST_VARIABLE, else-byte-lt-FIRST_VARIABLE}
 
@@ -56,11 +50,17 @@ slice_bounds-copy_front-count c =
     let v = (value_there p.left c.loop-i-test.true c.if-byte-lt-FIRST_VARIABLE.false).stands.in_nodes in
     rw (c.wide-node.ensures.value, c.wide.ensures.value) (omega arith)
 
+pub slice_bounds-copy_front-start : goal.slice_bounds-copy_front-start
+slice_bounds-copy_front-start c = slice_bounds-copy_front-count c
+
 pub slice_bounds-copy_front-count-else-byte-lt-FIRST_VARIABLE : goal.slice_bounds-copy_front-count-else-byte-lt-FIRST_VARIABLE
 slice_bounds-copy_front-count-else-byte-lt-FIRST_VARIABLE c =
     let (arities, t, ρ, is, room) = c.requires in
     let p = c.loop-i.invariant arities t ρ is in
     omega (arith, put_length p room, value_room p c.loop-i-test.true c.if-byte-lt-FIRST_VARIABLE.false)
+
+pub slice_bounds-copy_front-start-else-byte-lt-FIRST_VARIABLE : goal.slice_bounds-copy_front-start-else-byte-lt-FIRST_VARIABLE
+slice_bounds-copy_front-start-else-byte-lt-FIRST_VARIABLE c = slice_bounds-copy_front-count-else-byte-lt-FIRST_VARIABLE c
 
 pub copy_front-requires : goal.copy_front-requires
 copy_front-requires c =

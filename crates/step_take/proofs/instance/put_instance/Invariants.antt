@@ -1,17 +1,9 @@
 -- `put_instance` meets its contract. The loop's invariant: the instance is what is put and the instances of the terms that are left.
 use Prim.Native.Nat.{ℕ, ◌-◌}
-use mathlib.Core.Path.{ap, ◌∙◌}
-use mathlib.Core.Logic.{⊎_elim}
 use mathlib.Core.List.{List}
-use native.Mathlib.Omega.{arith}
-use lib.ListN.{get_or}
-use borrow.Author.Rules.{rules}
 use Rattle.terms.specs.Term.{Term, Values}
-use Rattle.terms.specs.Theory.Spelled.{spelled_room}
 use Rattle.step_take.specs.ForContracts.Replacing.{InstanceIs}
-use Rattle.step_take.proofs.Left.{value_there}
-use Rattle.step_take.proofs.Written.{end_room}
-use Rattle.step_take.proofs.Putting.{Putting, put_start, put_length, symbol_room, value_room, symbol_put, value_put, all_put}
+use Rattle.step_take.proofs.Putting.{Putting}
 use Rattle.step_take.proofs.instance.put_instance.Given as goal
 
 abbrev pub invariant-loop-i : goal.invariant-loop-i

@@ -2,7 +2,6 @@
 use Prim.Native.Nat.{◌+◌, ◌-◌}
 use mathlib.Core.Path.{◌≡◌, refl}
 use native.Mathlib.Omega.{arith}
-use borrow.Author.Rules.{rules}
 use Rattle.format.specs.Limits.{position_count}
 use Rattle.terms.specs.Term.{size as width, inst}
 use Rattle.terms.specs.Position.{replace}

@@ -2,7 +2,6 @@
 use Prim.Native.Nat.{◌*◌, ◌/◌, ◌%◌}
 use native.Mathlib.Omega.{arith}
 use lib.ListN.{length-set}
-use borrow.Author.Rules.{rules}
 use Rattle.step_take.proofs.LogLaws.{three_more}
 use Rattle.step_take.proofs.step.put_step.Goals as goal
 

@@ -1,6 +1,5 @@
 -- `take_step` matches the rule's source again and replaces the part by the target's instance.
 use mathlib.Core.Path.{refl}
-use borrow.Author.Rules.{rules}
 use Rattle.terms.specs.Equation.{source, target}
 use Rattle.reducing.specs.ForContracts.Part.{part_at}
 use Rattle.step_take.proofs.StepLaws.{source_part, matches_again, replacement, step_replaced}
