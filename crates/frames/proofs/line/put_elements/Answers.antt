@@ -1,8 +1,6 @@
 -- Goals of `put_elements`.
-use Prim.Native.Nat.{◌-◌}
 use native.Mathlib.Omega.{arith}
-use borrow.Author.Rules.{rules}
-use Rattle.frames.proofs.ElementLaws.{ElementsPassed, no_element_passed, element_passed, elements_passed, few_elements, all_bytes, left_there, right_there}
+use Rattle.frames.proofs.ElementLaws.{no_element_passed, element_passed, elements_passed, few_elements, all_bytes, left_there, right_there}
 use Rattle.frames.proofs.line.put_elements.Goals as goal
 
 pub bounds-bytes-12 : goal.bounds-bytes-12

@@ -1,6 +1,5 @@
 -- `put_line` prints a line's frame, part by part.
 use native.Mathlib.Omega.{arith}
-use borrow.Author.Rules.{rules}
 use Rattle.listing.specs.Listing.{digits}
 use Rattle.frames.proofs.ElementLaws.{all_bytes, record_count}
 use Rattle.frames.proofs.FrameLaws.{line_appended}
