@@ -18,11 +18,11 @@ put_refusal-bytes-requires c =
 
 pub shape_of-equations-in-Refused : goal.shape_of-equations-in-Refused
 shape_of-equations-in-Refused c =
-    c.equations-1.given
+    c.store_equations.auto.equations
 
 pub shape_of-lengths-in-Refused : goal.shape_of-lengths-in-Refused
 shape_of-lengths-in-Refused c =
-    c.lengths-1.given
+    c.store_equations.auto.lengths
 
 pub returns-in-Refused : goal.returns-in-Refused
 returns-in-Refused c =
@@ -30,8 +30,8 @@ returns-in-Refused c =
 
 pub returns-in-Full : goal.returns-in-Full
 returns-in-Full c =
-    full_opened c.requires.accepts.0 c.store_equations.ensures c.keep_rules-walks.result c.keep_rules-walks.ensures.by_index c.opened.ensures (c.bounds-1.given ∙ c.requires.accepts.3) c.in-Full.is
+    full_opened c.requires.accepts.0 c.store_equations.ensures c.keep_rules-walks.result c.keep_rules-walks.ensures.by_index c.opened.ensures (c.keep_rules-walks.auto.bounds ∙ c.requires.accepts.3) c.in-Full.is
 
 pub returns-in-Kept : goal.returns-in-Kept
 returns-in-Kept c =
-    kept_opened c.requires.accepts.0 c.store_equations.ensures c.keep_rules-walks.result c.keep_rules-walks.ensures.by_index c.opened-in-Kept.ensures (c.bounds-1.given ∙ c.requires.accepts.3) c.in-Kept.is
+    kept_opened c.requires.accepts.0 c.store_equations.ensures c.keep_rules-walks.result c.keep_rules-walks.ensures.by_index c.opened-in-Kept.ensures (c.keep_rules-walks.auto.bounds ∙ c.requires.accepts.3) c.in-Kept.is

@@ -13,7 +13,7 @@ pub list_line-at-requires : goal.list_line-at-requires
 list_line-at-requires c = let h = c.requires.0 in (record { arities = h.arities; those = h.those; lines = c.args.lines; rows = h.rows; records_there = h.records_there; low = c.loop-line-test.true }, c.if-out-at.false)
 
 pub loop-line-preserved : goal.loop-line-preserved
-loop-line-preserved c = line_passed c.loop-line.invariant c.loop-line-test.true c.if-out-at.false c.list_line-at.ensures.upper_bound c.out-1.given c.list_line-at.ensures.by_index
+loop-line-preserved c = line_passed c.loop-line.invariant c.loop-line-test.true c.if-out-at.false c.list_line-at.ensures.upper_bound c.list_line-at.auto.out c.list_line-at.ensures.by_index
 
 pub shape_of-out-after-loop-line : goal.shape_of-out-after-loop-line
 shape_of-out-after-loop-line c = c.loop-line.invariant.same_length
