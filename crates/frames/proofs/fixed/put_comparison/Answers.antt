@@ -1,7 +1,6 @@
 -- `put_comparison` prints a verdict with the clause that decided it.
 use mathlib.Core.Path.{ap, ◌∙◌}
 use mathlib.Core.List.{[], ◌∷◌}
-use borrow.Author.Rules.{rules}
 use Rattle.ordering.specs.Verdict.{verdict_number}
 use Rattle.ordering.specs.Decision.{verdict_of}
 use Rattle.listing.specs.Listing.{printed, comparison_kind, comparison_frame}

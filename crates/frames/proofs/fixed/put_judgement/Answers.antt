@@ -1,7 +1,6 @@
 -- `put_judgement` prints whether a line holds, and the first that does.
 use mathlib.Core.Path.{ap}
 use mathlib.Core.List.{[], ◌∷◌}
-use borrow.Author.Rules.{rules}
 use Rattle.listing.specs.Listing.{printed}
 use Rattle.listing.specs.Theory.Appended.{appended_text}
 use Rattle.frames.proofs.Judgement.{no_frame, yes_frame}

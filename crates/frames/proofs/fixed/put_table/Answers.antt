@@ -1,5 +1,4 @@
 -- `put_table` prints the head of a table.
-use borrow.Author.Rules.{rules}
 use Rattle.listing.specs.Listing.{two_bytes}
 use Rattle.frames.proofs.fixed.put_table.Goals as goal
 

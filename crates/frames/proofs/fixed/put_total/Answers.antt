@@ -1,5 +1,4 @@
 -- `put_total` prints the steps of all runs.
-use borrow.Author.Rules.{rules}
 use Rattle.listing.specs.Listing.{two_bytes}
 use Rattle.frames.proofs.fixed.put_total.Goals as goal
 

@@ -1,6 +1,5 @@
 -- `two_bytes` gives a number's two bytes.
 use mathlib.Core.Path.{refl}
-use borrow.Author.Rules.{rules}
 use Rattle.listing.specs.Listing.{two_bytes}
 use Rattle.frames.proofs.fixed.two_bytes.Goals as goal
 

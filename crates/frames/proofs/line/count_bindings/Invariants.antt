@@ -1,10 +1,7 @@
 -- `count_bindings` counts the variables that are bound. The invariant: those before `v` are counted.
 use Prim.Native.Nat.{◌-◌}
-use mathlib.Core.Logic.{⊎_elim}
-use native.Mathlib.Omega.{arith}
-use borrow.Author.Rules.{rules}
 use Rattle.format.specs.Limits.{variable_count}
-use Rattle.frames.proofs.BindingLaws.{Counted, none_counted, counted_bound, counted_free, counted_moved, all_counted}
+use Rattle.frames.proofs.BindingLaws.{Counted}
 use Rattle.frames.proofs.line.count_bindings.Given as goal
 
 abbrev pub invariant-loop-v : goal.invariant-loop-v

@@ -1,13 +1,10 @@
 -- Goals of `put_bindings`.
-use Prim.Native.Nat.{◌-◌}
-use mathlib.Core.Logic.{⊎_elim}
 use native.Mathlib.Omega.{arith}
-use borrow.Author.Rules.{rules}
-use Rattle.format.specs.Limits.{variable_count}
 use Rattle.listing.specs.Listing.{digits}
-use Rattle.frames.proofs.BindingLaws.{BindingsPassed, no_binding_passed, free_passed, bound_there, bound_passed, passed_moved, bindings_passed}
+use Rattle.frames.proofs.BindingLaws.{no_binding_passed, free_passed, bound_there, bound_passed, passed_moved, bindings_passed}
 use Rattle.frames.proofs.ElementLaws.{all_bytes}
 use Rattle.frames.proofs.line.put_bindings.Goals as goal
+use Rattle.frames.proofs.line.put_bindings.Goals.{then-p-lt-NO_POSITION, else-p-lt-NO_POSITION}
 
 pub loop-v-init : goal.loop-v-init
 loop-v-init c = no_binding_passed _ _ _ _ _
@@ -27,10 +24,10 @@ put_term-to-requires c =
 pub loop-v-preserved : goal.loop-v-preserved
 loop-v-preserved c =
     let h = c.loop-v-test.true in
-    ⊎_elim
-    (λ w. passed_moved w.10 w.11 (bound_passed c.loop-v.invariant h w.0.taken w.5.ensures.0 w.2.ensures w.7.ensures.0 w.7.ensures.1 w.8.given))
-    (λ w. passed_moved w.1 w.2 (free_passed c.loop-v.invariant h w.0.left))
-    c.if-p-lt-NO_POSITION.branch
+    elim c.if-p-lt-NO_POSITION.branch [
+      | then-p-lt-NO_POSITION w ↦ passed_moved w.out-is w.to-is (bound_passed c.loop-v.invariant h w.if-p-lt-NO_POSITION.true w.wide.ensures.value w.put_byte-behind.ensures w.put_term-to.ensures.appended w.put_term-to.ensures.upper_bound w.put_term-to.auto.out)
+      | else-p-lt-NO_POSITION w ↦ passed_moved w.out-is w.to-is (free_passed c.loop-v.invariant h w.if-p-lt-NO_POSITION.false)
+    ]
 
 pub shape_of-out : goal.shape_of-out
 shape_of-out c = c.loop-v.invariant.same_length

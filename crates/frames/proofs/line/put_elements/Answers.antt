@@ -1,8 +1,6 @@
 -- Goals of `put_elements`.
-use Prim.Native.Nat.{◌-◌}
 use native.Mathlib.Omega.{arith}
-use borrow.Author.Rules.{rules}
-use Rattle.frames.proofs.ElementLaws.{ElementsPassed, no_element_passed, element_passed, elements_passed, few_elements, all_bytes, left_there, right_there}
+use Rattle.frames.proofs.ElementLaws.{no_element_passed, element_passed, elements_passed, few_elements, all_bytes, left_there, right_there}
 use Rattle.frames.proofs.line.put_elements.Goals as goal
 
 pub bounds-bytes-12 : goal.bounds-bytes-12
@@ -28,11 +26,11 @@ pub put_term-to-requires : goal.put_term-to-requires
 put_term-to-requires c =
     let r = c.requires.0 in
     let n = c.wide-count.ensures.value in
-    (right_there r (omega (arith, n, c.loop-i-test.true)) c.wide-in-loop-i.ensures.value, omega (arith, few_elements r, n, c.loop-i-test.true, c.loop-i.invariant.reached, c.loop-i.invariant.same_length, c.put_term-behind.ensures.upper_bound, c.out-1.given, c.requires.1))
+    (right_there r (omega (arith, n, c.loop-i-test.true)) c.wide-in-loop-i.ensures.value, omega (arith, few_elements r, n, c.loop-i-test.true, c.loop-i.invariant.reached, c.loop-i.invariant.same_length, c.put_term-behind.ensures.upper_bound, c.put_term-behind.auto.out, c.requires.1))
 
 pub loop-i-preserved : goal.loop-i-preserved
 loop-i-preserved c =
-    element_passed c.loop-i.invariant (omega (arith, c.wide-count.ensures.value, c.loop-i-test.true)) c.wide.ensures.value c.put_term-behind.ensures.appended c.put_term-behind.ensures.upper_bound c.out-1.given c.wide-in-loop-i.ensures.value c.put_term-to.ensures.appended c.put_term-to.ensures.upper_bound c.out-in-loop-i-1.given
+    element_passed c.loop-i.invariant (omega (arith, c.wide-count.ensures.value, c.loop-i-test.true)) c.wide.ensures.value c.put_term-behind.ensures.appended c.put_term-behind.ensures.upper_bound c.put_term-behind.auto.out c.wide-in-loop-i.ensures.value c.put_term-to.ensures.appended c.put_term-to.ensures.upper_bound c.put_term-to.auto.out
 
 pub shape_of-out : goal.shape_of-out
 shape_of-out c = c.loop-i.invariant.same_length

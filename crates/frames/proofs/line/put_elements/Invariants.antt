@@ -1,8 +1,6 @@
 -- `put_elements` prints both terms of each element. The invariant: those before element `i` are printed.
 use Prim.Native.Nat.{◌-◌}
-use native.Mathlib.Omega.{arith}
-use borrow.Author.Rules.{rules}
-use Rattle.frames.proofs.ElementLaws.{ElementsPassed, no_element_passed, element_passed, elements_passed, few_elements, all_bytes, left_there, right_there}
+use Rattle.frames.proofs.ElementLaws.{ElementsPassed}
 use Rattle.frames.proofs.line.put_elements.Given as goal
 
 abbrev pub invariant-loop-i : goal.invariant-loop-i

@@ -1,6 +1,5 @@
 -- `put_line` prints a line's frame, part by part.
 use native.Mathlib.Omega.{arith}
-use borrow.Author.Rules.{rules}
 use Rattle.listing.specs.Listing.{digits}
 use Rattle.frames.proofs.ElementLaws.{all_bytes, record_count}
 use Rattle.frames.proofs.FrameLaws.{line_appended}
@@ -21,17 +20,17 @@ bounds-bytes-12 c =
 pub put_byte-at_elements-requires : goal.put_byte-at_elements-requires
 unfolding digits
 put_byte-at_elements-requires c =
-    omega (arith, c.put_bindings-at_count.ensures.upper_bound, c.out-2-1.given, c.put_bytes-at_bindings.ensures.ends, c.put_bytes-at_bindings.ensures.same_length, c.requires.1)
+    omega (arith, c.put_bindings-at_count.ensures.upper_bound, c.put_bindings-at_count.auto.out, c.put_bytes-at_bindings.ensures.ends, c.put_bytes-at_bindings.ensures.same_length, c.requires.1)
 
 pub put_elements-end-requires : goal.put_elements-end-requires
 unfolding digits
 put_elements-end-requires c =
-    (c.requires.0, omega (arith, c.put_byte-at_elements.ensures.ends, c.put_byte-at_elements.ensures.same_length, c.put_bindings-at_count.ensures.upper_bound, c.out-2-1.given, c.put_bytes-at_bindings.ensures.ends, c.put_bytes-at_bindings.ensures.same_length, c.requires.1))
+    (c.requires.0, omega (arith, c.put_byte-at_elements.ensures.ends, c.put_byte-at_elements.ensures.same_length, c.put_bindings-at_count.ensures.upper_bound, c.put_bindings-at_count.auto.out, c.put_bytes-at_bindings.ensures.ends, c.put_bytes-at_bindings.ensures.same_length, c.requires.1))
 
 pub put_line_feed-requires : goal.put_line_feed-requires
 unfolding digits
 put_line_feed-requires c =
-    omega (arith, c.put_elements-end.ensures.upper_bound, c.out-4-1.given, c.put_byte-at_elements.ensures.ends, c.put_byte-at_elements.ensures.same_length, c.put_bindings-at_count.ensures.upper_bound, c.out-2-1.given, c.put_bytes-at_bindings.ensures.ends, c.put_bytes-at_bindings.ensures.same_length, c.requires.1)
+    omega (arith, c.put_elements-end.ensures.upper_bound, c.put_elements-end.auto.out, c.put_byte-at_elements.ensures.ends, c.put_byte-at_elements.ensures.same_length, c.put_bindings-at_count.ensures.upper_bound, c.put_bindings-at_count.auto.out, c.put_bytes-at_bindings.ensures.ends, c.put_bytes-at_bindings.ensures.same_length, c.requires.1)
 
 pub returns : goal.returns
 unfolding digits

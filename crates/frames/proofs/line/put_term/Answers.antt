@@ -3,7 +3,6 @@ use Prim.Native.Nat.{◌+◌, ◌-◌}
 use mathlib.Core.Path.{ap}
 use native.Mathlib.Omega.{arith}
 use lib.ListN.{take, drop}
-use borrow.Author.Rules.{rules}
 use Rattle.listing.specs.Listing.{digits}
 use Rattle.listing.specs.Theory.Printed.{length_digits}
 use Rattle.listing.specs.Theory.Appended.{appended_text}

@@ -2,7 +2,6 @@
 use mathlib.Core.Path.{ap}
 use mathlib.Core.List.{[], ◌∷◌}
 use native.Mathlib.Omega.{arith}
-use borrow.Author.Rules.{rules}
 use Rattle.listing.specs.Listing.{run_kind, digits, printed}
 use Rattle.listing.specs.Theory.Printed.{length_digits}
 use Rattle.listing.specs.Theory.Appended.{appended_join, appended_text}

@@ -1,8 +1,6 @@
 -- Goals of `put_steps`.
-use Prim.Native.Nat.{◌-◌}
 use native.Mathlib.Omega.{arith}
-use borrow.Author.Rules.{rules}
-use Rattle.frames.proofs.StepLaws.{StepsPassed, no_steps_passed, step_passed, all_steps_passed}
+use Rattle.frames.proofs.StepLaws.{no_steps_passed, step_passed, all_steps_passed}
 use Rattle.frames.proofs.steps.put_steps.Goals as goal
 
 pub loop-i-init : goal.loop-i-init

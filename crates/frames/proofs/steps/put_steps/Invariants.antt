@@ -1,8 +1,6 @@
 -- `put_steps` prints logged steps. The invariant: those before step `i` are printed.
 use Prim.Native.Nat.{◌-◌}
-use native.Mathlib.Omega.{arith}
-use borrow.Author.Rules.{rules}
-use Rattle.frames.proofs.StepLaws.{StepsPassed, no_steps_passed, step_passed, all_steps_passed}
+use Rattle.frames.proofs.StepLaws.{StepsPassed}
 use Rattle.frames.proofs.steps.put_steps.Given as goal
 
 abbrev pub invariant-loop-i : goal.invariant-loop-i
