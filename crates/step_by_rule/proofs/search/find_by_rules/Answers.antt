@@ -1,9 +1,8 @@
 -- Goals of `find_by_rules`.
-use Prim.Native.Nat.{◌-◌}
-use mathlib.Core.Logic.{⊎_elim}
 use native.Mathlib.Omega.{arith}
-use Rattle.step_by_rule.proofs.RulewiseLaws.{Finding, finding_start, rule_to_try, finding_better, finding_same, finding_nodes, finding_sizes, step_found, nothing_found}
+use Rattle.step_by_rule.proofs.RulewiseLaws.{finding_start, rule_to_try, finding_better, finding_same, finding_nodes, finding_sizes, step_found, nothing_found}
 use Rattle.step_by_rule.proofs.search.find_by_rules.Goals as goal
+use Rattle.step_by_rule.proofs.search.find_by_rules.Goals.{then-node-best, else-node-best}
 
 pub overflow_add-best : goal.overflow_add-best
 overflow_add-best c = let has = c.requires.has_all_solve in omega (arith, has.are.size_is, has.are.subject_is.stored.within)
@@ -27,10 +26,10 @@ loop-rule-preserved c =
     let k = c.loop-rule.invariant in
     let has = c.requires.has_all_solve in
     let low = c.loop-rule-test.true in
-    ⊎_elim
-    (λ w. finding_better k has low _ _ _ _ c.first_node-node.ensures.by_index c.first_node-node.ensures.by_index_2 c.first_node-node.auto.table c.first_node-node.auto.scratch c.first_node-node.ensures.table_unchanged c.first_node-node.ensures.scratch_unchanged w.0.taken w.1 w.2)
-    (λ w. finding_same k has low _ _ _ _ c.first_node-node.ensures.by_index c.first_node-node.ensures.by_index_2 c.first_node-node.auto.table c.first_node-node.auto.scratch c.first_node-node.ensures.table_unchanged c.first_node-node.ensures.scratch_unchanged w.0.left w.1 w.2)
-    c.if-node-best.branch
+    elim c.if-node-best.branch [
+      | then-node-best w ↦ finding_better k has low _ _ _ _ c.first_node-node.ensures.by_index c.first_node-node.ensures.by_index_2 c.first_node-node.auto.table c.first_node-node.auto.scratch c.first_node-node.ensures.table_unchanged c.first_node-node.ensures.scratch_unchanged w.if-node-best.true w.best-is w.found-is
+      | else-node-best w ↦ finding_same k has low _ _ _ _ c.first_node-node.ensures.by_index c.first_node-node.ensures.by_index_2 c.first_node-node.auto.table c.first_node-node.auto.scratch c.first_node-node.ensures.table_unchanged c.first_node-node.ensures.scratch_unchanged w.if-node-best.false w.best-is w.found-is
+    ]
 
 pub shape_of-table-then-found-rules : goal.shape_of-table-then-found-rules
 shape_of-table-then-found-rules c = c.loop-rule.invariant.table_length

@@ -1,8 +1,6 @@
 -- `find_by_rules` finds the first step. The invariant: the rules passed cannot step before the best node, and none of them before the found one can step there.
 use Prim.Native.Nat.{◌-◌}
-use mathlib.Core.Logic.{⊎_elim}
-use native.Mathlib.Omega.{arith}
-use Rattle.step_by_rule.proofs.RulewiseLaws.{Finding, finding_start, rule_to_try, finding_better, finding_same, finding_nodes, finding_sizes, step_found, nothing_found}
+use Rattle.step_by_rule.proofs.RulewiseLaws.{Finding}
 use Rattle.step_by_rule.proofs.search.find_by_rules.Given as goal
 
 abbrev pub invariant-loop-rule : goal.invariant-loop-rule

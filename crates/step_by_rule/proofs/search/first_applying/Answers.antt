@@ -1,8 +1,7 @@
 -- Goals of `first_applying`.
-use Prim.Native.Nat.{◌-◌}
 use mathlib.Core.Path.{refl, sym, ◌∙◌}
 use native.Mathlib.Omega.{arith}
-use Rattle.step_by_rule.proofs.RulewiseLaws.{Trying, trying_start, try_here, trying_next, trying_found, trying_nodes, trying_sizes, trying_done}
+use Rattle.step_by_rule.proofs.RulewiseLaws.{trying_start, try_here, trying_next, trying_found, trying_nodes, trying_sizes, trying_done}
 use Rattle.step_by_rule.proofs.search.first_applying.Goals as goal
 
 pub loop-node-init : goal.loop-node-init
@@ -11,7 +10,8 @@ loop-node-init c = trying_start c.requires.0 c.requires.1 refl
 pub applies-requires : goal.applies-requires
 applies-requires c =
     let has = c.requires.0 in
-    let k = c.loop-node.invariant in record { has_try = record {
+    let k = c.loop-node.invariant in record {
+      has_try = record {
         arities = has.arities;
         number = has.number;
         equation = has.equation;
@@ -19,7 +19,9 @@ applies-requires c =
         subject = has.subject;
         position = _;
         is = try_here k c.loop-node-test.true has.is;
-      }; settled = k.settled }
+      };
+      settled = k.settled;
+    }
 
 pub shape_of-nodes-then-applies : goal.shape_of-nodes-then-applies
 shape_of-nodes-then-applies c = c.applies.auto.nodes ∙ trying_nodes c.loop-node.invariant c.requires.0

@@ -1,8 +1,6 @@
 -- `first_applying` finds the first node at which a rule can step. The invariant: it can step at no node passed, the subject is the same, and the cells are settled.
 use Prim.Native.Nat.{◌-◌}
-use mathlib.Core.Path.{refl, sym, ◌∙◌}
-use native.Mathlib.Omega.{arith}
-use Rattle.step_by_rule.proofs.RulewiseLaws.{Trying, trying_start, try_here, trying_next, trying_found, trying_nodes, trying_sizes, trying_done}
+use Rattle.step_by_rule.proofs.RulewiseLaws.{Trying}
 use Rattle.step_by_rule.proofs.search.first_applying.Given as goal
 
 abbrev pub invariant-loop-node : goal.invariant-loop-node

@@ -1,10 +1,7 @@
 -- Goals of `first_match`.
-use Prim.Native.Nat.{◌-◌}
-use mathlib.Core.Path.{◌≡◌, refl, sym, ◌∙◌}
+use mathlib.Core.Path.{refl, sym, ◌∙◌}
 use native.Mathlib.Omega.{arith}
-use lib.ListN.{length}
-use Rattle.format.specs.Limits.{variable_count}
-use Rattle.step_by_rule.proofs.RulewiseLaws.{Seeking, side_part, seeking_start, seeking_next, seeking_found, seeking_done}
+use Rattle.step_by_rule.proofs.RulewiseLaws.{side_part, seeking_start, seeking_next, seeking_found, seeking_done}
 use Rattle.step_by_rule.proofs.search.first_match.Goals as goal
 
 pub loop-node-init : goal.loop-node-init

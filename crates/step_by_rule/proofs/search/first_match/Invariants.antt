@@ -1,10 +1,9 @@
 -- `first_match` finds the first node at which a side matches. The invariant: it matches at no node passed.
 use Prim.Native.Nat.{◌-◌}
-use mathlib.Core.Path.{◌≡◌, refl, sym, ◌∙◌}
-use native.Mathlib.Omega.{arith}
+use mathlib.Core.Path.{◌≡◌}
 use lib.ListN.{length}
 use Rattle.format.specs.Limits.{variable_count}
-use Rattle.step_by_rule.proofs.RulewiseLaws.{Seeking, side_part, seeking_start, seeking_next, seeking_found, seeking_done}
+use Rattle.step_by_rule.proofs.RulewiseLaws.{Seeking}
 use Rattle.step_by_rule.proofs.search.first_match.Given as goal
 
 abbrev pub invariant-loop-node : goal.invariant-loop-node

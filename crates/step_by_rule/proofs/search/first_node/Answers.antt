@@ -1,11 +1,8 @@
 -- `first_node` walks a rule only if its source matches; else it can step nowhere. The lines are kept at the front of the table.
-use mathlib.Core.Path.{refl, sym, ap, ◌∙◌}
-use mathlib.Core.Logic.{inl, inr}
+use mathlib.Core.Path.{refl, sym, ◌∙◌}
 use native.Mathlib.Omega.{arith}
 use lib.Seq.{length-take-le}
-use denote.Enum.Declared.{tag_of}
 use Rattle.format.specs.Limits.{cell_count}
-use Rattle.rules.specs.contracts.keep.RuleKept.{the_type}
 use Rattle.terms.specs.Filling.{filling}
 use Rattle.reducing.proofs.Theory.Step.{none_matches}
 use Rattle.step_by_rule.proofs.RulewiseLaws.{none_for, source_there, kept_ends, kept_at_front, front_behind, scratch_after_walk, scratch_after_cells}
@@ -30,10 +27,15 @@ shape_of-sizes-then-end-from c = refl
 
 pub returns-then-end-from : goal.returns-then-end-from
 returns-then-end-from c =
-    record { by_index = λ arities i e d subject u.
+    record {
+      by_index = λ arities i e d subject u.
           let (s, t) = c.sides_of-sides.ensures c.args.equations.now arities i e d u.rule_is in
           let m = c.first_match-from.ensures arities _ subject (source_there u s) in
-          none_for u (λ p l. none_matches (filling arities) subject p i e d (m.none_before p (omega (arith, c.if-end-from.true)))); by_index_2 = (λ arities subject s. s); table_unchanged = refl; scratch_unchanged = refl }
+          none_for u (λ p l. none_matches (filling arities) subject p i e d (m.none_before p (omega (arith, c.if-end-from.true))));
+      by_index_2 = (λ arities subject s. s);
+      table_unchanged = refl;
+      scratch_unchanged = refl;
+    }
 
 pub keep_rule-kept-requires : goal.keep_rule-kept-requires
 keep_rule-kept-requires c =
@@ -58,8 +60,7 @@ pub returns-in_default : goal.returns-in_default
 returns-in_default c =
     let has = c.requires.has_unkept_try in
     let (last, y) = kept_ends has.is _ _ c.keep_rule-kept.result (c.keep_rule-kept.ensures.by_index has.arities has.number has.equation has.direction has.is.rule_is) in
-    let tag = ap (tag_of the_type) y in
-    let clauses = absurd (elim c.in_default.in_default-own.keys2 [ inl k ↦ omega (arith, tag) | inr k ↦ omega (arith, tag) ]) in record { by_index = clauses.0; by_index_2 = clauses.1.0; table_unchanged = clauses.1.1.0; scratch_unchanged = clauses.1.1.1 }
+    absurd (c.in_default.not-End last y)
 
 pub slice_bounds-first_applying-end : goal.slice_bounds-first_applying-end
 slice_bounds-first_applying-end c = omega (arith, c.keep_rule-kept.auto.scratch, c.requires.table_bytes_in_bounds.1)
@@ -71,8 +72,7 @@ pub first_applying-requires : goal.first_applying-requires
 first_applying-requires c =
     let has = c.requires.has_unkept_try in
     let (s, t) = c.sides_of-sides.ensures c.args.equations.now has.arities has.number has.equation has.direction has.is.rule_is in
-    let matches = c.first_match-from.ensures has.arities _ has.subject (source_there has.is s) in
-    (
+    let matches = c.first_match-from.ensures has.arities _ has.subject (source_there has.is s) in (
       record {
         arities = has.arities;
         number = has.number;
@@ -100,7 +100,12 @@ shape_of-scratch c = c.scratch-2-1.given.1 ∙ c.keep_rule-kept.auto.scratch
 pub returns : goal.returns
 returns c =
     let has = c.requires.has_unkept_try in
-    let cells = c.first_applying.auto.cells ∙ length-take-le cell_count c.keep_rule-kept.new.scratch (omega (arith, c.keep_rule-kept.auto.scratch, c.requires.table_bytes_in_bounds.1)) in record { by_index = λ arities i e d subject u.
+    let cells = c.first_applying.auto.cells ∙ length-take-le cell_count c.keep_rule-kept.new.scratch (omega (arith, c.keep_rule-kept.auto.scratch, c.requires.table_bytes_in_bounds.1)) in record {
+      by_index = λ arities i e d subject u.
           let (s, t) = c.sides_of-sides.ensures c.args.equations.now arities i e d u.rule_is in
           let matches = c.first_match-from.ensures arities _ subject (source_there u s) in
-          c.first_applying.ensures.by_index arities i e d subject (kept_at_front u c.args.table.now c.keep_rule-kept.new.table c.requires.table_bytes_in_bounds.0 (c.keep_rule-kept.ensures.by_index arities i e d u.rule_is) c.in-End.is matches); by_index_2 = c.first_applying.ensures.by_index_2; table_unchanged = front_behind has c.args.table.now c.keep_rule-kept.new.table c.keep_rule-kept.result c.requires.table_bytes_in_bounds.0 (c.keep_rule-kept.ensures.by_index has.arities has.number has.equation has.direction has.is.rule_is); scratch_unchanged = scratch_after_cells c.first_applying.new.cells c.keep_rule-kept.new.scratch cells ∙ scratch_after_walk c.args.scratch.now c.keep_rule-kept.new.scratch c.keep_rule-kept.ensures.scratch_unchanged }
+          c.first_applying.ensures.by_index arities i e d subject (kept_at_front u c.args.table.now c.keep_rule-kept.new.table c.requires.table_bytes_in_bounds.0 (c.keep_rule-kept.ensures.by_index arities i e d u.rule_is) c.in-End.is matches);
+      by_index_2 = c.first_applying.ensures.by_index_2;
+      table_unchanged = front_behind has c.args.table.now c.keep_rule-kept.new.table c.keep_rule-kept.result c.requires.table_bytes_in_bounds.0 (c.keep_rule-kept.ensures.by_index has.arities has.number has.equation has.direction has.is.rule_is);
+      scratch_unchanged = scratch_after_cells c.first_applying.new.cells c.keep_rule-kept.new.scratch cells ∙ scratch_after_walk c.args.scratch.now c.keep_rule-kept.new.scratch c.keep_rule-kept.ensures.scratch_unchanged;
+    }
