@@ -1,5 +1,4 @@
 -- `clear` leaves ff in the table and 00 in scratch.
-use borrow.Author.Rules.{rules}
 use Rattle.run_task.proofs.task.clear.Goals as goal
 
 pub returns : goal.returns

@@ -1,14 +1,12 @@
 -- `run_found` is run on a task that is a run.
 use Prim.Native.Nat.{ℕ}
 use mathlib.Core.Path.{◌≡◌, refl, sym, subst, ◌∙◌}
-use mathlib.Core.Logic.{inl, inr}
 use native.Mathlib.Omega.{arith}
 use Rattle.format.specs.Limits.{scratch_bytes}
 use Rattle.format.specs.declared.refusal.Refusal.{Refusal}
 use Rattle.scanning.specs.ForContracts.Scan.{known_arities}
 use Rattle.rules.specs.declared.walks.Walks.TheVariants.{Refused}
 use Rattle.run_task.proofs.RunTaskLaws.{number_low, walks_ready, ran_as, number_ran, refused_as, its_equations, its_equations_counted, its_run, limit_low, scratch_behind, reduction_answered}
-use borrow.Author.Rules.{rules}
 use Rattle.outcomes.specs.Theory.Fill.{cleared_behind, blanked_behind}
 use Rattle.rules.specs.ForContracts.Walks.{LinesReady}
 use Rattle.run_task.proofs.task.run_found.Goals as goal
@@ -50,7 +48,7 @@ run_course-course-requires c =
     let is = c.requires.has_reduction.is in
     let term = (its_run is c.store_equations.new.equations c.store_equations.new.lengths c.keep_rules-walks.new.bounds c.store_equations.ensures c.keep_rules-walks.auto.bounds) in
     let walked = (c.keep_rules-walks.ensures.by_index (known_arities c.args.known) (its_equations is) (c.store_equations.ensures is.is_task.0 is.is_task.1) (its_equations_counted is)) in
-    let other : (why : Refusal) (n : ℕ) → c.keep_rules-walks.result ≡ Refused why n → ⊥ = λ why n e. elim c.in_default.in_default-own.keys2 [ inl k ↦ (let z : ◌≡◌ {A = ℕ} 0 1 = rw e at k in omega arith) | inr k ↦ (let z : ◌≡◌ {A = ℕ} 0 2 = rw e at k in omega arith) ] in record { has_run_term = (record { those = its_equations is; subject = is.subject; is = term; ready = (subst (λ b. LinesReady b c.keep_rules-walks.new.bounds c.keep_rules-walks.new.table (its_equations is)) (sym c.lines_fit.ensures) (walks_ready (its_equations is) c.keep_rules-walks.new.bounds c.keep_rules-walks.new.table c.keep_rules-walks.result other walked)) }, limit_low is); table_bytes_in_bounds = (omega (arith, c.requires.table_bytes_in_bounds.0, c.table-1.given), omega (arith, c.requires.table_bytes_in_bounds.1, c.scratch-1.given), c.requires.table_bytes_in_bounds.2, c.requires.table_bytes_in_bounds.3) }
+    let other : (why : Refusal) (n : ℕ) → c.keep_rules-walks.result ≡ Refused why n → ⊥ = c.in_default.not-Refused in record { has_run_term = (record { those = its_equations is; subject = is.subject; is = term; ready = (subst (λ b. LinesReady b c.keep_rules-walks.new.bounds c.keep_rules-walks.new.table (its_equations is)) (sym c.lines_fit.ensures) (walks_ready (its_equations is) c.keep_rules-walks.new.bounds c.keep_rules-walks.new.table c.keep_rules-walks.result other walked)) }, limit_low is); table_bytes_in_bounds = (omega (arith, c.requires.table_bytes_in_bounds.0, c.table-1.given), omega (arith, c.requires.table_bytes_in_bounds.1, c.scratch-1.given), c.requires.table_bytes_in_bounds.2, c.requires.table_bytes_in_bounds.3) }
 
 pub clear-requires-2 : goal.clear-requires-2
 clear-requires-2 c = (omega (arith, c.requires.table_bytes_in_bounds.0, c.table-1.given, c.table-2-1.given), omega (arith, c.requires.table_bytes_in_bounds.1, c.scratch-1.given, c.scratch-2-1.given))
@@ -60,13 +58,13 @@ course_number-requires c =
     let is = c.requires.has_reduction.is in
     let term = (its_run is c.store_equations.new.equations c.store_equations.new.lengths c.keep_rules-walks.new.bounds c.store_equations.ensures c.keep_rules-walks.auto.bounds) in
     let walked = (c.keep_rules-walks.ensures.by_index (known_arities c.args.known) (its_equations is) (c.store_equations.ensures is.is_task.0 is.is_task.1) (its_equations_counted is)) in
-    let other : (why : Refusal) (n : ℕ) → c.keep_rules-walks.result ≡ Refused why n → ⊥ = λ why n e. elim c.in_default.in_default-own.keys2 [ inl k ↦ (let z : ◌≡◌ {A = ℕ} 0 1 = rw e at k in omega arith) | inr k ↦ (let z : ◌≡◌ {A = ℕ} 0 2 = rw e at k in omega arith) ] in
+    let other : (why : Refusal) (n : ℕ) → c.keep_rules-walks.result ≡ Refused why n → ⊥ = c.in_default.not-Refused in
     let course = c.run_course-course.ensures.run_course (its_equations is) is.subject term (subst (λ b. LinesReady b c.keep_rules-walks.new.bounds c.keep_rules-walks.new.table (its_equations is)) (sym c.lines_fit.ensures) (walks_ready (its_equations is) c.keep_rules-walks.new.bounds c.keep_rules-walks.new.table c.keep_rules-walks.result other walked)) in
     (course.few_steps (limit_low is), course.small)
 
 pub returns : goal.returns
 returns c =
-    let other : (why : Refusal) (n : ℕ) → c.keep_rules-walks.result ≡ Refused why n → ⊥ = λ why n e. elim c.in_default.in_default-own.keys2 [ inl k ↦ (let z : ◌≡◌ {A = ℕ} 0 1 = rw e at k in omega arith) | inr k ↦ (let z : ◌≡◌ {A = ℕ} 0 2 = rw e at k in omega arith) ] in
+    let other : (why : Refusal) (n : ℕ) → c.keep_rules-walks.result ≡ Refused why n → ⊥ = c.in_default.not-Refused in
     λ task is.
     let term = (its_run is c.store_equations.new.equations c.store_equations.new.lengths c.keep_rules-walks.new.bounds c.store_equations.ensures c.keep_rules-walks.auto.bounds) in
     let walked = (c.keep_rules-walks.ensures.by_index (known_arities c.args.known) (its_equations is) (c.store_equations.ensures is.is_task.0 is.is_task.1) (its_equations_counted is)) in

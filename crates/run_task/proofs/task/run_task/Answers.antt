@@ -1,5 +1,4 @@
 -- `run_task` is run on an accepted sheet.
-use borrow.Author.Rules.{rules}
 use Rattle.run_task.proofs.RunTaskLaws.{task_absent, comparison_there, judgement_there, reduction_found}
 use Rattle.run_task.proofs.task.run_task.Goals as goal
 
@@ -8,10 +7,13 @@ returns-then-known-task c = task_absent c.args.sheet.now c.args.table.now c.args
 
 pub run_found-requires : goal.run_found-requires
 run_found-requires c =
-    record { has_reduction = record {
+    record {
+      has_reduction = record {
         task = c.args.task;
         is = reduction_found c.args.sheet.now c.args.task c.args.known c.requires.accepts c.if-known-task.false c.find_task-found.result c.find_task-found.ensures c.in-Run.is;
-      }; table_bytes_in_bounds = c.requires.table_bytes_in_bounds }
+      };
+      table_bytes_in_bounds = c.requires.table_bytes_in_bounds;
+    }
 
 pub returns-in-Run : goal.returns-in-Run
 returns-in-Run c =
