@@ -1,4 +1,4 @@
-// Links the calls' archive, which `rt staticlib neblinaro` writes at the repository's root.
+// Links the calls' archive, which `./build` writes at the repository's root.
 fn main() {
     let root = std::path::Path::new(env!("CARGO_MANIFEST_DIR")).parent().expect("the repository");
     let archive = root.join("target/staticlib");

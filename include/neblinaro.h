@@ -4,7 +4,7 @@
  * A sheet is text: symbols, equations, and tasks over ground terms. The calls check a sheet, compare ground terms in
  * the lexicographic path ordering, solve an equation in a direction, ask whether it always holds, judge values, and run
  * a term.
- * Link with target/staticlib/libneblinaro.a, which `rt staticlib neblinaro` writes.
+ * Link with target/staticlib/libneblinaro.a, which `./build` writes.
  *
  * Each call is lent the whole sheet and reads it afresh. Nothing is kept between calls and nothing is shared between
  * them, nothing is allocated, and no call takes a lock or blocks: any number of threads may call at once, each with

@@ -10,10 +10,10 @@ pub fn root() -> &'static Path {
     Path::new(env!("CARGO_MANIFEST_DIR")).parent().expect("the repository")
 }
 
-/// The proved program, which `rt check examiner` builds, unless the variable EXAMINER names another.
+/// The proved program, which `./build` builds, unless the variable EXAMINER names another.
 pub fn examiner() -> PathBuf {
     let path = std::env::var_os("EXAMINER").map_or_else(|| root().join("target/bin/examiner"), PathBuf::from);
-    assert!(path.is_file(), "there is no program {}: `rt check examiner` builds it", path.display());
+    assert!(path.is_file(), "there is no program {}: `./build` builds it", path.display());
     path
 }
 

@@ -6,8 +6,7 @@ use crate::direction::directed_call;
 use solve_task::direction::Call;
 
 // Yes or no and the turns above the refusal's byte, or a refusal. What is left in the table and in scratch is defined for each.
-#[unsafe(no_mangle)]
-pub extern "C" fn neblinaro_always(
+pub fn neblinaro_always(
     sheet: &[u8],
     equation: u64,
     direction: u64,

@@ -6,8 +6,7 @@ use outcomes::number::refusal_number;
 use reading::read::{SheetStatus, read_sheet};
 
 // The refusal and its line, or 0.
-#[unsafe(no_mangle)]
-pub extern "C" fn neblinaro_check(sheet: &[u8]) -> u64
+pub fn neblinaro_check(sheet: &[u8]) -> u64
     ensures value { result ≡ check_call sheet.now }
     ensures unchanged { sheet.now ≡ sheet.now }
 {

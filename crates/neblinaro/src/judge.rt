@@ -9,13 +9,7 @@ use outcomes::number::refusal_number;
 use reading::read::{SheetStatus, read_sheet};
 
 // 1 or 0 and the first holding line, counted from 1, or 0, above the refusal's byte; or a refusal. What is left in the table and in scratch is defined for each.
-#[unsafe(no_mangle)]
-pub extern "C" fn neblinaro_judge(
-    sheet: &[u8],
-    task: u64,
-    table: &mut [u8],
-    scratch: &mut [u8],
-) -> u64
+pub fn neblinaro_judge(sheet: &[u8], task: u64, table: &mut [u8], scratch: &mut [u8]) -> u64
     ensures scratch_value { judge_call sheet.now task table.old scratch.old ≡ record { returned = result; table = table.new; scratch = scratch.new } }
     ensures unchanged { sheet.now ≡ sheet.now }
 {

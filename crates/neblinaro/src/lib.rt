@@ -1,4 +1,4 @@
-// The calls for a marking host written in C. Each is lent the whole sheet and reads it afresh; nothing is kept between calls.
+// The calls for a marking host. Each is lent the whole sheet and reads it afresh; nothing is kept between calls. `neblinaro_c` exports them for C.
 #![tactic(auto)]
 
 pub mod always;

@@ -10,8 +10,7 @@ use run_task::task::run_task;
 
 // Steps, ending and the bytes of the last term above the refusal's byte, that term and the log of the steps; or a refusal. What is left in each lent buffer is
 // defined for each.
-#[unsafe(no_mangle)]
-pub extern "C" fn neblinaro_run(
+pub fn neblinaro_run(
     sheet: &[u8],
     task: u64,
     table: &mut [u8],

@@ -6,8 +6,7 @@ use crate::direction::directed_call;
 use solve_task::direction::Call;
 
 // Lines and turns above the refusal's byte, and the records in the table; or a refusal. What is left in the table and in scratch is defined for each.
-#[unsafe(no_mangle)]
-pub extern "C" fn neblinaro_solve(
+pub fn neblinaro_solve(
     sheet: &[u8],
     equation: u64,
     direction: u64,
