@@ -30,7 +30,7 @@ def code_of(line):
 
 
 def spelled(name):
-    return name.replace("getD", "get_or").replace("-", "_")
+    return name.replace("getD", "get_or").replace("get_d-", "get_or-").replace("-", "_")
 
 
 def names(files):

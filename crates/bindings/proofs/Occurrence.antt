@@ -17,7 +17,7 @@ use Rattle.solving.specs.ForContracts.Seen.{Reaches, stays, goes, Occurs, here, 
 use Rattle.solving.proofs.Theory.Reach.{enough_suffices, occurs_found, occurs_finds}
 use Rattle.bindings.specs.ForContracts.PrefixForm.{view_of, InPrefixForm}
 use Rattle.bindings.specs.ForContracts.Bindings.{bindings_of, Readable}
-use Rattle.bindings.specs.Theory.PrefixForm.{get_d_any, variable_seen, seen_variable, form_layout}
+use Rattle.bindings.specs.Theory.PrefixForm.{get_or_any, variable_seen, seen_variable, form_layout}
 use Rattle.bindings.specs.Theory.Bindings.{bound_byte, free_byte, lookup_byte, length_bindings, bound_there}
 use Rattle.bindings.proofs.Within.{Part, whole, inside as within, size_pos, part_at, part_start, part_end, part_argument}
 use Rattle.bindings.specs.ForContracts.Sets.{Has, Singleton, Joined, Within, OccursAmong, HasVariables}
@@ -31,7 +31,7 @@ bound_lookup bs w q e = go (dec_lt (get_or bs w no_position) no_position) (dec_l
     go (yes h) (yes l) =
         let x = lookup_byte bs w ∙ bound_byte (get_or bs w no_position) h in
         let y : get_or bs w no_position ≡ q = cc in
-        (omega (arith, get_d_any bs w no_position 0 l), omega (arith, get_d_any bs w no_position 0 l))
+        (omega (arith, get_or_any bs w no_position 0 l), omega (arith, get_or_any bs w no_position 0 l))
     go (yes h) (no l) = let z : get_or bs w no_position ≡ no_position = get_or-eq_default bs no_position (omega arith) in absurd (omega arith)
     go (no h) d = let x = lookup_byte bs w ∙ free_byte (get_or bs w no_position) (omega arith) in let z : ◌≡◌ {A = ℕ} 0 1 = cc in absurd (omega arith)
 
@@ -72,7 +72,7 @@ stands_seen : {nodes sizes : List ℕ} {q w : ℕ} → InPrefixForm nodes sizes 
     → (w < variable_count) × (view_of nodes sizes s.position ≡ var_node w) × Part nodes sizes s.position q
 stands_seen {nodes} {sizes} {q} {w} laid l s =
     let m : s.position < length nodes = omega (arith, laid.ends_within q l, s.ahead) in
-    let e : get_or nodes s.position first_variable ≡ first_variable + w = get_d_any nodes s.position first_variable 0 m ∙ s.byte in
+    let e : get_or nodes s.position first_variable ≡ first_variable + w = get_or_any nodes s.position first_variable 0 m ∙ s.byte in
     let x : get_or nodes s.position first_variable - first_variable ≡ w = omega arith in
     (omega (arith, laid.variable_low s.position m (omega arith)), variable_seen nodes sizes s.position (omega arith) ∙ ap var_node x, part_at laid q s.position l s.behind s.ahead)
 
@@ -81,7 +81,7 @@ seen_stands {nodes} {sizes} {i} {q} {w} laid l d e = record {
   position = i;
   behind = part_start laid d;
   ahead = omega (arith, part_end laid d, size_pos laid i l);
-  byte = get_d_any nodes i 0 first_variable l ∙ (seen_variable laid i w e).0;
+  byte = get_or_any nodes i 0 first_variable l ∙ (seen_variable laid i w e).0;
 }
 
 module _ {nodes sizes variables bs : List ℕ} {v : ℕ} (g : Sought nodes sizes variables bs v) where

@@ -87,17 +87,17 @@ length_between text (suc n) at h =
     ap length (between_cons text at (at + 2 * suc n) (omega arith) h)
     ∙ ap suc (ap (λ m. length (bytes_between text (at + 2) m)) e ∙ length_between text n (at + 2) (omega arith))
 
-get_d_between : (text : List ℕ) (n at i : ℕ) → at + 2 * n ≤ length text → i < n → get_or (bytes_between text at (at + 2 * n)) i 0 ≡ pair_at text (at + 2 * i)
-get_d_between text zero at i h l = absurd (omega arith)
-get_d_between text (suc n) at zero h l =
+get_or_between : (text : List ℕ) (n at i : ℕ) → at + 2 * n ≤ length text → i < n → get_or (bytes_between text at (at + 2 * n)) i 0 ≡ pair_at text (at + 2 * i)
+get_or_between text zero at i h l = absurd (omega arith)
+get_or_between text (suc n) at zero h l =
     let e : at + 2 * 0 ≡ at = omega arith in
     ap (λ bs. get_or bs 0 0) (between_cons text at (at + 2 * suc n) (omega arith) h) ∙ ap (pair_at text) (sym e)
-get_d_between text (suc n) at (suc i) h l =
+get_or_between text (suc n) at (suc i) h l =
     let e : at + 2 * suc n ≡ at + 2 + 2 * n = omega arith in
     let d : at + 2 + 2 * i ≡ at + 2 * suc i = omega arith in
     ap (λ bs. get_or bs (suc i) 0) (between_cons text at (at + 2 * suc n) (omega arith) h)
     ∙ ap (λ m. get_or (bytes_between text (at + 2) m) i 0) e
-    ∙ get_d_between text n (at + 2) i (omega arith) (omega arith)
+    ∙ get_or_between text n (at + 2) i (omega arith) (omega arith)
     ∙ ap (pair_at text) d
 
 module _ (text : List ℕ) (from n : ℕ) where
@@ -127,7 +127,7 @@ module _ (text : List ℕ) (from n : ℕ) (r : AritiesReady text from n) where
       → AritiesFilled text from n (record { symbols = k.symbols; arities = set k.arities i a; equations = k.equations; widths = k.widths; tasks = k.tasks }) (i + 1)
   unfolding body
   filled_next k i a g h e s =
-      let at_i : get_or (body text from n) i 0 ≡ a = get_d_between text n from i r.inside h ∙ sym e in
+      let at_i : get_or (body text from n) i 0 ≡ a = get_or_between text n from i r.inside h ∙ sym e in
       let more : take (i + 1) (body text from n) ≡ take i (body text from n) ++ (a ∷ []) =
       ap (λ m. take m (body text from n)) (add-one i)
       ∙ take-suc (body text from n) i 0 (omega (arith, length_body))
@@ -164,7 +164,7 @@ module _ (text : List ℕ) (from n : ℕ) (r : AritiesReady text from n) where
   pub too_high : (i a : ℕ) → i < n → a ≡ pair_at text (from + 2 * i) → max_arity < a → symbols_right n (bytes_between text from (from + 2 * n)) ≡ false
   unfolding body
   too_high i a h e s =
-      let at_i : get_or (body text from n) i 0 ≡ a = get_d_between text n from i r.inside h ∙ sym e in
+      let at_i : get_or (body text from n) i 0 ≡ a = get_or_between text n from i r.inside h ∙ sym e in
       right_tests ∙ ap (◌&& any (λ a. eqb a 0) (body text from n)) (all_at (λ a. leb a max_arity) (body text from n) i (omega (arith, length_body)) (ap (λ x. leb x max_arity) at_i ∙ lt-leb a max_arity s))
 
   -- All of them, with or without a constant.

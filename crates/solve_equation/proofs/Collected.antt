@@ -11,7 +11,7 @@ use Rattle.format.specs.Limits.{first_variable, variable_count}
 use Rattle.bindings.specs.ForContracts.PrefixForm.{arguments_of, InPrefixForm}
 use Rattle.bindings.specs.ForContracts.Count.{HasRow}
 use Rattle.bindings.specs.ForContracts.Sets.{Has, Singleton, Joined, OccursAmong, SetOf, VariablesFrom}
-use Rattle.bindings.specs.Theory.PrefixForm.{get_d_any, row_ordered, row_next, row_first_some}
+use Rattle.bindings.specs.Theory.PrefixForm.{get_or_any, row_ordered, row_next, row_first_some}
 use Rattle.bindings.specs.Theory.Sets.{none_has}
 
 -- Among more positions.
@@ -26,7 +26,7 @@ pub record Collecting (nodes sizes : List ℕ) (p end k set : ℕ) : Type 0 wher
 
 module _ {nodes sizes : List ℕ} (laid : InPrefixForm nodes sizes) (p : ℕ) (l : p < length nodes) where
   pub variable_index : {w : ℕ} → first_variable ≤ get_or nodes p 0 → w ≡ get_or nodes p 0 - first_variable → w < variable_count
-  variable_index h e = let x = get_d_any nodes p 0 first_variable l in omega (arith, laid.variable_low p l (omega arith))
+  variable_index h e = let x = get_or_any nodes p 0 first_variable l in omega (arith, laid.variable_low p l (omega arith))
 
   pub own_variable : {w s : ℕ} → first_variable ≤ get_or nodes p 0 → w ≡ get_or nodes p 0 - first_variable → Singleton w s → SetOf nodes p (p + get_or sizes p 0) s
   own_variable {w} {s} h e k = record {
@@ -35,12 +35,12 @@ module _ {nodes sizes : List ℕ} (laid : InPrefixForm nodes sizes) (p : ℕ) (l
   }
     where
       size : get_or sizes p 0 ≡ 1
-      size = laid.variable_alone p l (omega (arith, get_d_any nodes p first_variable 0 l))
+      size = laid.variable_alone p l (omega (arith, get_or_any nodes p first_variable 0 l))
 
   pub collecting_start : {size : ℕ} → size ≡ get_or sizes p 0 → get_or nodes p 0 < first_variable → Collecting nodes sizes p (p + size) (p + 1) 0
   collecting_start e h = record {
     behind = omega arith;
-    rest = record { starts = arguments_of sizes p; row = rw e (laid.arguments p l (omega (arith, get_d_any nodes p first_variable 0 l))); within = omega (arith, laid.ends_within p l, laid.same_length) };
+    rest = record { starts = arguments_of sizes p; row = rw e (laid.arguments p l (omega (arith, get_or_any nodes p first_variable 0 l))); within = omega (arith, laid.ends_within p l, laid.same_length) };
     so_far = record { stands = λ w x. absurd (none_has w x); has = λ w o. absurd (omega (arith, o.behind, o.ahead)) };
   }
 

@@ -7,7 +7,7 @@ use Rattle.std.proofs.Math.Decide.{dec_lt}
 use Rattle.format.specs.Limits.{variable_count, no_position, max_byte}
 use Rattle.solving.specs.Line.{lookup, bind}
 use Rattle.bindings.specs.ForContracts.Bindings.{binding_of, bindings_of, Readable}
-use Rattle.bindings.specs.Theory.PrefixForm.{get_d_any}
+use Rattle.bindings.specs.Theory.PrefixForm.{get_or_any}
 
 pub bound_byte : (b : ℕ) → b < no_position → binding_of b ≡ some b
 unfolding binding_of
@@ -25,10 +25,10 @@ lookup_byte (b ∷ bs) (suc v) = lookup_byte bs v
 
 -- The same, of the byte that is read there.
 pub bound_there : (bs : List ℕ) (v : ℕ) → v < length bs → get_or bs v 0 < no_position → lookup (bindings_of bs) v ≡ some (get_or bs v 0)
-bound_there bs v l h = lookup_byte bs v ∙ (ap binding_of (get_d_any bs v no_position 0 l) ∙ bound_byte (get_or bs v 0) h)
+bound_there bs v l h = lookup_byte bs v ∙ (ap binding_of (get_or_any bs v no_position 0 l) ∙ bound_byte (get_or bs v 0) h)
 
 pub free_there : (bs : List ℕ) (v : ℕ) → v < length bs → get_or bs v 0 ≡ no_position → lookup (bindings_of bs) v ≡ none
-free_there bs v l h = lookup_byte bs v ∙ (ap binding_of (get_d_any bs v no_position 0 l) ∙ free_byte (get_or bs v 0) (omega arith))
+free_there bs v l h = lookup_byte bs v ∙ (ap binding_of (get_or_any bs v no_position 0 l) ∙ free_byte (get_or bs v 0) (omega arith))
 
 pub bind_byte : (bs : List ℕ) (v p : ℕ) → p < no_position → bindings_of (set bs v p) ≡ bind (bindings_of bs) v p
 unfolding bindings_of

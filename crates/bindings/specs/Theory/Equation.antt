@@ -8,7 +8,7 @@ use native.Mathlib.Omega.{arith}
 use Rattle.std.proofs.Math.Decide.{dec_lt}
 use Rattle.format.specs.Limits.{first_variable, variable_count, max_symbols}
 use Rattle.format.specs.Lists.{Every}
-use Rattle.format.specs.Theory.Lists.{every_append, every_get_or, get_d_map}
+use Rattle.format.specs.Theory.Lists.{every_append, every_get_or, get_or_map}
 use Rattle.terms.specs.Term.{Term, Terms, var, app, nil, cons, size, sizes}
 use Rattle.terms.specs.Position.{subterms, subterms_of, starts, var_node, node_at}
 use Rattle.terms.specs.Prefix.{prefix, prefixes, equation_bytes}
@@ -21,7 +21,7 @@ use Rattle.terms.specs.Theory.Positions.{Segment, term_head, first_segment, rest
 use Rattle.terms.specs.ForContracts.Fits.{AllFit, Fits}
 use Rattle.bindings.specs.ForContracts.PrefixForm.{row, arguments_of, view_of, Row, none, more, InPrefixForm}
 use Rattle.bindings.specs.ForContracts.Equation.{equation_sizes}
-use Rattle.bindings.specs.Theory.PrefixForm.{row_ordered, row_empty, get_d_any, symbol_seen, variable_seen}
+use Rattle.bindings.specs.Theory.PrefixForm.{row_ordered, row_empty, get_or_any, symbol_seen, variable_seen}
 
 -- 1. The byte at a position is that of the term there.
 unfoldable first_byte : Term → ℕ
@@ -64,11 +64,11 @@ module _ (e : Equation) where
 
   byte_at : (p : ℕ) → get_or (equation_bytes e) p first_variable ≡ first_byte (term_at e p)
   unfolding term_at first_byte
-  byte_at p = ap (λ l. get_or l p first_variable) nodes_bytes ∙ get_d_map first_byte (all_subterms e) p (var 0)
+  byte_at p = ap (λ l. get_or l p first_variable) nodes_bytes ∙ get_or_map first_byte (all_subterms e) p (var 0)
 
   pub size_at : (p : ℕ) → p < positions e → get_or (equation_sizes e) p 0 ≡ size (term_at e p)
   unfolding equation_sizes term_at
-  size_at p h = get_d_any (map size (all_subterms e)) p 0 (size (var 0)) (omega (arith, length_sizes)) ∙ get_d_map size (all_subterms e) p (var 0)
+  size_at p h = get_or_any (map size (all_subterms e)) p 0 (size (var 0)) (omega (arith, length_sizes)) ∙ get_or_map size (all_subterms e) p (var 0)
 
   -- The terms of a row of the equation.
   starts_row : (ts : Terms) (b : ℕ) → Segment (all_subterms e) b (subterms_of ts) → Row (equation_sizes e) b (b + sizes ts) (starts ts b)

@@ -58,10 +58,10 @@ module _ {sizes : List ℕ} where
   row_next (more {ps = qs} l r) h = (qs, refl, r)
 
 -- What is past the end of a list does not matter within it.
-pub get_d_any : {A : Type 0} (xs : List A) (i : ℕ) (d e : A) → i < length xs → get_or xs i d ≡ get_or xs i e
-get_d_any [] i d e h = absurd (omega arith)
-get_d_any (x ∷ xs) zero d e h = refl
-get_d_any (x ∷ xs) (suc i) d e h = get_d_any xs i d e (omega arith)
+pub get_or_any : {A : Type 0} (xs : List A) (i : ℕ) (d e : A) → i < length xs → get_or xs i d ≡ get_or xs i e
+get_or_any [] i d e h = absurd (omega arith)
+get_or_any (x ∷ xs) zero d e h = refl
+get_or_any (x ∷ xs) (suc i) d e h = get_or_any xs i d e (omega arith)
 
 module _ (nodes sizes : List ℕ) where
   pub symbol_seen : (p : ℕ) → get_or nodes p first_variable < first_variable → view_of nodes sizes p ≡ app_node (get_or nodes p first_variable) (arguments_of sizes p)
@@ -74,7 +74,7 @@ module _ (nodes sizes : List ℕ) where
 
   -- The same, of the byte that is read there.
   pub byte_there : (p : ℕ) → p < length nodes → get_or nodes p first_variable ≡ get_or nodes p 0
-  byte_there p h = get_d_any nodes p first_variable 0 h
+  byte_there p h = get_or_any nodes p first_variable 0 h
 
   pub symbol_there : (p : ℕ) → p < length nodes → get_or nodes p 0 < first_variable → view_of nodes sizes p ≡ app_node (get_or nodes p 0) (arguments_of sizes p)
   symbol_there p l h = let e = byte_there p l in rw e at (symbol_seen p (omega arith))

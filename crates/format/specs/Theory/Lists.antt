@@ -41,10 +41,10 @@ every_at P [] i d h l = absurd (omega arith)
 every_at P (x ∷ xs) zero d h l = h.0
 every_at P (x ∷ xs) (suc i) d h l = every_at P xs i d h.1 (omega arith)
 
-pub get_d_map : {A B : Type 0} (f : A → B) (xs : List A) (i : ℕ) (d : A) → get_or (map f xs) i (f d) ≡ f (get_or xs i d)
-get_d_map f [] i d = refl
-get_d_map f (x ∷ xs) zero d = refl
-get_d_map f (x ∷ xs) (suc i) d = get_d_map f xs i d
+pub get_or_map : {A B : Type 0} (f : A → B) (xs : List A) (i : ℕ) (d : A) → get_or (map f xs) i (f d) ≡ f (get_or xs i d)
+get_or_map f [] i d = refl
+get_or_map f (x ∷ xs) zero d = refl
+get_or_map f (x ∷ xs) (suc i) d = get_or_map f xs i d
 
 pub entry_length : {A : Type 0} (xs : List A) (i : ℕ) {x : A} → entry xs i ≡ some x → i < length xs
 unfolding entry
