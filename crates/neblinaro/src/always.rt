@@ -14,7 +14,7 @@ pub fn neblinaro_always(
     scratch: &mut [u8],
 ) -> u64
     ensures scratch_value { always_call sheet.now equation direction table.old scratch.old ≡ record { returned = result; table = table.new; scratch = scratch.new } }
-    ensures unchanged { sheet.now ≡ sheet.now }
+    ensures unchanged { sheet.exit.now ≡ sheet.entry.now }
 {
     directed_call(Call::Always, sheet, equation, direction, table, scratch)
 }

@@ -8,7 +8,7 @@ use reading::read::{SheetStatus, read_sheet};
 // The refusal and its line, or 0.
 pub fn neblinaro_check(sheet: &[u8]) -> u64
     ensures value { result ≡ check_call sheet.now }
-    ensures unchanged { sheet.now ≡ sheet.now }
+    ensures unchanged { sheet.exit.now ≡ sheet.entry.now }
 {
     let read = read_sheet(sheet);
     let status = read.status;

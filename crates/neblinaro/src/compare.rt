@@ -11,7 +11,7 @@ use reading::read::{SheetStatus, read_sheet};
 // 0 smaller, 1 equal, 2 greater, above the refusal's byte, and above that the clause, 1 to 3, or 0 for equal; scratch's first bytes are left 00, and as they were where the call is refused.
 pub fn neblinaro_compare(sheet: &[u8], task: u64, scratch: &mut [u8]) -> u64
     ensures scratch_value { compare_call sheet.now task scratch.old ≡ record { returned = result; scratch = scratch.new } }
-    ensures unchanged { sheet.now ≡ sheet.now }
+    ensures unchanged { sheet.exit.now ≡ sheet.entry.now }
 {
     if scratch.len() < Limits::SCRATCH {
         return refusal_number(Refusal::ShortBuffer, 0);

@@ -11,7 +11,7 @@ use reading::read::{SheetStatus, read_sheet};
 // 1 or 0 and the first holding line, counted from 1, or 0, above the refusal's byte; or a refusal. What is left in the table and in scratch is defined for each.
 pub fn neblinaro_judge(sheet: &[u8], task: u64, table: &mut [u8], scratch: &mut [u8]) -> u64
     ensures scratch_value { judge_call sheet.now task table.old scratch.old ≡ record { returned = result; table = table.new; scratch = scratch.new } }
-    ensures unchanged { sheet.now ≡ sheet.now }
+    ensures unchanged { sheet.exit.now ≡ sheet.entry.now }
 {
     if table.len() < Limits::TABLE {
         return refusal_number(Refusal::ShortBuffer, 0);

@@ -19,7 +19,7 @@ pub fn neblinaro_run(
     log: &mut [u8],
 ) -> u64
     ensures log_value { run_call sheet.now task table.old scratch.old term.old log.old ≡ record { returned = result; table = table.new; scratch = scratch.new; term = term.new; log = log.new } }
-    ensures unchanged { sheet.now ≡ sheet.now }
+    ensures unchanged { sheet.exit.now ≡ sheet.entry.now }
 {
     if table.len() < Limits::TABLE {
         return refusal_number(Refusal::ShortBuffer, 0);

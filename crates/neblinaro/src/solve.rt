@@ -14,7 +14,7 @@ pub fn neblinaro_solve(
     scratch: &mut [u8],
 ) -> u64
     ensures scratch_value { solve_call sheet.now equation direction table.old scratch.old ≡ record { returned = result; table = table.new; scratch = scratch.new } }
-    ensures unchanged { sheet.now ≡ sheet.now }
+    ensures unchanged { sheet.exit.now ≡ sheet.entry.now }
 {
     directed_call(Call::Solve, sheet, equation, direction, table, scratch)
 }

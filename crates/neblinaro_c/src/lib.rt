@@ -10,7 +10,7 @@ use neblinaro::{always, check, compare, judge, run, solve};
 #[unsafe(no_mangle)]
 pub extern "C" fn neblinaro_check(sheet: &[u8]) -> u64
     ensures value { result ≡ check_call sheet.now }
-    ensures unchanged { sheet.now ≡ sheet.now }
+    ensures unchanged { sheet.exit.now ≡ sheet.entry.now }
 {
     check::neblinaro_check(sheet)
 }
@@ -19,7 +19,7 @@ pub extern "C" fn neblinaro_check(sheet: &[u8]) -> u64
 #[unsafe(no_mangle)]
 pub extern "C" fn neblinaro_compare(sheet: &[u8], task: u64, scratch: &mut [u8]) -> u64
     ensures scratch_value { compare_call sheet.now task scratch.old ≡ record { returned = result; scratch = scratch.new } }
-    ensures unchanged { sheet.now ≡ sheet.now }
+    ensures unchanged { sheet.exit.now ≡ sheet.entry.now }
 {
     compare::neblinaro_compare(sheet, task, scratch)
 }
@@ -34,7 +34,7 @@ pub extern "C" fn neblinaro_solve(
     scratch: &mut [u8],
 ) -> u64
     ensures scratch_value { solve_call sheet.now equation direction table.old scratch.old ≡ record { returned = result; table = table.new; scratch = scratch.new } }
-    ensures unchanged { sheet.now ≡ sheet.now }
+    ensures unchanged { sheet.exit.now ≡ sheet.entry.now }
 {
     solve::neblinaro_solve(sheet, equation, direction, table, scratch)
 }
@@ -49,7 +49,7 @@ pub extern "C" fn neblinaro_always(
     scratch: &mut [u8],
 ) -> u64
     ensures scratch_value { always_call sheet.now equation direction table.old scratch.old ≡ record { returned = result; table = table.new; scratch = scratch.new } }
-    ensures unchanged { sheet.now ≡ sheet.now }
+    ensures unchanged { sheet.exit.now ≡ sheet.entry.now }
 {
     always::neblinaro_always(sheet, equation, direction, table, scratch)
 }
@@ -63,7 +63,7 @@ pub extern "C" fn neblinaro_judge(
     scratch: &mut [u8],
 ) -> u64
     ensures scratch_value { judge_call sheet.now task table.old scratch.old ≡ record { returned = result; table = table.new; scratch = scratch.new } }
-    ensures unchanged { sheet.now ≡ sheet.now }
+    ensures unchanged { sheet.exit.now ≡ sheet.entry.now }
 {
     judge::neblinaro_judge(sheet, task, table, scratch)
 }
@@ -79,7 +79,7 @@ pub extern "C" fn neblinaro_run(
     log: &mut [u8],
 ) -> u64
     ensures log_value { run_call sheet.now task table.old scratch.old term.old log.old ≡ record { returned = result; table = table.new; scratch = scratch.new; term = term.new; log = log.new } }
-    ensures unchanged { sheet.now ≡ sheet.now }
+    ensures unchanged { sheet.exit.now ≡ sheet.entry.now }
 {
     run::neblinaro_run(sheet, task, table, scratch, term, log)
 }
