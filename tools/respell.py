@@ -30,7 +30,7 @@ def code_of(line):
 
 
 def spelled(name):
-    return name.replace("getD", "get_or").replace("get_d-", "get_or-").replace("-", "_")
+    return name.replace("getD", "get_or").replace("-", "_")
 
 
 def names(files):
@@ -136,11 +136,12 @@ def main():
         if new != text:
             with open(path, "w", encoding="utf-8") as f:
                 f.write(new)
-    # `ground` is a tactic's name today, and no word of a clause or a definition.
+    # `ground` is a tactic's name today, and no word of a clause or a definition. What speaks of `get_or` is named after it.
     for path in glob.glob("crates/*/**/*.antt", recursive=True) + glob.glob("crates/*/src/**/*.rt", recursive=True) + glob.glob("crates/*/must-fail/*.edit"):
         with open(path, encoding="utf-8") as f:
             lines = f.read().splitlines(keepends=True)
         new = [l if re.match(r"\s*(--|//|#)", l) else re.sub(r"(?<![\w'])ground(?![\w'])", "is_ground", l) for l in lines]
+        new = [re.sub(r"\bget_d_(any|between|map)\b", r"get_or_\1", l) for l in new]
         if new != lines:
             with open(path, "w", encoding="utf-8") as f:
                 f.write("".join(new))
