@@ -67,8 +67,10 @@ def main():
     antt = sorted(glob.glob("crates/*/specs/**/*.antt", recursive=True) + glob.glob("crates/*/proofs/**/*.antt", recursive=True))
     declared, local, library = names(antt)
     local = {t for t in local - declared - known_to_library(kit) if not GENERATED.search(t) and not re.match(r"[A-Z]", t)}
+    # A type keeps its capital and its dash (`Term-discrete`); L1 and P1 are no types.
+    typed = re.compile(r"[A-Z](?!\d)")
     clash = declared & library
-    renamed = {n: spelled(n) for n in declared if not re.match(r"[A-Z]", n) and not GENERATED.search(n)}
+    renamed = {n: spelled(n) for n in declared if not typed.match(n) and not GENERATED.search(n)}
     in_lemmas = renamed | {n: spelled(n) for n in local}
 
     def turn(text, table, keep):

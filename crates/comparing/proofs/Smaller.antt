@@ -13,7 +13,7 @@ use Rattle.terms.specs.Theory.Append.{append}
 use Rattle.path_order.specs.Order.{◌≻◌, L1, SomeReaches, here_equal, here_greater, there, ExceedsAll, none, more}
 use Rattle.ordering.specs.Theory.Decide.{all_head, all_tail}
 use Rattle.ordering.specs.Theory.Question.{greater_symbol, smaller_symbol}
-use Rattle.cells.specs.ForContracts.Nodes.{none as row-none, more as row_more, TermAt, TermsAt}
+use Rattle.cells.specs.ForContracts.Nodes.{none as row_none, more as row_more, TermAt, TermsAt}
 use Rattle.comparing.specs.ForContracts.Comparing.{HasTerms, FindsReaching, ComparesWithAll}
 use Rattle.cells.specs.Theory.Nodes.{row_first, symbol_at}
 
@@ -84,7 +84,7 @@ record Opened (nodes sizes values : List ℕ) (row : Arguments) (ts : Terms) : T
 module _ {nodes sizes values : List ℕ} where
   row_append : {k m end : ℕ} {us bs : Terms} → TermsAt nodes sizes values k m us → TermsAt nodes sizes values m end bs → TermsAt nodes sizes values k end (append us bs)
   unfolding append
-  row_append (row-none e) q = rw e q
+  row_append (row_none e) q = rw e q
   row_append (row_more s r) q = row_more s (row_append r q)
 
   open_row : {row : Arguments} {ts : Terms} → TermsAt nodes sizes values row.from row.end ts → row.from < row.end → get_or nodes row.from 0 < first_variable → Opened nodes sizes values row ts
@@ -109,10 +109,10 @@ module _ {nodes sizes values : List ℕ} where
         tells : (s : Term) (ts : Terms) → TermAt nodes sizes values i s → TermsAt nodes sizes values row.from row.end ts → (b ≡ true) ↔ ExceedsAll s ts
         tells s ts a d =
             let o = open_row d lt (omega arith) in
-            let s-is = symbol_at a l in
-            let (x, y) = all_opened s-is.arguments o.arguments o.others h in
-            let (p, q) = rw s-is.is at (w.tells s (append o.arguments o.others) a o.row_there) in
-            rw (s-is.is, o.are) (λ e. y (p e), λ r. q (x r))
+            let s_is = symbol_at a l in
+            let (x, y) = all_opened s_is.arguments o.arguments o.others h in
+            let (p, q) = rw s_is.is at (w.tells s (append o.arguments o.others) a o.row_there) in
+            rw (s_is.is, o.are) (λ e. y (p e), λ r. q (x r))
 
     pub reaching_behind_node : {j : ℕ} {b : Bool} → get_or nodes j 0 < first_variable → get_or nodes row.from 0 < get_or nodes j 0 → FindsReaching nodes sizes values (behind_node row) j b
         → FindsReaching nodes sizes values row j b

@@ -11,21 +11,21 @@ use Rattle.outcomes.specs.Asked.{asked, comparison_task, Directed, direction_ask
 use Rattle.outcomes.specs.Outcome.{check_call, compare_answer, compare_call, TableOutcome, table_fits, directed_answer, directed_call, solve_directed, solve_call, always_directed, always_call, judge_answer, judge_call, run_fits, run_answer, run_call}
 use Rattle.cases.specs.Checked.{lines}
 
-abbrev P1-sheet : List String
-P1-sheet = "0103000002" ∷ "02028081028180" ∷ "0305020100" ∷ "0400000001" ∷ "05020100020001" ∷ []
+abbrev P1_sheet : List String
+P1_sheet = "0103000002" ∷ "02028081028180" ∷ "0305020100" ∷ "0400000001" ∷ "05020100020001" ∷ []
 
 -- A successful check is 0.
-check_P1 : check_call (lines P1-sheet) ≡ 0
+check_P1 : check_call (lines P1_sheet) ≡ 0
 unfolding check_call lines
 check_P1 = refl
 
 -- Every byte of scratch, once: "scratch's first 57,344 bytes are 00"; "Longer buffers are served and their excess is untouched."
-compare_P1 : compare_call (lines P1-sheet) 2 (replicate 57346 0x55) ≡ record { returned = 2 * 2 ^ 8 + 3 * 2 ^ 24; scratch = replicate 57344 0 ++ replicate 2 0x55 }
+compare_P1 : compare_call (lines P1_sheet) 2 (replicate 57346 0x55) ≡ record { returned = 2 * 2 ^ 8 + 3 * 2 ^ 24; scratch = replicate 57344 0 ++ replicate 2 0x55 }
 unfolding compare_call lines
 compare_P1 = refl
 
 -- "11, a lent buffer is too short (line 0)", before 1 and 12.
-compare_short : compare_call (lines P1-sheet) 2 (replicate 57343 0x55) ≡ record { returned = 11; scratch = replicate 57343 0x55 }
+compare_short : compare_call (lines P1_sheet) 2 (replicate 57343 0x55) ≡ record { returned = 11; scratch = replicate 57343 0x55 }
 unfolding compare_call lines
 compare_short = refl
 
@@ -68,21 +68,21 @@ module _ (scratch : List ℕ) (long : leb scratch_bytes (length scratch) ≡ tru
   compare_empty = compare_fits [] 9 scratch long
 
   -- "12, no such equation, direction or task, or the task is of another kind (line 0)", after 1 to 7.
-  compare_run : compare_call (lines P1-sheet) 0 scratch ≡ record { returned = 12; scratch = scratch }
+  compare_run : compare_call (lines P1_sheet) 0 scratch ≡ record { returned = 12; scratch = scratch }
   unfolding compare_call lines
-  compare_run = compare_fits (lines P1-sheet) 0 scratch long
+  compare_run = compare_fits (lines P1_sheet) 0 scratch long
 
-  compare_judgement : compare_call (lines P1-sheet) 1 scratch ≡ record { returned = 12; scratch = scratch }
+  compare_judgement : compare_call (lines P1_sheet) 1 scratch ≡ record { returned = 12; scratch = scratch }
   unfolding compare_call lines
-  compare_judgement = compare_fits (lines P1-sheet) 1 scratch long
+  compare_judgement = compare_fits (lines P1_sheet) 1 scratch long
 
-  compare_absent : compare_call (lines P1-sheet) 3 scratch ≡ record { returned = 12; scratch = scratch }
+  compare_absent : compare_call (lines P1_sheet) 3 scratch ≡ record { returned = 12; scratch = scratch }
   unfolding compare_call lines
-  compare_absent = compare_fits (lines P1-sheet) 3 scratch long
+  compare_absent = compare_fits (lines P1_sheet) 3 scratch long
 
-  compare_far : compare_call (lines P1-sheet) (2 ^ 64 - 1) scratch ≡ record { returned = 12; scratch = scratch }
+  compare_far : compare_call (lines P1_sheet) (2 ^ 64 - 1) scratch ≡ record { returned = 12; scratch = scratch }
   unfolding compare_call lines
-  compare_far = compare_fits (lines P1-sheet) (2 ^ 64 - 1) scratch long
+  compare_far = compare_fits (lines P1_sheet) (2 ^ 64 - 1) scratch long
 
   compare_damaged : compare_call (lines ("0103000002" ∷ "02\r" ∷ [])) 9 scratch ≡ record { returned = 2 + 2 * 2 ^ 8; scratch = scratch }
   unfolding compare_call lines
@@ -92,8 +92,8 @@ module _ (scratch : List ℕ) (long : leb scratch_bytes (length scratch) ≡ tru
 unfoldable whole_record : List ℕ → List ℕ
 whole_record bs = bs ++ replicate (93 - length bs) 0xff
 
-abbrev P11-records : List (List ℕ)
-P11-records =
+abbrev P11_records : List (List ℕ)
+P11_records =
     (0xff ∷ 0xff ∷ replicate 10 0xff ++ 1 ∷ 1 ∷ 3 ∷ [])
     ∷ (3 ∷ 0xff ∷ replicate 10 0xff ++ 0 ∷ [])
     ∷ (0xff ∷ 0xff ∷ replicate 10 0xff ++ 2 ∷ 1 ∷ 4 ∷ 1 ∷ 5 ∷ [])
@@ -112,14 +112,14 @@ abbrev forty_one : List String
 forty_one = "010400040200" ∷ "028080" ∷ "020280030201818283840101808080800180808080800180850000" ∷ "030000" ∷ "050000" ∷ []
 
 module _ (table scratch : List ℕ) where
-  solve_short_table : leb table_bytes (length table) ≡ false → solve_call (lines P1-sheet) 0 0 table scratch ≡ record { returned = 11; table = table; scratch = scratch }
+  solve_short_table : leb table_bytes (length table) ≡ false → solve_call (lines P1_sheet) 0 0 table scratch ≡ record { returned = 11; table = table; scratch = scratch }
   unfolding solve_call lines table_fits
-  solve_short_table short = solve_fits (lines P1-sheet) 0 0 table scratch (ap (λ b. b && leb scratch_bytes (length scratch)) short)
+  solve_short_table short = solve_fits (lines P1_sheet) 0 0 table scratch (ap (λ b. b && leb scratch_bytes (length scratch)) short)
 
   module _ (table_long : leb table_bytes (length table) ≡ true) where
-    solve_short_scratch : leb scratch_bytes (length scratch) ≡ false → solve_call (lines P1-sheet) 0 0 table scratch ≡ record { returned = 11; table = table; scratch = scratch }
+    solve_short_scratch : leb scratch_bytes (length scratch) ≡ false → solve_call (lines P1_sheet) 0 0 table scratch ≡ record { returned = 11; table = table; scratch = scratch }
     unfolding solve_call lines table_fits
-    solve_short_scratch short = solve_fits (lines P1-sheet) 0 0 table scratch {b = false} (cc (table_long, short))
+    solve_short_scratch short = solve_fits (lines P1_sheet) 0 0 table scratch {b = false} (cc (table_long, short))
 
     module _ (scratch_long : leb scratch_bytes (length scratch) ≡ true) where
       fits : table_fits table scratch ≡ true
@@ -127,60 +127,60 @@ module _ (table scratch : List ℕ) where
       fits = cc (table_long, scratch_long)
 
       -- Solve: "lines, turns". "solve's table holds its records, bytes beyond them unchanged". x > y at positions 1 and 4.
-      solve_P1 : solve_call (lines P1-sheet) 0 0 table scratch
+      solve_P1 : solve_call (lines P1_sheet) 0 0 table scratch
           ≡ record { returned = 1 * 2 ^ 8 + 8 * 2 ^ 24; table = written (replicate 12 0xff ++ 1 ∷ 1 ∷ 4 ∷ replicate 78 0xff) table; scratch = cleared scratch }
       unfolding solve_call lines
-      solve_P1 = solve_fits (lines P1-sheet) 0 0 table scratch fits
+      solve_P1 = solve_fits (lines P1_sheet) 0 0 table scratch fits
 
       -- Direction 01: y > x at positions 4 and 1.
-      solve_P1_back : solve_call (lines P1-sheet) 0 1 table scratch
+      solve_P1_back : solve_call (lines P1_sheet) 0 1 table scratch
           ≡ record { returned = 1 * 2 ^ 8 + 8 * 2 ^ 24; table = written (replicate 12 0xff ++ 1 ∷ 4 ∷ 1 ∷ replicate 78 0xff) table; scratch = cleared scratch }
       unfolding solve_call lines
-      solve_P1_back = solve_fits (lines P1-sheet) 0 1 table scratch fits
+      solve_P1_back = solve_fits (lines P1_sheet) 0 1 table scratch fits
 
       solve_P11 : solve_call (lines ("01020200" ∷ "02008081008101" ∷ [])) 0 0 table scratch
-          ≡ record { returned = 7 * 2 ^ 8 + 8 * 2 ^ 24; table = written (flat_map whole_record P11-records) table; scratch = cleared scratch }
+          ≡ record { returned = 7 * 2 ^ 8 + 8 * 2 ^ 24; table = written (flat_map whole_record P11_records) table; scratch = cleared scratch }
       unfolding solve_call lines flat_map whole_record
       solve_P11 = solve_fits (lines ("01020200" ∷ "02008081008101" ∷ [])) 0 0 table scratch fits
 
-      solve_absent_equation : solve_call (lines P1-sheet) 1 0 table scratch ≡ record { returned = 12; table = table; scratch = scratch }
+      solve_absent_equation : solve_call (lines P1_sheet) 1 0 table scratch ≡ record { returned = 12; table = table; scratch = scratch }
       unfolding solve_call lines
-      solve_absent_equation = solve_fits (lines P1-sheet) 1 0 table scratch fits
+      solve_absent_equation = solve_fits (lines P1_sheet) 1 0 table scratch fits
 
-      solve_absent_direction : solve_call (lines P1-sheet) 0 2 table scratch ≡ record { returned = 12; table = table; scratch = scratch }
+      solve_absent_direction : solve_call (lines P1_sheet) 0 2 table scratch ≡ record { returned = 12; table = table; scratch = scratch }
       unfolding solve_call lines
-      solve_absent_direction = solve_fits (lines P1-sheet) 0 2 table scratch fits
+      solve_absent_direction = solve_fits (lines P1_sheet) 0 2 table scratch fits
 
       -- Always (W6): "Its fields are 1 or 0, and the turns taken by then. Table bytes are left ff, scratch 00." xa > x and, after as many turns as solve takes, xy > yx.
       always_P7 : always_call (lines ("0103000002" ∷ "0202800080" ∷ [])) 0 0 table scratch ≡ record { returned = 1 * 2 ^ 8 + 1 * 2 ^ 24; table = blanked table; scratch = cleared scratch }
       unfolding always_call lines
       always_P7 = always_fits (lines ("0103000002" ∷ "0202800080" ∷ [])) 0 0 table scratch fits
 
-      always_P1 : always_call (lines P1-sheet) 0 0 table scratch ≡ record { returned = 8 * 2 ^ 24; table = blanked table; scratch = cleared scratch }
+      always_P1 : always_call (lines P1_sheet) 0 0 table scratch ≡ record { returned = 8 * 2 ^ 24; table = blanked table; scratch = cleared scratch }
       unfolding always_call lines
-      always_P1 = always_fits (lines P1-sheet) 0 0 table scratch fits
+      always_P1 = always_fits (lines P1_sheet) 0 0 table scratch fits
 
-      always_absent_equation : always_call (lines P1-sheet) 1 0 table scratch ≡ record { returned = 12; table = table; scratch = scratch }
+      always_absent_equation : always_call (lines P1_sheet) 1 0 table scratch ≡ record { returned = 12; table = table; scratch = scratch }
       unfolding always_call lines
-      always_absent_equation = always_fits (lines P1-sheet) 1 0 table scratch fits
+      always_absent_equation = always_fits (lines P1_sheet) 1 0 table scratch fits
 
       always_forty_one : always_call (lines forty_one) 1 0 table scratch ≡ record { returned = 9 + 3 * 2 ^ 8; table = blanked table; scratch = cleared scratch }
       unfolding always_call lines
       always_forty_one = always_fits (lines forty_one) 1 0 table scratch fits
 
       -- Judge: "1 or 0, first holding line counted from 1 or 0"; "judge and run leave the table's first" 23,715 (document 02, W9) "bytes ff".
-      judge_P1 : judge_call (lines P1-sheet) 1 table scratch ≡ record { returned = 0; table = blanked table; scratch = cleared scratch }
+      judge_P1 : judge_call (lines P1_sheet) 1 table scratch ≡ record { returned = 0; table = blanked table; scratch = cleared scratch }
       unfolding judge_call lines
-      judge_P1 = judge_fits (lines P1-sheet) 1 table scratch fits
+      judge_P1 = judge_fits (lines P1_sheet) 1 table scratch fits
 
       judge_second : judge_call (lines ("0103000002" ∷ "0202808000" ∷ "04000000" ∷ [])) 0 table scratch
           ≡ record { returned = 1 * 2 ^ 8 + 2 * 2 ^ 24; table = blanked table; scratch = cleared scratch }
       unfolding judge_call lines
       judge_second = judge_fits (lines ("0103000002" ∷ "0202808000" ∷ "04000000" ∷ [])) 0 table scratch fits
 
-      judge_comparison : judge_call (lines P1-sheet) 2 table scratch ≡ record { returned = 12; table = table; scratch = scratch }
+      judge_comparison : judge_call (lines P1_sheet) 2 table scratch ≡ record { returned = 12; table = table; scratch = scratch }
       unfolding judge_call lines
-      judge_comparison = judge_fits (lines P1-sheet) 2 table scratch fits
+      judge_comparison = judge_fits (lines P1_sheet) 2 table scratch fits
 
       -- "Refusals 8 to 10 leave" 23,715 (W9) "table bytes ff and 57,344 scratch bytes 00, other buffers unchanged". "The line is the equation's."
       solve_forty_one : solve_call (lines forty_one) 1 0 table scratch ≡ record { returned = 9 + 3 * 2 ^ 8; table = blanked table; scratch = cleared scratch }
@@ -194,15 +194,15 @@ module _ (table scratch : List ℕ) where
 
       module _ (term log : List ℕ) where
         run_short_term : leb term_bytes (length term) ≡ false
-            → run_call (lines P1-sheet) 0 table scratch term log ≡ record { returned = 11; table = table; scratch = scratch; term = term; log = log }
+            → run_call (lines P1_sheet) 0 table scratch term log ≡ record { returned = 11; table = table; scratch = scratch; term = term; log = log }
         unfolding run_call lines run_fits
-        run_short_term short = run_fitting (lines P1-sheet) 0 table scratch term log {b = false} (cc (fits, short))
+        run_short_term short = run_fitting (lines P1_sheet) 0 table scratch term log {b = false} (cc (fits, short))
 
         module _ (term_long : leb term_bytes (length term) ≡ true) where
           run_short_log : leb log_bytes (length log) ≡ false
-              → run_call (lines P1-sheet) 0 table scratch term log ≡ record { returned = 11; table = table; scratch = scratch; term = term; log = log }
+              → run_call (lines P1_sheet) 0 table scratch term log ≡ record { returned = 11; table = table; scratch = scratch; term = term; log = log }
           unfolding run_call lines run_fits
-          run_short_log short = run_fitting (lines P1-sheet) 0 table scratch term log {b = false} (cc (fits, term_long, short))
+          run_short_log short = run_fitting (lines P1_sheet) 0 table scratch term log {b = false} (cc (fits, term_long, short))
 
           module _ (log_long : leb log_bytes (length log) ≡ true) where
             run_fit : run_fits table scratch term log ≡ true
@@ -210,7 +210,7 @@ module _ (table scratch : List ℕ) where
             run_fit = cc (fits, term_long, log_long)
 
             -- Run: "steps, ending, bytes of the term"; "term and log hold the result first, the rest unchanged".
-            run_P1 : run_call (lines P1-sheet) 0 table scratch term log
+            run_P1 : run_call (lines P1_sheet) 0 table scratch term log
                 ≡ record {
                   returned = 1 * 2 ^ 8 + 0 * 2 ^ 24 + 3 * 2 ^ 40;
                   table = blanked table;
@@ -219,11 +219,11 @@ module _ (table scratch : List ℕ) where
                   log = written (0 ∷ 0 ∷ 0 ∷ []) log;
                 }
             unfolding run_call lines
-            run_P1 = run_fitting (lines P1-sheet) 0 table scratch term log run_fit
+            run_P1 = run_fitting (lines P1_sheet) 0 table scratch term log run_fit
 
-            run_judgement : run_call (lines P1-sheet) 1 table scratch term log ≡ record { returned = 12; table = table; scratch = scratch; term = term; log = log }
+            run_judgement : run_call (lines P1_sheet) 1 table scratch term log ≡ record { returned = 12; table = table; scratch = scratch; term = term; log = log }
             unfolding run_call lines
-            run_judgement = run_fitting (lines P1-sheet) 1 table scratch term log run_fit
+            run_judgement = run_fitting (lines P1_sheet) 1 table scratch term log run_fit
 
             run_forty_one : run_call (lines forty_one) 0 table scratch term log
                 ≡ record { returned = 9 + 3 * 2 ^ 8; table = blanked table; scratch = cleared scratch; term = term; log = log }

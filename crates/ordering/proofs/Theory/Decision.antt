@@ -8,7 +8,7 @@ use Rattle.path_order.specs.Order.{◌≻◌, SomeReaches}
 use Rattle.ordering.specs.Verdict.{Verdict, smaller, equal, greater, verdict}
 use Rattle.ordering.specs.Clause.{Clause, by_L1, by_L2, by_L3, Applies, FirstApplies}
 use Rattle.ordering.specs.Decision.{Decision, smaller_by, equal_terms, greater_by, first_clause, decision, verdict_of, clause_number, clause_number_of}
-use Rattle.ordering.specs.Theory.Clause.{none_applies, L1-asks, L2-asks}
+use Rattle.ordering.specs.Theory.Clause.{none_applies, L1_asks, L2_asks}
 use Rattle.ordering.specs.Theory.Decide.{applies?}
 use Rattle.ordering.specs.Theory.Question.{exceeds_below}
 use Rattle.ordering.specs.Theory.Total.{VerdictSays, verdict_is, verdict_says}
@@ -62,18 +62,18 @@ module _ (s t : Term) where
 -- The first clause where s > t is known, by whether an argument of s reaches t, and by the symbols.
 module _ (f : ℕ) {g : ℕ} {ss ts : Terms} where
   pub reached_L1 : SomeReaches ss (app g ts) → first_clause (app f ss) (app g ts) ≡ by_L1
-  reached_L1 p = first_is (app f ss) (app g ts) by_L1 (L1-asks.1 p)
+  reached_L1 p = first_is (app f ss) (app g ts) by_L1 (L1_asks.1 p)
 
   module _ (h : app f ss ≻ app g ts) (n : ¬ SomeReaches ss (app g ts)) where
     pub greater_symbol_L2 : g < f → first_clause (app f ss) (app g ts) ≡ by_L2
-    greater_symbol_L2 i = first_is (app f ss) (app g ts) by_L2 (λ x. n (L1-asks.0 x), L2-asks.1 (i, exceeds_below ts h))
+    greater_symbol_L2 i = first_is (app f ss) (app g ts) by_L2 (λ x. n (L1_asks.0 x), L2_asks.1 (i, exceeds_below ts h))
 
     pub no_greater_symbol_L3 : ¬ (g < f) → first_clause (app f ss) (app g ts) ≡ by_L3
     no_greater_symbol_L3 i = left (first_clause (app f ss) (app g ts)) (first_applies (app f ss) (app g ts) h)
       where
         left : (c : Clause) → FirstApplies c (app f ss) (app g ts) → c ≡ by_L3
-        left by_L1 x = absurd (n (L1-asks.0 x))
-        left by_L2 x = absurd (i (L2-asks.0 x.1).0)
+        left by_L1 x = absurd (n (L1_asks.0 x))
+        left by_L2 x = absurd (i (L2_asks.0 x.1).0)
         left by_L3 x = refl
 
 -- A decision by its verdict, for those who use the verdict alone.

@@ -25,9 +25,9 @@ asked_by_L1 (L2 i a) e = let z : ◌≡◌ {A = ℕ} 0 1 = cc in absurd (omega a
 asked_by_L1 (L3 l) e = let z : ◌≡◌ {A = ℕ} 0 1 = cc in absurd (omega arith)
 
 -- L1 applies exactly if "some si > t or si = t".
-pub L1-asks : {f : ℕ} {ss : Terms} {t : Term} → Applies by_L1 (app f ss) t ↔ SomeReaches ss t
+pub L1_asks : {f : ℕ} {ss : Terms} {t : Term} → Applies by_L1 (app f ss) t ↔ SomeReaches ss t
 unfolding clause_of
-L1-asks = (λ x. asked_by_L1 x.shown x.by, λ p. record { shown = L1 p; by = refl })
+L1_asks = (λ x. asked_by_L1 x.shown x.by, λ p. record { shown = L1 p; by = refl })
 
 asked_by_L2 : {f g : ℕ} {ss ts : Terms} (h : app f ss ≻ app g ts) → clause_of h ≡ by_L2 → (g < f) × ExceedsAll (app f ss) ts
 unfolding clause_of
@@ -36,9 +36,9 @@ asked_by_L2 (L2 i a) e = (i, a)
 asked_by_L2 (L3 l) e = let z : ◌≡◌ {A = ℕ} 0 1 = cc in absurd (omega arith)
 
 -- L2 applies exactly if "f > g and s > tj for every j".
-pub L2-asks : {f g : ℕ} {ss ts : Terms} → Applies by_L2 (app f ss) (app g ts) ↔ ((g < f) × ExceedsAll (app f ss) ts)
+pub L2_asks : {f g : ℕ} {ss ts : Terms} → Applies by_L2 (app f ss) (app g ts) ↔ ((g < f) × ExceedsAll (app f ss) ts)
 unfolding clause_of
-L2-asks = (λ x. asked_by_L2 x.shown x.by, λ a. record { shown = L2 a.0 a.1; by = refl })
+L2_asks = (λ x. asked_by_L2 x.shown x.by, λ a. record { shown = L2 a.0 a.1; by = refl })
 
 asked_by_L3 : {f g : ℕ} {ss ts : Terms} (h : app f ss ≻ app g ts) → clause_of h ≡ by_L3 → (f ≡ g) × Lexicographic (app f ss) ss ts
 unfolding clause_of
@@ -51,8 +51,8 @@ unfolding clause_of
 by_lexicographic e l = rw (← e) (record { shown = L3 l; by = refl })
 
 -- L3 applies exactly if "f = g and for some k, si = ti for i < k, sk > tk, and s > ti for k < i ≤ n".
-pub L3-asks : {f g : ℕ} {ss ts : Terms} → Applies by_L3 (app f ss) (app g ts) ↔ ((f ≡ g) × Lexicographic (app f ss) ss ts)
-L3-asks = (λ x. asked_by_L3 x.shown x.by, λ a. by_lexicographic a.0 a.1)
+pub L3_asks : {f g : ℕ} {ss ts : Terms} → Applies by_L3 (app f ss) (app g ts) ↔ ((f ≡ g) × Lexicographic (app f ss) ss ts)
+L3_asks = (λ x. asked_by_L3 x.shown x.by, λ a. by_lexicographic a.0 a.1)
 
 -- Against a variable only L1 can apply.
 var_by_L1 : {f v : ℕ} {ss : Terms} (g : app f ss ≻ var v) → clause_of g ≡ by_L1

@@ -5,7 +5,7 @@ use Rattle.terms.specs.Term.{Term, Terms, var, app, nil, cons, identical?}
 use Rattle.terms.specs.Theory.Induction.{Each, each_nil, each_cons, term_ind}
 use Rattle.path_order.specs.Order.{◌≻◌, SomeReaches, here_equal, here_greater, there, ExceedsAll, none, more, Lexicographic, at_first, at_later}
 use Rattle.ordering.specs.Clause.{Clause, by_L1, by_L2, by_L3, Applies}
-use Rattle.ordering.specs.Theory.Clause.{none_applies, L1-asks, L2-asks, L3-asks, var_not_L2, var_not_L3}
+use Rattle.ordering.specs.Theory.Clause.{none_applies, L1_asks, L2_asks, L3_asks, var_not_L2, var_not_L3}
 use Rattle.path_order.proofs.Theory.Subterm.{var_exceeds_nothing}
 use Rattle.path_order.proofs.Theory.Laws.{≻_irrefl}
 
@@ -80,21 +80,21 @@ lexicographic? (each_cons {t = s} p ps) (each_cons {t = t} q qs) =
 
 -- Does a clause apply? Each is decided by itself.
 var_applies? : {f : ℕ} {ss : Terms} (c : Clause) → Each DecidedFrom ss → (v : ℕ) → Dec (Applies c (app f ss) (var v))
-var_applies? by_L1 ps v = elim (some_reaches? ps (var v)) [ yes p ↦ yes (L1-asks.1 p) | no n ↦ no (λ x. n (L1-asks.0 x)) ]
+var_applies? by_L1 ps v = elim (some_reaches? ps (var v)) [ yes p ↦ yes (L1_asks.1 p) | no n ↦ no (λ x. n (L1_asks.0 x)) ]
 var_applies? by_L2 ps v = no var_not_L2
 var_applies? by_L3 ps v = no var_not_L3
 
 app_applies? : {f g : ℕ} {ss ts : Terms} (c : Clause) → Each DecidedFrom ss → Each (Decided (app f ss)) ts → Dec (Applies c (app f ss) (app g ts))
-app_applies? {g = g} {ts = ts} by_L1 ps qs = elim (some_reaches? ps (app g ts)) [ yes p ↦ yes (L1-asks.1 p) | no n ↦ no (λ x. n (L1-asks.0 x)) ]
+app_applies? {g = g} {ts = ts} by_L1 ps qs = elim (some_reaches? ps (app g ts)) [ yes p ↦ yes (L1_asks.1 p) | no n ↦ no (λ x. n (L1_asks.0 x)) ]
 app_applies? {f} {g} by_L2 ps qs =
     elim (dec_lt g f) [
-      | yes i ↦ elim (exceeds_all? qs) [ yes a ↦ yes (L2-asks.1 (i, a)) | no k ↦ no (λ x. k (L2-asks.0 x).1) ]
-      | no i ↦ no (λ x. i (L2-asks.0 x).0)
+      | yes i ↦ elim (exceeds_all? qs) [ yes a ↦ yes (L2_asks.1 (i, a)) | no k ↦ no (λ x. k (L2_asks.0 x).1) ]
+      | no i ↦ no (λ x. i (L2_asks.0 x).0)
     ]
 app_applies? {f} {g} by_L3 ps qs =
     elim (ℕ_discrete f g) [
-      | yes e ↦ elim (lexicographic? ps qs) [ yes l ↦ yes (L3-asks.1 (e, l)) | no k ↦ no (λ x. k (L3-asks.0 x).1) ]
-      | no d ↦ no (λ x. d (L3-asks.0 x).0)
+      | yes e ↦ elim (lexicographic? ps qs) [ yes l ↦ yes (L3_asks.1 (e, l)) | no k ↦ no (λ x. k (L3_asks.0 x).1) ]
+      | no d ↦ no (λ x. d (L3_asks.0 x).0)
     ]
 
 -- s > t is decided by asking the three clauses one after the other.

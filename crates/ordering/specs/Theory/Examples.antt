@@ -4,7 +4,7 @@ use Rattle.terms.specs.Term.{Term, app, nil, cons}
 use Rattle.std.proofs.Common.{arith}
 use Rattle.path_order.specs.Order.{L1, here_equal, here_greater, there, none, more, at_first}
 use Rattle.ordering.specs.Clause.{by_L1, by_L2, by_L3, Applies}
-use Rattle.ordering.specs.Theory.Clause.{L2-asks, L3-asks}
+use Rattle.ordering.specs.Theory.Clause.{L2_asks, L3_asks}
 use Rattle.ordering.specs.Decision.{smaller_by, equal_terms, greater_by, decision}
 
 abbrev constant : ℕ → Term
@@ -47,16 +47,16 @@ unfolding decision
 p12 = refl
 
 -- The first clause that applies is named: (ab)+b against ab, + = 3 above the product, to which L2 applies too, and (ab)b against ab, to which L3 does; and the other way round.
-L1-before-L2 : (decision (binary 3 (binary 2 a b) b) (binary 2 a b) ≡ greater_by by_L1) × (decision (binary 2 a b) (binary 3 (binary 2 a b) b) ≡ smaller_by by_L1)
+L1_before_L2 : (decision (binary 3 (binary 2 a b) b) (binary 2 a b) ≡ greater_by by_L1) × (decision (binary 2 a b) (binary 3 (binary 2 a b) b) ≡ smaller_by by_L1)
 unfolding decision
-L1-before-L2 = (refl, refl)
+L1_before_L2 = (refl, refl)
 
-L1-before-L3 : (decision (binary 2 (binary 2 a b) b) (binary 2 a b) ≡ greater_by by_L1) × (decision (binary 2 a b) (binary 2 (binary 2 a b) b) ≡ smaller_by by_L1)
+L1_before_L3 : (decision (binary 2 (binary 2 a b) b) (binary 2 a b) ≡ greater_by by_L1) × (decision (binary 2 a b) (binary 2 (binary 2 a b) b) ≡ smaller_by by_L1)
 unfolding decision
-L1-before-L3 = (refl, refl)
+L1_before_L3 = (refl, refl)
 
-L2-applies-too : Applies by_L2 (binary 3 (binary 2 a b) b) (binary 2 a b)
-L2-applies-too = L2-asks.1 (omega arith, more (L1 (here_greater (L1 here_equal))) (more (L1 (there here_equal)) none))
+L2_applies_too : Applies by_L2 (binary 3 (binary 2 a b) b) (binary 2 a b)
+L2_applies_too = L2_asks.1 (omega arith, more (L1 (here_greater (L1 here_equal))) (more (L1 (there here_equal)) none))
 
-L3-applies-too : Applies by_L3 (binary 2 (binary 2 a b) b) (binary 2 a b)
-L3-applies-too = L3-asks.1 (refl, at_first (L1 here_equal) (more (L1 (there here_equal)) none))
+L3_applies_too : Applies by_L3 (binary 2 (binary 2 a b) b) (binary 2 a b)
+L3_applies_too = L3_asks.1 (refl, at_first (L1 here_equal) (more (L1 (there here_equal)) none))

@@ -6,7 +6,7 @@ use Rattle.std.proofs.Math.Logic.{inl, inr}
 use native.Mathlib.Omega.{arith}
 use Rattle.terms.specs.Term.{Term, Terms, app, nil, cons, count, nth}
 use Rattle.ordering.specs.Clause.{Clause, by_L1, by_L2, by_L3, clause_of, Applies}
-use Rattle.ordering.specs.Theory.Clause.{applied, L1-asks, L2-asks, L3-asks}
+use Rattle.ordering.specs.Theory.Clause.{applied, L1_asks, L2_asks, L3_asks}
 use Rattle.path_order.specs.Order.{◌≻◌, SomeReaches, here_equal, here_greater, there, ExceedsAll, none, more, Lexicographic, at_first, at_later}
 
 -- s is `app f ss` and t is `app g ts`; m is `count ss` and n is `count ts`; si is `nth ss i d` and ti is `nth ts i d`.
@@ -89,15 +89,15 @@ module _ (d : Term) where
 -- Each clause by itself: it applies exactly if its words hold.
 module _ {f g : ℕ} {ss ts : Terms} (d : Term) where
   pub literal_L1 : Applies by_L1 (app f ss) (app g ts) ↔ Rule1 f ss g ts d
-  literal_L1 = (λ x. some_to d (L1-asks.0 x), λ r. L1-asks.1 (some_from d ss r.0 r.1 r.2))
+  literal_L1 = (λ x. some_to d (L1_asks.0 x), λ r. L1_asks.1 (some_from d ss r.0 r.1 r.2))
 
   pub literal_L2 : Applies by_L2 (app f ss) (app g ts) ↔ Rule2 f ss g ts d
-  literal_L2 = (λ x. let (i, a) = L2-asks.0 x in (i, all_to d a), λ r. L2-asks.1 (r.0, all_from d ts r.1))
+  literal_L2 = (λ x. let (i, a) = L2_asks.0 x in (i, all_to d a), λ r. L2_asks.1 (r.0, all_from d ts r.1))
 
   pub literal_L3 : Applies by_L3 (app f ss) (app g ts) ↔ Rule3 f ss g ts d
   literal_L3 = (
-    λ x. let (e, l) = L3-asks.0 x in let (k, m, n, b, h, c) = lexicographic_to d l in (e, k, m, n, b, h, c),
-    λ r. let (e, k, m, n, b, h, c) = r in L3-asks.1 (e, lexicographic_from d ss ts k m n b h c),
+    λ x. let (e, l) = L3_asks.0 x in let (k, m, n, b, h, c) = lexicographic_to d l in (e, k, m, n, b, h, c),
+    λ r. let (e, k, m, n, b, h, c) = r in L3_asks.1 (e, lexicographic_from d ss ts k m n b h c),
   )
 
 -- "s > t exactly if" L1 or L2 or L3.
