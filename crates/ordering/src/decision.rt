@@ -7,9 +7,9 @@ use crate::verdict::Verdict;
 // The clauses of the ordering, in the paper's order.
 #[derive(Clone, Copy, Debug, PartialEq, Eq)]
 pub enum Clause {
-    L1,
-    L2,
-    L3,
+    L1 = 1,
+    L2 = 2,
+    L3 = 3,
 }
 
 // The first term is smaller, equal or greater: "with 'greater' the first of L1, L2, L3 that applies, and with 'smaller' the first that applies the other way round".
@@ -25,11 +25,7 @@ impl From<Clause> for u8 {
 
     #[tactic(auto, unfolding(crate::specs::Decision::clause_number))]
     fn from(clause: Clause) -> u8 {
-        match clause {
-            Clause::L1 => 1,
-            Clause::L2 => 2,
-            Clause::L3 => 3,
-        }
+        clause as u8
     }
 }
 

@@ -5,9 +5,9 @@ ghost use Rattle.ordering.specs.Verdict.{verdict_number};
 // The first term is smaller, equal or greater.
 #[derive(Clone, Copy, Debug, PartialEq, Eq)]
 pub enum Verdict {
-    Smaller,
-    Equal,
-    Greater,
+    Smaller = 0,
+    Equal = 1,
+    Greater = 2,
 }
 
 // "0 smaller, 1 equal, 2 greater"
@@ -16,10 +16,6 @@ impl From<Verdict> for u8 {
 
     #[tactic(auto, unfolding(crate::specs::Verdict::verdict_number))]
     fn from(verdict: Verdict) -> u8 {
-        match verdict {
-            Verdict::Smaller => 0,
-            Verdict::Equal => 1,
-            Verdict::Greater => 2,
-        }
+        verdict as u8
     }
 }

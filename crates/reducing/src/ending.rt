@@ -5,9 +5,9 @@ ghost use Rattle.reducing.specs.Run.{ending_number};
 // "none found, ending 00; k steps done, ending 01; result above 160 nodes, ending 02"
 #[derive(Clone, Copy, Debug, PartialEq, Eq)]
 pub enum Ending {
-    NoneFound,
-    LimitReached,
-    ResultTooLarge,
+    NoneFound = 0,
+    LimitReached = 1,
+    ResultTooLarge = 2,
 }
 
 impl From<Ending> for u8 {
@@ -15,10 +15,6 @@ impl From<Ending> for u8 {
 
     #[tactic(auto, unfolding(crate::specs::Run::ending_number))]
     fn from(ending: Ending) -> u8 {
-        match ending {
-            Ending::NoneFound => 0,
-            Ending::LimitReached => 1,
-            Ending::ResultTooLarge => 2,
-        }
+        ending as u8
     }
 }
