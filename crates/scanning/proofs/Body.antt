@@ -1,7 +1,7 @@
 -- Laws for the bodies of frames: a scan with nothing behind it, an equation's two sides, and its highest variable.
 use Rattle.std.proofs.Common.{◌≡◌, ℕ, ◌≤◌, max, false, List, [], ◌∷◌, ◌++◌, length, refl, ap, ◌∙◌, subst, arith}
 use Rattle.std.specs.Prelude.{Ok, Err}
-use Rattle.std.specs.Prelude.{Result as Reading}
+use Rattle.std.specs.Prelude.{Result as Outcome}
 use Rattle.format.specs.Limits.{max_symbols, max_side_nodes}
 use Rattle.format.specs.Refusal.{Result, refuse, give, result_map}
 use Rattle.format.specs.declared.refusal.Refusal.{Refusal}
@@ -107,7 +107,7 @@ one_side width = record { terms = 1; nodes = max_side_nodes; is_ground = false; 
 
 pub equation_read : (text : List ℕ) (d : Span) (k : Known) → FrameReady text d k → {v : Wanted} → v ≡ one_side 0 → (l : Scanned)
     → ScanTo text d (known_arities k) v l
-    → {w : Wanted} → w ≡ one_side l.width → (r : Reading ℕ Refusal) → WholeScan (known_arities k) (bytes_between text l.at d.end) w r
+    → {w : Wanted} → w ≡ one_side l.width → (r : Outcome ℕ Refusal) → WholeScan (known_arities k) (bytes_between text l.at d.end) w r
     → EquationGiven (known_arities k) (span_bytes text d) r
 equation_read text d k f {v} a l g {w} b r h = go r (subst (λ w. WholeScan (known_arities k) (bytes_between text l.at d.end) w r) b h)
   where
@@ -117,7 +117,7 @@ equation_read text d k f {v} a l g {w} b r h = go r (subst (λ w. WholeScan (kno
     side : ScanTo text d (known_arities k) (one_side 0) l
     side = subst (λ v. ScanTo text d (known_arities k) v l) a g
 
-    go : (o : Reading ℕ Refusal) → WholeScan (known_arities k) (bytes_between text l.at d.end) (one_side l.width) o
+    go : (o : Outcome ℕ Refusal) → WholeScan (known_arities k) (bytes_between text l.at d.end) (one_side l.width) o
         → EquationGiven (known_arities k) (span_bytes text d) o
     go (Ok w) h = sides_done (known_arities k) few text d.from l.at d.end l.width w side.given h.0 side.widths h.1
     go (Err x) h = second_refused (known_arities k) (span_bytes text d) (bytes_between text l.at d.end) side.given h

@@ -1,6 +1,6 @@
 -- What the contracts of the code that reads terms cite.
 use Rattle.std.specs.Prelude.{◌≡◌, ℕ, zero, suc, ◌+◌, ◌*◌, ◌≤◌, max, Bool, List, [], ◌∷◌, Ok, Err}
-use Rattle.std.specs.Prelude.{Result as Reading}
+use Rattle.std.specs.Prelude.{Result as Outcome}
 use Rattle.format.specs.Limits.{max_symbols, variable_count, max_task_nodes, max_byte}
 use Rattle.format.specs.declared.kind.FrameKind.{FrameKind}
 use Rattle.format.specs.declared.kind.FrameKind.TheVariants.{Symbols as symbols_kind, Equation as equation_kind, Run as run_kind, Judgement as judgement_kind, Comparison as comparison_kind, Unknown as unknown_kind}
@@ -46,7 +46,7 @@ widest [] = 0
 widest (b ∷ bs) = max (node_width (class_of b)) (widest bs)
 
 -- A node that is no declared symbol is passed, or refused.
-abbrev pub OtherRead : (arities : List ℕ) → (is_ground : Bool) → (b need : ℕ) → Reading ℕ Refusal → Type 0
+abbrev pub OtherRead : (arities : List ℕ) → (is_ground : Bool) → (b need : ℕ) → Outcome ℕ Refusal → Type 0
 OtherRead arities is_ground b need (Ok w) = (after_node arities is_ground (class_of b) need ≡ give need) × (node_width (class_of b) ≡ w)
 OtherRead arities is_ground b need (Err x) = after_node arities is_ground (class_of b) need ≡ refuse x
 
@@ -66,7 +66,7 @@ pub record ScanTo (text : List ℕ) (d : Span) (arities : List ℕ) (w : Wanted)
   pub low_width : r.width ≤ variable_count
 
 -- What the scan gives.
-abbrev pub ScanRead : List ℕ → Span → List ℕ → Wanted → Reading Scanned Refusal → Type 0
+abbrev pub ScanRead : List ℕ → Span → List ℕ → Wanted → Outcome Scanned Refusal → Type 0
 ScanRead text d arities w (Ok r) = ScanTo text d arities w r
 ScanRead text d arities w (Err x) = scan arities w.is_ground (span_bytes text d) w.terms w.nodes ≡ refuse x
 
@@ -76,17 +76,17 @@ pub record FrameReady (text : List ℕ) (d : Span) (k : Known) : Type 0 where
   pub few_symbols : k.symbols ≤ max_symbols
 
 -- The reading gives or refuses as the definition does.
-abbrev pub Matches : {A : Type 0} → Result A → Reading (Unit {0}) Refusal → Type 0
+abbrev pub Matches : {A : Type 0} → Result A → Outcome (Unit {0}) Refusal → Type 0
 Matches {A} r (Ok u) = (a : A) × (r ≡ give a)
 Matches r (Err x) = r ≡ refuse x
 
 -- What is wanted and nothing behind it, and the highest variable so far.
-abbrev pub WholeScan : List ℕ → List ℕ → Wanted → Reading ℕ Refusal → Type 0
+abbrev pub WholeScan : List ℕ → List ℕ → Wanted → Outcome ℕ Refusal → Type 0
 WholeScan arities bs w (Ok highest) = (scan arities w.is_ground bs w.terms w.nodes ≡ give []) × (max w.width (widest bs) ≡ highest)
 WholeScan arities bs w (Err x) = (ts : Terms) → all_read ts (scan arities w.is_ground bs w.terms w.nodes) ≡ refuse x
 
 -- An equation, and how many variables there are up to its highest.
-abbrev pub EquationGiven : List ℕ → List ℕ → Reading ℕ Refusal → Type 0
+abbrev pub EquationGiven : List ℕ → List ℕ → Outcome ℕ Refusal → Type 0
 EquationGiven arities bs (Ok width) = (e : Equation) × (equation_body arities bs ≡ give e) × (equation_width e ≡ width)
 EquationGiven arities bs (Err x) = equation_body arities bs ≡ refuse x
 
