@@ -1,9 +1,10 @@
 // The reader of a sheet: the sheet and how far the reader has come in it. Document 01: it "goes over the lent sheet line by line and remembers how far it
-// has come". It finds one line; the loops over lines keep the two numbers between two lines. `next` only takes the struct apart and calls `line_from`.
+// has come".
 ghost use Rattle.std.specs.Prelude.{◌≡◌, ◌≤◌};
-ghost use Rattle.reader.specs.ForContracts.Lines.{NextRead};
+ghost use Rattle.reader.specs.ForContracts.Lines.{Counted, LineStep, bytes_left};
 
-use crate::line::{NextLine, line_from};
+use crate::line::{BrokenLine, FrameLine};
+use scanning::text::{Span, line_end};
 
 // How far it has come: the offset of its next byte, and how many lines stand before that.
 #[derive(Clone, Copy)]
@@ -14,30 +15,45 @@ pub struct Reader<'a> {
 }
 
 impl<'a> Reader<'a> {
-    // A reader at `offset`, behind `lines` lines.
-    pub fn at(sheet: &'a [u8], offset: usize, lines: usize) -> Reader<'a>
-        ensures { (result.sheet ≡ sheet.entry) × (result.offset ≡ offset) × (result.lines ≡ lines) }
+    // A reader at the sheet's start.
+    pub fn new(sheet: &'a [u8]) -> Reader<'a>
+        ensures { (result.sheet ≡ sheet.entry) × (result.offset ≡ 0) × (result.lines ≡ 0) }
     {
         Reader {
             sheet,
-            offset,
-            lines,
+            offset: 0,
+            lines: 0,
         }
-    }
-
-    // The next line with its number, and how far the reader has come behind it.
-    pub fn next(self) -> NextLine
-        requires { self.lines ≤ self.offset }
-        ensures { NextRead self.entry.sheet.now self.entry.offset self.entry.lines result }
-    {
-        line_from(self.sheet, self.offset, self.lines)
     }
 }
 
-// The next line of a reader at `offset`, behind `lines` lines. The parameters are plain.
-pub fn next_line(sheet: &[u8], offset: usize, lines: usize) -> NextLine
-    requires { lines ≤ offset }
-    ensures { NextRead sheet.now offset lines result }
-{
-    Reader::at(sheet, offset, lines).next()
+// The lines up to the sheet's end or to the first that is broken. Each line passed has at least its LF, so that the next number does not wrap.
+impl<'a> Iterator for Reader<'a> {
+    type Item = Result<FrameLine, BrokenLine>;
+
+    ghost can_next = { Counted };
+
+    ghost next_gives = { LineStep };
+
+    ghost remaining = { bytes_left };
+
+    fn next(&mut self) -> Option<Result<FrameLine, BrokenLine>> {
+        if self.sheet.len() <= self.offset {
+            return None;
+        }
+        let from = self.offset;
+        let number = self.lines + 1;
+        match line_end(self.sheet, from) {
+            None => {
+                self.offset = self.sheet.len();
+                Some(Err(BrokenLine { number }))
+            }
+            Some(end) => {
+                self.offset = end + 1;
+                self.lines = number;
+                let digits = Span { from, end };
+                Some(Ok(FrameLine { number, digits }))
+            }
+        }
+    }
 }

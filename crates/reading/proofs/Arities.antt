@@ -13,29 +13,21 @@ use Rattle.format.specs.Limits.{max_symbols, max_arity}
 use Rattle.format.specs.Lists.{any, all, Every}
 use Rattle.format.specs.Refusal.{Result, refuse, give}
 use Rattle.format.specs.declared.refusal.Refusal.TheVariants.{SymbolFrame}
-use Rattle.format.specs.Theory.Lists.{every_append, any_append}
+use Rattle.format.specs.Theory.Lists.{every_append}
 use Rattle.scanning.specs.declared.known.Known.{Known}
-use Rattle.scanning.specs.declared.scan.ReadStatus.{ReadStatus}
-use Rattle.scanning.specs.declared.scan.ReadStatus.TheVariants.{Done, Refused}
+use Rattle.std.specs.List.{list_any}
+use Rattle.std.specs.Prelude.{Ok, Err}
+use Rattle.std.specs.Prelude.{Result as Outcome}
+use Rattle.format.specs.declared.refusal.Refusal.{Refusal}
 use Rattle.sheet.specs.Frame.{State, symbols_right, symbols_body}
 use Rattle.scanning.specs.ForContracts.Digits.{pair_at, bytes_between, BodyReady}
 use Rattle.scanning.specs.ForContracts.Scan.{listed, known_arities}
 use Rattle.scanning.specs.ForContracts.Known.{Roomy}
 use Rattle.reading.specs.ForContracts.Symbols.{AritiesReady, symbols_only, SymbolsRead, ArityBytes}
-use Rattle.scanning.specs.Theory.Listed.{length_listed, get_or_listed, listed_more, listed_set}
+use Rattle.scanning.specs.Theory.Listed.{listed_more, listed_set}
 use Rattle.scanning.specs.Theory.Between.{between_end, between_cons, two_more, first_byte}
 
 -- 1. Tests on lists, entry by entry.
-any_at : (f : ℕ → Bool) (xs : List ℕ) (i : ℕ) → i < length xs → f (get_or xs i 0) ≡ true → any f xs ≡ true
-unfolding any
-any_at f [] i h e = absurd (omega arith)
-any_at f (x ∷ xs) zero h e = ap (◌|| any f xs) e
-any_at f (x ∷ xs) (suc i) h e = ap (f x ||◌) (any_at f xs i (omega arith) e) ∙ or_true (f x)
-  where
-    or_true : (b : Bool) → (b || true) ≡ true
-    or_true true = refl
-    or_true false = refl
-
 all_at : (f : ℕ → Bool) (xs : List ℕ) (i : ℕ) → i < length xs → f (get_or xs i 0) ≡ false → all f xs ≡ false
 unfolding all
 all_at f [] i h e = absurd (omega arith)
@@ -52,32 +44,13 @@ all_every f [] h = refl
 all_every f (x ∷ xs) h = rw h.0 (all_every f xs h.1)
 
 -- 2. Is some arity 0?
-pub record NoneZero (k : Known) (i : ℕ) : Type 0 where
-  pub inside : i ≤ k.symbols
-  pub none : any (λ a. eqb a 0) (listed i k.arities) ≡ false
-
-pub none_start : (k : Known) → NoneZero k 0
-unfolding any listed
-none_start k = record { inside = omega arith; none = refl }
-
-pub none_next : (k : Known) (i : ℕ) → NoneZero k i → i < k.symbols → (get_or k.arities i 0 ≡ 0 → ⊥) → NoneZero k (i + 1)
+any_listed : {A : Type 0} (f : A → Bool) (xs : List A) → any f xs ≡ list_any f xs
 unfolding any
-none_next k i g h n = record {
-  inside = omega arith;
-  none =
-      ap (λ m. any (λ a. eqb a 0) (listed m k.arities)) (add-one i)
-      ∙ ap (any (λ a. eqb a 0)) (listed_more i k.arities)
-      ∙ any_append (λ a. eqb a 0) (listed i k.arities) (get_or k.arities i 0 ∷ [])
-      ∙ cc (g.none, ne_eqb (get_or k.arities i 0) 0 n);
-}
+any_listed f [] = refl
+any_listed f (x ∷ xs) = ap (f x ||◌) (any_listed f xs)
 
-pub zero_found : (k : Known) (i : ℕ) → i < k.symbols → get_or k.arities i 0 ≡ 0 → any (λ a. eqb a 0) (known_arities k) ≡ true
-zero_found k i h e =
-    any_at (λ a. eqb a 0) (known_arities k) i (omega (arith, length_listed k.symbols k.arities))
-    (eq-eqb (get_or (known_arities k) i 0) 0 (get_or_listed k.symbols k.arities i h ∙ e))
-
-pub none_found : (k : Known) (i : ℕ) → NoneZero k i → k.symbols ≤ i → any (λ a. eqb a 0) (known_arities k) ≡ false
-none_found k i g h = let e : k.symbols ≡ i = omega (arith, g.inside) in ap (λ m. any (λ a. eqb a 0) (listed m k.arities)) e ∙ g.none
+pub some_zero : (k : Known) {as' : List ℕ} → as' ≡ known_arities k → {b c : Bool} → b ≡ list_any (λ a. eqb a 0) as' → b ≡ c → any (λ a. eqb a 0) (known_arities k) ≡ c
+some_zero k e d x = any_listed (λ a. eqb a 0) (known_arities k) ∙ ap (list_any (λ a. eqb a 0)) (sym e) ∙ sym d ∙ x
 
 -- 3. The arities, one by one.
 pub length_between : (text : List ℕ) (n at : ℕ) → at + 2 * n ≤ length text → length (bytes_between text at (at + 2 * n)) ≡ n
@@ -179,7 +152,7 @@ module _ (text : List ℕ) (from n : ℕ) (r : AritiesReady text from n) where
       right_tests ∙ ap (◌&& any (λ a. eqb a 0) (body text from n)) (all_every (λ a. leb a max_arity) (body text from n) (subst (Every (λ a. leb a max_arity ≡ true)) w g.low))
 
   pub with_constant : (k : Known) (i : ℕ) → AritiesFilled text from n k i → n ≤ i → any (λ a. eqb a 0) (known_arities k) ≡ true
-      → ArityBytes (bytes_between text from (from + 2 * n)) n k Done
+      → ArityBytes (bytes_between text from (from + 2 * n)) n (Ok k)
   unfolding body
   with_constant k i g h e = (filled_right k i g h ∙ ap (any (λ a. eqb a 0)) (sym (all_filled k i g h)) ∙ e, all_filled k i g h, g.no_equations, g.no_tasks, g.roomy)
 
@@ -270,13 +243,13 @@ module _ (text : List ℕ) (from end : ℕ) (r : BodyReady text from end) (some_
   pub arities_behind : (n : ℕ) → n ≡ pair_at text from → (n ≡ 0 → ⊥) → n ≤ max_symbols → end - (from + 2) ≡ 2 * n → AritiesReady text (from + 2) n
   arities_behind n e z l c = record { some_symbol = omega arith; few_symbols = l; inside = omega (arith, two_more text from end r some_byte, r.inside) }
 
-  pub body_read : (n : ℕ) → n ≡ pair_at text from → end - (from + 2) ≡ 2 * n → (k : Known) (o : ReadStatus)
-      → ArityBytes (bytes_between text (from + 2) (from + 2 + 2 * n)) n k o → SymbolsRead (bytes_between text from end) k o
-  body_read n e c k o h = go o (subst (λ m. ArityBytes (bytes_between text (from + 2) m) n k o) (omega (arith, two_more text from end r some_byte)) h)
+  pub body_read : (n : ℕ) → n ≡ pair_at text from → end - (from + 2) ≡ 2 * n → (o : Outcome Known Refusal)
+      → ArityBytes (bytes_between text (from + 2) (from + 2 + 2 * n)) n o → SymbolsRead (bytes_between text from end) o
+  body_read n e c o h = go o (subst (λ m. ArityBytes (bytes_between text (from + 2) m) n o) (omega (arith, two_more text from end r some_byte)) h)
     where
       whole : bytes_between text from end ≡ n ∷ bytes_between text (from + 2) end
       whole = first_byte text from end r some_byte ∙ ap (◌∷ bytes_between text (from + 2) end) (sym e)
 
-      go : (o : ReadStatus) → ArityBytes (bytes_between text (from + 2) end) n k o → SymbolsRead (bytes_between text from end) k o
-      go Done h = (ap symbols_body whole ∙ count_right n (bytes_between text (from + 2) end) h.0 ∙ ap (λ as'. give (symbols_only as')) (sym h.1), h.2, h.3, h.4)
-      go (Refused x) h = ap symbols_body whole ∙ count_wrong n (bytes_between text (from + 2) end) h.0 ∙ ap refuse (sym h.1)
+      go : (o : Outcome Known Refusal) → ArityBytes (bytes_between text (from + 2) end) n o → SymbolsRead (bytes_between text from end) o
+      go (Ok k) h = (ap symbols_body whole ∙ count_right n (bytes_between text (from + 2) end) h.0 ∙ ap (λ as'. give (symbols_only as')) (sym h.1), h.2, h.3, h.4)
+      go (Err x) h = ap symbols_body whole ∙ count_wrong n (bytes_between text (from + 2) end) h.0 ∙ ap refuse (sym h.1)

@@ -5,5 +5,4 @@ pub mod Seeking
 pub mod Numbers
 pub mod OneFrame
 pub mod Arities
-pub mod Refused
 pub mod Placing

@@ -100,7 +100,7 @@ module _ (text : List ℕ) (from end : ℕ) where
     run_inside d (comparison u v) h = let x = sym d ∙ kind_is (comparison u v) h e in let z : ◌≡◌ {A = ℕ} 0 1 = cc in absurd (omega arith)
 
     pub run_found : kind ≡ run_kind → {b : ℕ} → b ≡ pair_at text (from + 2) → (t : Task) → Spans text from end (task_frame t)
-        → TaskAt text t (record { head = Run b; from = from + 4; end = end })
+        → TaskAt text t (record { head = Run b; terms = record { from = from + 4; end = end } })
     unfolding task_frame task_terms
     run_found d x (run k u) h = let (y, z) = behind_two h in (ap Run (x ∙ y), z)
     run_found d x (judgement n o ts) h = let y = sym d ∙ kind_is (judgement n o ts) h e in let z : ◌≡◌ {A = ℕ} 0 1 = cc in absurd (omega arith)
@@ -114,7 +114,7 @@ module _ (text : List ℕ) (from end : ℕ) where
 
     pub judgement_found : kind ≡ judgement_kind → {b c : ℕ} → b ≡ pair_at text (from + 2) → c ≡ pair_at text (from + 4) → (t : Task)
         → Spans text from end (task_frame t)
-        → TaskAt text t (record { head = Judgement b c; from = from + 6; end = end })
+        → TaskAt text t (record { head = Judgement b c; terms = record { from = from + 6; end = end } })
     unfolding task_frame task_terms
     judgement_found d x y (run k u) h = let w = sym d ∙ kind_is (run k u) h e in let z : ◌≡◌ {A = ℕ} 0 1 = cc in absurd (omega arith)
     judgement_found d {b} {c} x y (judgement n o ts) h =
@@ -127,7 +127,7 @@ module _ (text : List ℕ) (from end : ℕ) where
     judgement_found d x y (comparison u v) h = let w = sym d ∙ kind_is (comparison u v) h e in let z : ◌≡◌ {A = ℕ} 0 1 = cc in absurd (omega arith)
 
     pub comparison_found : (kind ≡ run_kind → ⊥) → (kind ≡ judgement_kind → ⊥) → (t : Task) → Spans text from end (task_frame t)
-        → TaskAt text t (record { head = Comparison; from = from + 2; end = end })
+        → TaskAt text t (record { head = Comparison; terms = record { from = from + 2; end = end } })
     unfolding task_frame task_terms
     comparison_found d f (run k u) h = absurd (d (kind_is (run k u) h e))
     comparison_found d f (judgement n o ts) h = absurd (f (kind_is (judgement n o ts) h e))

@@ -19,8 +19,8 @@ use Rattle.format.specs.declared.refusal.Refusal.TheVariants.{FrameOrder}
 use Rattle.terms.specs.Equation.{Equation}
 use Rattle.scanning.specs.declared.text.Span.{Span}
 use Rattle.scanning.specs.declared.known.Known.{Known}
-use Rattle.scanning.specs.declared.scan.ReadStatus.{ReadStatus}
-use Rattle.scanning.specs.declared.scan.ReadStatus.TheVariants.{Done, Refused}
+use Rattle.std.specs.Prelude.{Ok, Err}
+use Rattle.std.specs.Prelude.{Result as Outcome}
 use Rattle.sheet.specs.Sheet.{Sheet, equation_width}
 use Rattle.sheet.specs.Frame.{State, start, within, takes_equation, takes_task, in_order, equation_body, with_equation, with_task, read_body, read_kind, read_frame}
 use Rattle.scanning.specs.ForContracts.Digits.{pair_at, bytes_between, span_bytes, BodyReady, SpanReady}
@@ -64,7 +64,7 @@ module _ (k : Known) (s : Sheet) (knows : KnowsSheet k s) where
   some_symbols e = omega (arith, length_listed k.symbols k.arities, ap length knows.arities_are, knows.valid.symbols.some_symbol)
 
   -- 1. An equation.
-  pub width_given : (bs : List ℕ) (w : ℕ) → EquationGiven (known_arities k) bs w Done → w ≤ variable_count
+  pub width_given : (bs : List ℕ) (w : ℕ) → EquationGiven (known_arities k) bs (Ok w) → w ≤ variable_count
   width_given bs w g =
       let (e, x, y) = g in
       omega (arith, y, equation_width_low e (equation_given (known_arities k) (omega (arith, length_listed k.symbols k.arities, few_arities)) bs e x).valid.limits)
@@ -99,8 +99,8 @@ module _ (k : Known) (s : Sheet) (knows : KnowsSheet k s) where
     unfolding result_map
     equation_refused bs e = frame_is bs ∙ ap (result_map (with_equation s)) e
 
-    pub equation_done : (bs : List ℕ) → Bytes bs → (w : ℕ) → EquationGiven (known_arities k) bs w Done → {more : Known}
-        → more ≡ record { symbols = k.symbols; arities = k.arities; equations = k.equations + 1; widths = set k.widths k.equations w; tasks = k.tasks } → FrameRead (read_kind (within s) equation_kind bs) more Done
+    pub equation_done : (bs : List ℕ) → Bytes bs → (w : ℕ) → EquationGiven (known_arities k) bs (Ok w) → {more : Known}
+        → more ≡ record { symbols = k.symbols; arities = k.arities; equations = k.equations + 1; widths = set k.widths k.equations w; tasks = k.tasks } → FrameRead (read_kind (within s) equation_kind bs) (Ok more)
     unfolding result_map with_equation
     equation_done bs small w g d =
         let (e, x, y) = g in
@@ -166,11 +166,11 @@ module _ (k : Known) (s : Sheet) (knows : KnowsSheet k s) where
         go comparison_kind n = ordered (within s) comparison_kind bs takes_one
         go unknown_kind n = unordered (within s) unknown_kind bs refl
 
-    pub task_refused : (bs : List ℕ) {x : Refusal} → Matches (task_result s kind bs) (Refused x) → read_kind (within s) kind bs ≡ refuse x
-    task_refused bs {x} h = task_is bs ∙ matches_map (with_task s) (task_result s kind bs) (Refused x) h
+    pub task_refused : (bs : List ℕ) {x : Refusal} → Matches (task_result s kind bs) (Err x) → read_kind (within s) kind bs ≡ refuse x
+    task_refused bs {x} h = task_is bs ∙ matches_map (with_task s) (task_result s kind bs) (Err x) h
 
-    pub task_done : (bs : List ℕ) → Bytes bs → Matches (task_result s kind bs) Done → {more : Known}
-        → more ≡ record { symbols = k.symbols; arities = k.arities; equations = k.equations; widths = k.widths; tasks = k.tasks + 1 } → FrameRead (read_kind (within s) kind bs) more Done
+    pub task_done : (bs : List ℕ) → Bytes bs → Matches (task_result s kind bs) (Ok tt) → {more : Known}
+        → more ≡ record { symbols = k.symbols; arities = k.arities; equations = k.equations; widths = k.widths; tasks = k.tasks + 1 } → FrameRead (read_kind (within s) kind bs) (Ok more)
     unfolding result_map with_task
     task_done bs small g d =
         let (t, x) = g in
@@ -204,9 +204,9 @@ no_entries : (xs : List ℕ) → listed 0 xs ≡ []
 unfolding listed
 no_entries xs = refl
 
-symbols_first : (bs : List ℕ) → Bytes bs → (k : Known) (o : ReadStatus) → SymbolsRead bs k o → FrameRead (read_kind start symbols_kind bs) k o
+symbols_first : (bs : List ℕ) → Bytes bs → (o : Outcome Known Refusal) → SymbolsRead bs o → FrameRead (read_kind start symbols_kind bs) o
 unfolding in_order read_body
-symbols_first bs small k Done h =
+symbols_first bs small (Ok k) h =
     let r : read_kind start symbols_kind bs ≡ give (symbols_only (known_arities k)) = ordered start symbols_kind bs refl ∙ h.0 in (
       symbols_only (known_arities k),
       r,
@@ -219,11 +219,11 @@ symbols_first bs small k Done h =
         roomy = record { arities_room = h.3.arities_room; widths_room = h.3.widths_room };
       },
     )
-symbols_first bs small k (Refused x) h = ordered start symbols_kind bs refl ∙ h
+symbols_first bs small (Err x) h = ordered start symbols_kind bs refl ∙ h
 
-pub first_symbols : {kind : FrameKind} → kind ≡ symbols_kind → (bs : List ℕ) → Bytes bs → (k : Known) (o : ReadStatus) → SymbolsRead bs k o
-    → FrameRead (read_kind start kind bs) k o
-first_symbols e bs small k o h = subst (λ kind. FrameRead (read_kind start kind bs) k o) (sym e) (symbols_first bs small k o h)
+pub first_symbols : {kind : FrameKind} → kind ≡ symbols_kind → (bs : List ℕ) → Bytes bs → (o : Outcome Known Refusal) → SymbolsRead bs o
+    → FrameRead (read_kind start kind bs) o
+first_symbols e bs small o h = subst (λ kind. FrameRead (read_kind start kind bs) o) (sym e) (symbols_first bs small o h)
 
 -- 4. A frame of digits.
 module _ (text : List ℕ) (d : Span) (b : SpanReady text d) (some : d.from < d.end) where
@@ -248,16 +248,16 @@ module _ (text : List ℕ) (d : Span) (b : SpanReady text d) (some : d.from < d.
     unfolding read_frame
     by_kind state = ap (λ k. read_kind state k body_bytes) e ∙ ap (read_frame state) (sym (first_byte text d.from d.end b more))
 
-    pub read_first : k₀.symbols ≡ 0 → (k : Known) (o : ReadStatus) → FrameRead (read_kind start kind body_bytes) k o → (state : State) → Knows k₀ state
-        → FrameRead (read_frame state (span_bytes text d)) k o
-    read_first z k o h start g = subst (λ r. FrameRead r k o) (by_kind start) h
-    read_first z k o h (within s) g = absurd (some_symbols k₀ s g z)
+    pub read_first : k₀.symbols ≡ 0 → (o : Outcome Known Refusal) → FrameRead (read_kind start kind body_bytes) o → (state : State) → Knows k₀ state
+        → FrameRead (read_frame state (span_bytes text d)) o
+    read_first z o h start g = subst (λ r. FrameRead r o) (by_kind start) h
+    read_first z o h (within s) g = absurd (some_symbols k₀ s g z)
 
-    pub read_later : (k₀.symbols ≡ 0 → ⊥) → {n : FrameKind} → kind ≡ n → (k : Known) (o : ReadStatus)
-        → ((s : Sheet) → KnowsSheet k₀ s → FrameRead (read_kind (within s) n body_bytes) k o)
-        → (state : State) → Knows k₀ state → FrameRead (read_frame state (span_bytes text d)) k o
-    read_later z x k o h start g = absurd (z g.0)
-    read_later z x k o h (within s) g = subst (λ r. FrameRead r k o) (ap (λ n. read_kind (within s) n body_bytes) (sym x) ∙ by_kind (within s)) (h s g)
+    pub read_later : (k₀.symbols ≡ 0 → ⊥) → {n : FrameKind} → kind ≡ n → (o : Outcome Known Refusal)
+        → ((s : Sheet) → KnowsSheet k₀ s → FrameRead (read_kind (within s) n body_bytes) o)
+        → (state : State) → Knows k₀ state → FrameRead (read_frame state (span_bytes text d)) o
+    read_later z x o h start g = absurd (z g.0)
+    read_later z x o h (within s) g = subst (λ r. FrameRead r o) (ap (λ n. read_kind (within s) n body_bytes) (sym x) ∙ by_kind (within s)) (h s g)
 
 -- The sheet so far, where symbols are known.
 pub known_sheet : (k : Known) → (k.symbols ≡ 0 → ⊥) → (state : State) × Knows k state → (s : Sheet) × KnowsSheet k s

@@ -14,9 +14,11 @@ use Rattle.sheet.specs.ForContracts.Frames.{equation_frame, task_frame, frames_o
 use Rattle.sheet.specs.Reading.{accepted, read}
 use Rattle.scanning.specs.ForContracts.Digits.{span_bytes, NoFrame}
 use Rattle.reader.specs.declared.line.FrameLine.{FrameLine}
-use Rattle.reader.specs.declared.line.NextLine.{NextLine}
-use Rattle.reader.specs.declared.line.NextLine.TheVariants.{Frame, Broken, End}
-use Rattle.reader.specs.ForContracts.Lines.{IsLine, NextRead}
+use Rattle.reader.specs.declared.line.BrokenLine.{BrokenLine}
+use Rattle.reader.specs.declared.reader.Reader.{Reader}
+use Rattle.std.specs.Prelude.{Option, None, Some, Result, Ok, Err, MatchOption}
+use Rattle.std.specs.Iterator.{Yields, SkipsThenYields}
+use Rattle.reader.specs.ForContracts.Lines.{IsLine, LineStep}
 use Rattle.reader.specs.Theory.Lines.{line_text, line_first, line_frame, line_ready, line_long}
 use Rattle.reading.specs.ForContracts.Seek.{IsFrame, AllFrames, FrameIn, Spans}
 use Rattle.sheet.specs.Theory.Frames.{Framed, accepted_frames}
@@ -46,12 +48,6 @@ module _ (text : List ℕ) (n offset lines : ℕ) (g : Seeking text n offset lin
       let x : none ≡ some frame = sym l.no_frame ∙ e in
       let z : ◌≡◌ {A = ℕ} 0 1 = cc in absurd (omega arith)
 
-  -- What a `match` leaves to its last arm.
-  pub seeking_other : (r : NextLine) → NextRead text offset lines r → ((l : FrameLine) → r ≡ Frame l → ⊥) → {frame : List ℕ} → FrameIn text n frame → ⊥
-  seeking_other (Frame l) h t f = t l refl
-  seeking_other (Broken m) h t f = seeking_broken h.2
-  seeking_other End h t f = seeking_ended h f
-
   module _ (l : FrameLine) (i : IsLine text offset lines l) where
     pub seeking_found : n < l.number → (frame : List ℕ) → FrameIn text n frame → Spans text l.digits.from l.digits.end frame
     unfolding entry
@@ -62,7 +58,7 @@ module _ (text : List ℕ) (n offset lines : ℕ) (g : Seeking text n offset lin
         let y : some (span_bytes text l.digits) ≡ some frame = sym (line_frame text offset lines l i) ∙ (cc) in
         record { ready = line_ready text offset lines l i; writes = cc }
 
-    pub seeking_next : l.number ≤ n → Seeking text n l.behind l.number
+    pub seeking_next : l.number ≤ n → Seeking text n (l.digits.end + 1) l.number
     unfolding entry
     seeking_next h =
         let z : n - lines ≡ suc (n - l.number) = omega (arith, i.number_is) in
@@ -71,8 +67,53 @@ module _ (text : List ℕ) (n offset lines : ℕ) (g : Seeking text n offset lin
           not_passed = h;
           counted = omega (arith, g.counted, i.number_is, line_long text offset lines l i);
           frames = (subst (Every IsFrame) first g.frames).1;
-          same = sym (ap (λ rs. entry rs (n - lines)) first ∙ ap (entry (line_text text offset lines l i ∷ lines_of (drop l.behind text))) z) ∙ g.same;
+          same = sym (ap (λ rs. entry rs (n - lines)) first ∙ ap (entry (line_text text offset lines l i ∷ lines_of (drop (l.digits.end + 1) text))) z) ∙ g.same;
         }
+
+-- What a reader gives behind the lines that it skips is the frame.
+abbrev pub FrameFound : (text frame : List ℕ) → Option (Result FrameLine BrokenLine) → Type 0
+FrameFound text frame r = (l : FrameLine) × (r ≡ Some (Ok l)) × Spans text l.digits.from l.digits.end frame
+
+module _ (text : List ℕ) (n : ℕ) (frame : List ℕ) (f : FrameIn text n frame) where
+  record Sought (r : Reader) : Type 0 where
+    same : r.sheet.now ≡ text
+    seeking : Seeking text n r.offset r.lines
+
+  sought_step : (s t : Reader) (l : FrameLine) → Sought s → LineStep s (Some (Ok l)) t → l.number ≤ n → Sought t
+  sought_step s t l g h i =
+      let line = subst (λ x. IsLine x s.offset s.lines l) g.same h.read in
+      record {
+        same = ap (λ x. x.now) h.same ∙ g.same;
+        seeking = rw (h.stands.0, h.stands.1) (seeking_next text n s.offset s.lines g.seeking l line i);
+      }
+
+  sought_passed : (xs : List (Result FrameLine BrokenLine)) (s t : Reader) → Sought s → s.lines + length xs ≤ n → Yields LineStep s xs t
+      → Sought t × (t.lines ≡ s.lines + length xs)
+  sought_passed [] s t g h e = rw (← e) (g, omega arith)
+  sought_passed (Ok l ∷ xs) s t g h (j, step, e) =
+      let low : j.lines ≡ s.lines + 1 = omega (arith, step.read.number_is, step.stands.1) in
+      let (at_t, counted) = sought_passed xs j t (sought_step s j l g step (omega (arith, step.read.number_is))) (omega (arith, low)) e in
+      (at_t, omega (arith, low, counted))
+  sought_passed (Err b ∷ xs) s t g h (j, step, e) = absurd (seeking_broken text n s.offset s.lines g.seeking (subst (λ x. NoFrame x s.offset) g.same step.read.2))
+
+  pub frame_found : (s u : Reader) (r : Option (Result FrameLine BrokenLine)) → s.sheet.now ≡ text → s.offset ≡ 0 → s.lines ≡ 0 → AllFrames text
+      → SkipsThenYields LineStep s n r u → FrameFound text frame r
+  frame_found s u r e o l₀ a (xs, (t, passed, step), m) = go r step m
+    where
+      begun : Sought s
+      begun = record { same = e; seeking = rw (o, l₀) (seeking_start text n a) }
+
+      go : (r : Option (Result FrameLine BrokenLine)) → LineStep t r u → MatchOption r (length xs ≤ n) (λ _. length xs ≡ n) → FrameFound text frame r
+      go (Some (Ok l)) h m =
+          let (g, counted) = sought_passed xs s t begun (omega (arith, l₀)) passed in
+          let line = subst (λ x. IsLine x t.offset t.lines l) g.same h.read in
+          (l, refl, seeking_found text n t.offset t.lines g.seeking l line (omega (arith, line.number_is)) frame f)
+      go (Some (Err b)) h m =
+          let (g, counted) = sought_passed xs s t begun (omega (arith, l₀)) passed in
+          absurd (seeking_broken text n t.offset t.lines g.seeking (subst (λ x. NoFrame x t.offset) g.same h.read.2))
+      go None h m =
+          let (g, counted) = sought_passed xs s t begun (omega (arith, l₀)) passed in
+          absurd (seeking_ended text n t.offset t.lines g.seeking (subst (λ x. length x ≤ t.offset) g.same h.read) f)
 
 -- 2. The frames of a sheet by their number.
 entry_map : {A B : Type 0} (f : A → B) (xs : List A) (i : ℕ) {x : A} → entry xs i ≡ some x → entry (map f xs) i ≡ some (f x)

@@ -7,22 +7,22 @@ ghost use Rattle.reading.specs.ForContracts.Loading.{TermsIn, HasTermsIn, Loaded
 
 use crate::seek::decode;
 use format::limits::Limits;
+use scanning::text::Span;
 use terms::measure::measure;
 
-// Stores the terms that the digits from `from` to `end` write, with their sizes; how many nodes they have.
+// Stores the terms that the digits write, with their sizes; how many nodes they have.
 pub fn load_terms(
     sheet: &[u8],
-    from: usize,
-    end: usize,
+    digits: Span,
     arities: &[u8],
     nodes: &mut [u8],
     sizes: &mut [u8],
 ) -> usize
-    requires has_terms_in { HasTermsIn sheet.now arities.now from end }
+    requires has_terms_in { HasTermsIn sheet.now arities.now digits.from digits.end }
     requires nodes_len { (length nodes.old ≡ node_count) × (length sizes.old ≡ node_count) × AllSymbols nodes.old }
-    ensures { (ts : Terms) → TermsIn sheet.now arities.now from end ts → Loaded arities.now nodes.new sizes.new ts result }
+    ensures { (ts : Terms) → TermsIn sheet.now arities.now digits.from digits.end ts → Loaded arities.now nodes.new sizes.new ts result }
 {
-    let n = decode(sheet, from, end, &mut nodes[Limits::SUBJECT..]);
+    let n = decode(sheet, digits, &mut nodes[Limits::SUBJECT..]);
     measure(nodes, arities, sizes, Limits::SUBJECT, Limits::SUBJECT + n);
     n
 }

@@ -8,8 +8,7 @@ ghost use Rattle.sheet.specs.ForContracts.Frames.{task_frame};
 ghost use Rattle.reading.specs.ForContracts.Seek.{Accepts, AllFrames, FrameIn, EquationIn, TaskIn, Spans, Decoded, TaskAt};
 
 use format::kind::{FrameKind, kind_of};
-use reader::line::NextLine;
-use reader::reader::next_line;
+use reader::reader::Reader;
 use scanning::known::Known;
 use scanning::text::{Span, byte_at};
 
@@ -18,38 +17,21 @@ fn frame_at(s: &[u8], n: usize) -> Span
     requires { AllFrames s.now × ((frame : List ℕ) × FrameIn s.now n frame) }
     ensures { (frame : List ℕ) → FrameIn s.now n frame → Spans s.now result.from result.end frame }
 {
-    let mut offset: usize = 0;
-    let mut lines: usize = 0;
-    loop {
-        match next_line(s, offset, lines) {
-            NextLine::Frame(line) => {
-                if n < line.number {
-                    return line.digits;
-                }
-                offset = line.behind;
-                lines = line.number;
-            }
-            // Not met: every line is a frame, and line `n` is there.
-            _ => {
-                return Span { from: 0, end: 0 };
-            }
-        }
-    }
+    // Every line is a frame, and line `n` is there.
+    let line = Reader::new(s).nth(n).unwrap().unwrap();
+    line.digits
 }
 
-// The bytes that the digits from `from` to `end` write, to the front of `out`; how many.
-pub fn decode(s: &[u8], from: usize, end: usize, out: &mut [u8]) -> usize
-    requires { (bs : List ℕ) × Spans s.now from end bs × (length bs ≤ length out.old) }
-    ensures { (bs : List ℕ) → Spans s.now from end bs → Decoded bs out.old out.new result }
+// The bytes that the digits write, to the front of `out`; how many.
+pub fn decode(s: &[u8], digits: Span, out: &mut [u8]) -> usize
+    requires { (bs : List ℕ) × Spans s.now digits.from digits.end bs × (length bs ≤ length out.old) }
+    ensures { (bs : List ℕ) → Spans s.now digits.from digits.end bs → Decoded bs out.old out.new result }
 {
-    let mut at = from;
-    let mut n = 0;
-    while at < end {
-        out[n] = byte_at(s, at) as u8;
-        at = at + 2;
-        n = n + 1;
+    let count = (digits.end - digits.from) / 2;
+    for n in 0..count {
+        out[n] = byte_at(s, digits.from + 2 * n) as u8;
     }
-    n
+    count
 }
 
 // The bytes of equation `e`, left side then right side, to the front of `out`; how many.
@@ -58,14 +40,18 @@ pub fn equation_at(s: &[u8], known: Known, e: usize, out: &mut [u8]) -> usize
     ensures { (q : Equation) → EquationIn s.now e q → Decoded (equation_bytes q) out.old out.new result }
 {
     let frame = frame_at(s, e + 1);
-    decode(s, frame.from + 2, frame.end, out)
+    let sides = Span {
+        from: frame.from + 2,
+        ..frame
+    };
+    decode(s, sides, out)
 }
 
-// What a task asks for besides its terms: a run's step limit, a judgement's equation and direction.
+// What a task asks for besides its terms.
 #[derive(Clone, Copy)]
 pub enum TaskHead {
-    Run(usize),
-    Judgement(usize, usize),
+    Run { limit: usize },
+    Judgement { equation: usize, direction: usize },
     Comparison,
 }
 
@@ -73,8 +59,7 @@ pub enum TaskHead {
 #[derive(Clone, Copy)]
 pub struct TaskFound {
     pub head: TaskHead,
-    pub from: usize,
-    pub end: usize,
+    pub terms: Span,
 }
 
 // Task `k`.
@@ -92,23 +77,33 @@ fn task_head(s: &[u8], span: Span) -> TaskFound
     ensures { (t : Task) → Spans s.now span.from span.end (task_frame t) → TaskAt s.now t result }
 {
     let from = span.from;
-    let end = span.end;
     let kind = kind_of(byte_at(s, from) as u8);
     match kind {
         FrameKind::Run => TaskFound {
-            head: TaskHead::Run(byte_at(s, from + 2)),
-            from: from + 4,
-            end: end,
+            head: TaskHead::Run {
+                limit: byte_at(s, from + 2),
+            },
+            terms: Span {
+                from: from + 4,
+                ..span
+            },
         },
         FrameKind::Judgement => TaskFound {
-            head: TaskHead::Judgement(byte_at(s, from + 2), byte_at(s, from + 4)),
-            from: from + 6,
-            end: end,
+            head: TaskHead::Judgement {
+                equation: byte_at(s, from + 2),
+                direction: byte_at(s, from + 4),
+            },
+            terms: Span {
+                from: from + 6,
+                ..span
+            },
         },
         _ => TaskFound {
             head: TaskHead::Comparison,
-            from: from + 2,
-            end: end,
+            terms: Span {
+                from: from + 2,
+                ..span
+            },
         },
     }
 }

@@ -1,5 +1,7 @@
 -- Laws for the bodies of frames: a scan with nothing behind it, an equation's two sides, and its highest variable.
 use Rattle.std.proofs.Common.{◌≡◌, ℕ, ◌≤◌, max, false, List, [], ◌∷◌, ◌++◌, length, refl, ap, ◌∙◌, subst, arith}
+use Rattle.std.specs.Prelude.{Ok, Err}
+use Rattle.std.specs.Prelude.{Result as Outcome}
 use Rattle.format.specs.Limits.{max_symbols, max_side_nodes}
 use Rattle.format.specs.Refusal.{Result, refuse, give, result_map}
 use Rattle.format.specs.declared.refusal.Refusal.{Refusal}
@@ -9,53 +11,38 @@ use Rattle.terms.specs.Term.{Term, Terms, var, app, nil, cons}
 use Rattle.terms.specs.Equation.{Equation}
 use Rattle.terms.specs.Prefix.{prefix, prefixes, terms_of}
 use Rattle.terms.specs.ForContracts.Fits.{AllFit, Fits}
-use Rattle.scanning.specs.declared.scan.ReadStatus.{ReadStatus}
-use Rattle.scanning.specs.declared.scan.ReadStatus.TheVariants.{Done, Refused}
 use Rattle.scanning.specs.declared.scan.Scanned.{Scanned}
 use Rattle.scanning.specs.declared.scan.Wanted.{Wanted}
 use Rattle.scanning.specs.declared.text.Span.{Span}
 use Rattle.scanning.specs.declared.known.Known.{Known}
-use Rattle.scanning.specs.declared.frame.EquationReading.{EquationReading}
 use Rattle.sheet.specs.Sheet.{width, widths, equation_width}
 use Rattle.sheet.specs.Frame.{scan, all_read, scan_sides, first_term, second_term, equation_body}
 use Rattle.scanning.specs.ForContracts.Digits.{bytes_between, span_bytes}
-use Rattle.scanning.specs.ForContracts.Scan.{known_arities, widest, FrameReady, status_result, ScanRead, LastSide, EquationGiven}
+use Rattle.scanning.specs.ForContracts.Scan.{known_arities, widest, FrameReady, ScanTo, WholeScan, EquationGiven}
 use Rattle.scanning.specs.Theory.Listed.{length_listed}
 use Rattle.scanning.specs.Theory.Between.{between_end, first_byte}
 use Rattle.sheet.specs.Theory.Frame.{equation_given}
 
 -- 1. A scan, and what is left behind it.
-pub by_wanted : {text : List ℕ} {d : Span} {arities : List ℕ} {w v : Wanted} {r : Scanned} → w ≡ v → ScanRead text d arities w r → ScanRead text d arities v r
-by_wanted {text} {d} {arities} {w} {v} {r} e g = subst (λ u. ScanRead text d arities u r) e g
-
-module _ (text : List ℕ) (d : Span) (arities : List ℕ) (w : Wanted) (r : Scanned) (g : ScanRead text d arities w r) where
+module _ (text : List ℕ) (d : Span) (arities : List ℕ) (w : Wanted) where
   abbrev scan_result : Result (List ℕ)
   scan_result = scan arities w.is_ground (span_bytes text d) w.terms w.nodes
 
-  pub scan_refusal : {x : Refusal} → r.status ≡ Refused x → scan_result ≡ refuse x
-  scan_refusal e = g.given ∙ ap (status_result (bytes_between text r.at d.end)) e
-
-  pub scan_done : r.status ≡ Done → scan_result ≡ give (bytes_between text r.at d.end)
-  scan_done e = g.given ∙ ap (status_result (bytes_between text r.at d.end)) e
-
-  pub refused_read : {x : Refusal} → r.status ≡ Refused x → (ts : Terms) → all_read ts scan_result ≡ refuse x
+  pub refused_read : {x : Refusal} → scan_result ≡ refuse x → (ts : Terms) → all_read ts scan_result ≡ refuse x
   unfolding all_read
-  refused_read e ts = ap (all_read ts) (scan_refusal e)
+  refused_read e ts = ap (all_read ts) e
 
-  pub done_whole : r.status ≡ Done → r.at ≡ d.end → scan_result ≡ give []
-  done_whole e h = scan_done e ∙ ap give (between_end text r.at d.end (omega arith))
+  module _ (r : Scanned) (g : ScanTo text d arities w r) where
+    pub done_whole : r.at ≡ d.end → scan_result ≡ give []
+    done_whole h = g.given ∙ ap give (between_end text r.at d.end (omega arith))
 
-  pub whole_read : r.status ≡ Done → r.at ≡ d.end → (ts : Terms) → all_read ts scan_result ≡ give ts
-  unfolding all_read
-  whole_read e h ts = ap (all_read ts) (done_whole e h)
+    pub left_over : (r.at ≡ d.end → ⊥) → (ts : Terms) → all_read ts scan_result ≡ refuse FrameBytes
+    unfolding all_read
+    left_over n ts = ap (all_read ts) (g.given ∙ ap give (first_byte text r.at d.end g.behind n))
 
-  pub left_over : r.status ≡ Done → (r.at ≡ d.end → ⊥) → (ts : Terms) → all_read ts scan_result ≡ refuse FrameBytes
-  unfolding all_read
-  left_over e n ts = ap (all_read ts) (scan_done e ∙ ap give (first_byte text r.at d.end g.behind n))
-
-  pub done_width : r.status ≡ Done → r.at ≡ d.end → max w.width (widest (span_bytes text d)) ≡ r.width
-  unfolding widest
-  done_width e h = g.widths ∙ ap (λ bs. max r.width (widest bs)) (between_end text r.at d.end (omega arith)) ∙ omega arith
+    pub done_width : r.at ≡ d.end → max w.width (widest (span_bytes text d)) ≡ r.width
+    unfolding widest
+    done_width h = g.widths ∙ ap (λ bs. max r.width (widest bs)) (between_end text r.at d.end (omega arith)) ∙ omega arith
 
 -- 2. The two sides of an equation.
 after_left : (arities : List ℕ) → Result (List ℕ) → Result (List ℕ)
@@ -109,28 +96,28 @@ module _ (arities : List ℕ) (known : length arities ≤ max_symbols) where
   pub sides_done : (text : List ℕ) (from at end w highest : ℕ)
       → scan arities false (bytes_between text from end) 1 max_side_nodes ≡ give (bytes_between text at end)
       → scan arities false (bytes_between text at end) 1 max_side_nodes ≡ give [] → max 0 (widest (bytes_between text from end)) ≡ max w (widest (bytes_between text at end))
-      → max w (widest (bytes_between text at end)) ≡ highest → EquationGiven arities (bytes_between text from end) highest Done
+      → max w (widest (bytes_between text at end)) ≡ highest → EquationGiven arities (bytes_between text from end) (Ok highest)
   sides_done text from at end w highest d e i j =
       let (q, x) = second_read arities (bytes_between text from end) (bytes_between text at end) d e in
       (q, x, omega (arith, equation_width_read (bytes_between text from end) q x))
 
 -- 4. What the equation's code puts together: the left side's scan, and what is known of the right side.
-abbrev pub left_side : Wanted
-left_side = record { terms = 1; nodes = max_side_nodes; is_ground = false; width = 0 }
+abbrev pub one_side : ℕ → Wanted
+one_side width = record { terms = 1; nodes = max_side_nodes; is_ground = false; width = width }
 
-pub equation_status : (text : List ℕ) (d : Span) (k : Known) → FrameReady text d k → (l : Scanned) → ScanRead text d (known_arities k) left_side l
-    → l.status ≡ Done
-    → (r : EquationReading) → LastSide (known_arities k) (bytes_between text l.at d.end) l.width r.width r.status
-    → EquationGiven (known_arities k) (span_bytes text d) r.width r.status
-equation_status text d k f l g e r h = go r.status r.width h
+pub equation_read : (text : List ℕ) (d : Span) (k : Known) → FrameReady text d k → {v : Wanted} → v ≡ one_side 0 → (l : Scanned)
+    → ScanTo text d (known_arities k) v l
+    → {w : Wanted} → w ≡ one_side l.width → (r : Outcome ℕ Refusal) → WholeScan (known_arities k) (bytes_between text l.at d.end) w r
+    → EquationGiven (known_arities k) (span_bytes text d) r
+equation_read text d k f {v} a l g {w} b r h = go r (subst (λ w. WholeScan (known_arities k) (bytes_between text l.at d.end) w r) b h)
   where
     few : length (known_arities k) ≤ max_symbols
     few = omega (arith, length_listed k.symbols k.arities, f.few_symbols)
 
-    left : scan (known_arities k) false (span_bytes text d) 1 max_side_nodes ≡ give (bytes_between text l.at d.end)
-    left = scan_done text d (known_arities k) left_side l g e
+    side : ScanTo text d (known_arities k) (one_side 0) l
+    side = subst (λ v. ScanTo text d (known_arities k) v l) a g
 
-    go : (o : ReadStatus) (w : ℕ) → LastSide (known_arities k) (bytes_between text l.at d.end) l.width w o
-        → EquationGiven (known_arities k) (span_bytes text d) w o
-    go Done w h = sides_done (known_arities k) few text d.from l.at d.end l.width w left h.0 g.widths h.1
-    go (Refused x) w h = second_refused (known_arities k) (span_bytes text d) (bytes_between text l.at d.end) left h
+    go : (o : Outcome ℕ Refusal) → WholeScan (known_arities k) (bytes_between text l.at d.end) (one_side l.width) o
+        → EquationGiven (known_arities k) (span_bytes text d) o
+    go (Ok w) h = sides_done (known_arities k) few text d.from l.at d.end l.width w side.given h.0 side.widths h.1
+    go (Err x) h = second_refused (known_arities k) (span_bytes text d) (bytes_between text l.at d.end) side.given h

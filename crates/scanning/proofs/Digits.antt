@@ -1,5 +1,5 @@
 -- Lemmas for the code that reads digits and finds the end of a line.
-use Rattle.std.proofs.Common.{◌≡◌, ℕ, zero, suc, ◌+◌, ◌-◌, ◌*◌, ◌%◌, ◌<◌, ◌≤◌, Bool, true, false, ◌&&◌, ltb, leb, List, [], ◌∷◌, ◌++◌, length, get_or, take, drop, sym, refl, ap, ◌∙◌, subst, inl, inr, append_assoc, append-nil, add-one, arith, length-append, length-drop, take-append-drop, length-take-le, get_or-drop, drop-cons, take-suc, drop-drop, take-add, ltb-false, ltb-true, le-ltb, lt-ltb, le-leb}
+use Rattle.std.proofs.Common.{◌≡◌, ℕ, zero, suc, ◌+◌, ◌-◌, ◌*◌, ◌<◌, ◌≤◌, Bool, true, false, ◌&&◌, ltb, leb, List, [], ◌∷◌, ◌++◌, length, get_or, take, drop, sym, refl, ap, ◌∙◌, subst, inl, inr, append_assoc, append-nil, add-one, arith, length-append, length-drop, take-append-drop, length-take-le, get_or-drop, drop-cons, take-suc, drop-drop, take-add, ltb-true, le-ltb, lt-ltb, le-leb}
 use mathlib.Core.Option
 use mathlib.Core.Option.{Option, none, some}
 use lib.Seq.{drop-length}
@@ -7,8 +7,8 @@ use borrow.Author.Tests.{lt-leb}
 use Rattle.format.specs.Limits.{max_line_digits}
 use Rattle.format.specs.Theory.Lists.{every_append}
 use Rattle.sheet.specs.Text.{base, LF, ended, unended, lines_of, digit, byte_of, put_first, bytes_of, frame_of}
-use Rattle.scanning.specs.declared.text.LineEnd.{LineEnd}
-use Rattle.scanning.specs.declared.text.LineEnd.TheVariants.{At, Broken}
+use Rattle.std.specs.Prelude.{Some, None}
+use Rattle.std.specs.Prelude.{Option as End}
 use Rattle.scanning.specs.ForContracts.Digits.{digit_number, Digits, block, DigitsTo, decoded, bytes_between, LineTo, NoFrame, LineRead, CountRead}
 use Rattle.sheet.specs.Theory.Text.{digit_small}
 use Rattle.sheet.specs.Theory.Lines.{NoLF, content, lines_ended, Begins, lines_begin, lines_unended, frame_none_digit, frame_none_long}
@@ -100,26 +100,15 @@ number_other c h = go (digit c) refl
     go none e = e
     go (some n) e = absurd (omega (arith, number_some c n e, digit_small c n e))
 
--- A digit is told by the differences to 0 and to a, which wrap.
-pub decimal_told : (c w : ℕ) → (w + 0x30) % 256 ≡ c → w < 10 → true ≡ ltb (digit_number c) base
-decimal_told c w e h = sym (lt-ltb (digit_number c) base (omega (arith, number_some c (c - 0x30) (digit_decimal c (omega arith) (omega arith)))))
+-- A digit is told by the two ranges.
+pub decimal_told : (c : ℕ) → 0x30 ≤ c → c ≤ 0x39 → true ≡ ltb (digit_number c) base
+decimal_told c h i = sym (lt-ltb (digit_number c) base (omega (arith, number_some c (c - 0x30) (digit_decimal c h i))))
 
-pub letter_told : (c w v : ℕ) → w < 256 → v < 256 → (w + 0x30) % 256 ≡ c → (v + 0x61) % 256 ≡ c → 10 ≤ w → ltb v 6 ≡ ltb (digit_number c) base
-letter_told c w v k l d e h = go (ltb v 6) refl
-  where
-    no_digit : 6 ≤ v → digit c ≡ none
-    no_digit i = place (ltb c 0x30) (ltb c 0x61) refl refl
-      where
-        place : (x y : Bool) → ltb c 0x30 ≡ x → ltb c 0x61 ≡ y → digit c ≡ none
-        place true y p q = digit_low c (ltb-true c 0x30 p)
-        place false true p q = digit_between c (omega (arith, ltb-false c 0x30 p)) (ltb-true c 0x61 q)
-        place false false p q = digit_high c (omega (arith, ltb-false c 0x61 q))
+pub letter_told : (c : ℕ) → 0x61 ≤ c → c ≤ 0x66 → true ≡ ltb (digit_number c) base
+letter_told c h i = sym (lt-ltb (digit_number c) base (omega (arith, number_some c (10 + (c - 0x61)) (digit_letter c h i))))
 
-    go : (t : Bool) → ltb v 6 ≡ t → t ≡ ltb (digit_number c) base
-    go true x =
-        let i = ltb-true v 6 x in
-        sym (lt-ltb (digit_number c) base (omega (arith, number_some c (10 + (c - 0x61)) (digit_letter c (omega (arith, i)) (omega (arith, i))))))
-    go false x = sym (le-ltb (digit_number c) base (omega (arith, number_none c (no_digit (ltb-false v 6 x)))))
+pub other_told : (c : ℕ) → digit c ≡ none → false ≡ ltb (digit_number c) base
+other_told c e = sym (le-ltb (digit_number c) base (omega (arith, number_none c e)))
 
 -- 2. Lines, by their digits.
 digit_no_LF : (c : ℕ) → digit_number c < base → c ≡ LF → ⊥
@@ -265,33 +254,13 @@ digits_to_next s at i p h d n =
     at_most : (m k : ℕ) → m ≤ max_line_digits → (m ≡ max_line_digits → ⊥) → k ≡ suc m → k ≤ max_line_digits
     at_most m k l n e = omega arith
 
--- A block at once: `i` of those from `at` on are tested.
-pub record Tested (s : List ℕ) (at : ℕ) (all : Bool) (i : ℕ) : Type 0 where
-  pub few : i ≤ block
-  pub digits : all ≡ true → Digits (take i (drop at s))
-
-pub tested_start : (s : List ℕ) (at : ℕ) → Tested s at true 0
-tested_start s at = record { few = omega arith; digits = λ e. tt }
-
-pub tested_next : (s : List ℕ) (at i : ℕ) (all one both : Bool) → Tested s at all i → at + block ≤ length s → i < block
-    → one ≡ ltb (digit_number (get_or s (at + i) 0)) base → both ≡ (all && one) → Tested s at both (i + 1)
-tested_next s at i all one both t l h d e = record { few = omega arith; digits = go all one t.digits d e }
-  where
-    more : take (i + 1) (drop at s) ≡ take i (drop at s) ++ (get_or s (at + i) 0 ∷ [])
-    more =
-        ap (λ m. take m (drop at s)) (add-one i)
-        ∙ take-suc (drop at s) i 0 (omega (arith, length-drop at s))
-        ∙ ap (λ x. take i (drop at s) ++ (x ∷ [])) (get_or-drop at s i 0)
-
-    go : (a o : Bool) → (a ≡ true → Digits (take i (drop at s))) → o ≡ ltb (digit_number (get_or s (at + i) 0)) base → both ≡ (a && o) → both ≡ true
-        → Digits (take (i + 1) (drop at s))
-    go true true f x y z =
-        rw more (every_append (λ c. digit_number c < base) (take i (drop at s)) (get_or s (at + i) 0 ∷ []) (f refl) (ltb-true _ base (sym x), tt))
-    go true false f x y z = let w : ◌≡◌ {A = ℕ} 0 1 = cc in absurd (omega arith)
-    go false o f x y z = let w : ◌≡◌ {A = ℕ} 0 1 = cc in absurd (omega arith)
-
-pub tested_all : (s : List ℕ) (at i : ℕ) (all : Bool) → Tested s at all i → block ≤ i → all ≡ true → Digits (take block (drop at s))
-tested_all s at i all t h e = let d : i ≡ block = omega (arith, t.few) in subst (λ n. Digits (take n (drop at s))) d (t.digits e)
+-- One character more of a block is tested.
+pub tested_next : (cs : List ℕ) (i : ℕ) (all one both : Bool) → (all ≡ true → Digits (take i cs)) → i < length cs
+    → one ≡ ltb (digit_number (get_or cs i 0)) base → both ≡ (all && one) → both ≡ true → Digits (take (i + 1) cs)
+tested_next cs i true true both f l d e h =
+    rw (add-one i, take-suc cs i 0) (every_append (λ c. digit_number c < base) (take i cs) (get_or cs i 0 ∷ []) (f refl) (ltb-true _ base (sym d), tt))
+tested_next cs i true false both f l d e h = cc
+tested_next cs i false one both f l d e h = cc
 
 pub digits_to_block : (s : List ℕ) (at i : ℕ) → DigitsTo s at i → i + block ≤ length s → i + block - at ≤ max_line_digits → Digits (take block (drop i s))
     → DigitsTo s at (i + block)
@@ -308,10 +277,10 @@ digits_to_block s at i p h l d =
       digits = rw more (every_append (λ c. digit_number c < base) (take (i - at) (drop at s)) (take block (drop i s)) p.digits d);
     }
 
-pub digits_to_ended : (s : List ℕ) (at i : ℕ) → DigitsTo s at i → i < length s → get_or s i 0 ≡ LF → (r : LineEnd) → CountRead at i r → LineRead s at r
-digits_to_ended s at i p h e (At j) x = rw x.0 (line_to s at i p.begun p.inside p.few p.digits h e x.1 x.2)
-digits_to_ended s at i p h e Broken (inl x) = line_empty s at i p.begun p.inside p.few p.digits h e x
-digits_to_ended s at i p h e Broken (inr x) = line_odd s at i p.begun p.inside p.few p.digits h e x.0 x.1
+pub digits_to_ended : (s : List ℕ) (at i : ℕ) → DigitsTo s at i → i < length s → get_or s i 0 ≡ LF → (r : End ℕ) → CountRead at i r → LineRead s at r
+digits_to_ended s at i p h e (Some j) x = rw x.0 (line_to s at i p.begun p.inside p.few p.digits h e x.1 x.2)
+digits_to_ended s at i p h e None (inl x) = line_empty s at i p.begun p.inside p.few p.digits h e x
+digits_to_ended s at i p h e None (inr x) = line_odd s at i p.begun p.inside p.few p.digits h e x.0 x.1
 
 pub digits_to_other : (s : List ℕ) (at i : ℕ) → DigitsTo s at i → i < length s → (get_or s i 0 ≡ LF → ⊥) → base ≤ digit_number (get_or s i 0) → NoFrame s at
 digits_to_other s at i p = line_other s at i p.begun p.inside p.few p.digits

@@ -8,15 +8,12 @@ use Rattle.format.specs.declared.byte.Class.{Class}
 use Rattle.format.specs.Byte.{class_of}
 use Rattle.format.specs.declared.byte.Class.TheVariants.{Symbol as symbol, Variable as variable, Foreign as foreign}
 use Rattle.format.specs.Theory.Byte.{symbol_class, class_symbol, class_variable}
-use Rattle.scanning.specs.declared.scan.OtherNode.{OtherNode}
-use Rattle.scanning.specs.declared.scan.OtherNode.TheVariants.{Variable, Refused as Node-Refused}
-use Rattle.scanning.specs.declared.scan.ReadStatus.{ReadStatus}
-use Rattle.scanning.specs.declared.scan.ReadStatus.TheVariants.{Done, Refused}
+use Rattle.std.specs.Prelude.{Ok, Err}
 use Rattle.scanning.specs.declared.scan.Wanted.{Wanted}
 use Rattle.scanning.specs.declared.text.Span.{Span}
 use Rattle.sheet.specs.Frame.{after_node, scan}
 use Rattle.scanning.specs.ForContracts.Digits.{pair_at, bytes_between, span_bytes, BodyReady}
-use Rattle.scanning.specs.ForContracts.Scan.{max_need, OtherRead, listed, node_width, widest, ScanReady, status_result, ScanRead}
+use Rattle.scanning.specs.ForContracts.Scan.{max_need, OtherRead, listed, node_width, widest, ScanReady, ScanTo, ScanRead}
 use Rattle.scanning.specs.Theory.Listed.{length_listed, get_or_listed}
 use Rattle.scanning.specs.Theory.Between.{between_end, two_more, first_byte, byte_small, body_behind}
 use Rattle.terms.specs.Term.{arity}
@@ -132,24 +129,29 @@ module _ (text : List ℕ) (d : Span) (arities : List ℕ) (w : Wanted) where
     behind : List ℕ
     behind = bytes_between text (at + 2) d.end
 
-    abbrev Stops : ReadStatus → Type 0
-    Stops o = ScanRead text d arities w (record { status = o; at = at; width = highest })
+    abbrev Stops : Refusal → Type 0
+    Stops x = ScanRead text d arities w (Err x)
 
     -- It stops with what the rest gives.
-    scanning_stop : (o : ReadStatus) → scan arities w.is_ground rest need room ≡ status_result rest o → Stops o
+    scanning_stop : (x : Refusal) → scan arities w.is_ground rest need room ≡ refuse x → Stops x
     unfolding rest
-    scanning_stop o e = record { given = g.same ∙ e; behind = g.body; widths = g.widths; low_width = g.low }
+    scanning_stop x e = g.same ∙ e
 
-    pub stop_done : need ≤ 0 → Stops Done
+    pub stop_done : need ≤ 0 → ScanTo text d arities w (record { at = at; width = highest })
     unfolding rest
     stop_done h =
         let e : need ≡ 0 = omega arith in
-        scanning_stop Done (ap (λ n. scan arities w.is_ground rest n room) e ∙ scan_none arities w.is_ground rest room)
+        record {
+          given = g.same ∙ ap (λ n. scan arities w.is_ground rest n room) e ∙ scan_none arities w.is_ground rest room;
+          behind = g.body;
+          widths = g.widths;
+          low_width = g.low;
+        }
 
-    pub stop_early : at ≡ d.end → 0 < need → Stops (Refused FrameBytes)
+    pub stop_early : at ≡ d.end → 0 < need → Stops FrameBytes
     unfolding rest
     stop_early e h =
-        scanning_stop (Refused FrameBytes)
+        scanning_stop FrameBytes
         (ap (λ bs. scan arities w.is_ground bs need room) (between_end text at d.end (omega arith)) ∙ scan_early arities w.is_ground need room h)
 
     module _ (more : at ≡ d.end → ⊥) where
@@ -164,13 +166,13 @@ module _ (text : List ℕ) (d : Span) (arities : List ℕ) (w : Wanted) where
       is_cons = first_byte text at d.end g.body more
 
       module _ (some_need : 0 < need) where
-        pub stop_full : room ≡ 0 → Stops (Refused FrameBytes)
-        stop_full e = scanning_stop (Refused FrameBytes) (cc (is_cons, e, scan_full arities w.is_ground (pair_at text at) behind need some_need))
+        pub stop_full : room ≡ 0 → Stops FrameBytes
+        stop_full e = scanning_stop FrameBytes (cc (is_cons, e, scan_full arities w.is_ground (pair_at text at) behind need some_need))
 
         module _ (some_room : room ≡ 0 → ⊥) where
-          pub stop_refused : (x : Refusal) → after_node arities w.is_ground (class_of (pair_at text at)) (need - 1) ≡ refuse x → Stops (Refused x)
+          pub stop_refused : (x : Refusal) → after_node arities w.is_ground (class_of (pair_at text at)) (need - 1) ≡ refuse x → Stops x
           stop_refused x e =
-              scanning_stop (Refused x) (cc (is_cons, scan_refused arities w.is_ground (pair_at text at) behind need room x some_need (omega arith) e))
+              scanning_stop x (cc (is_cons, scan_refused arities w.is_ground (pair_at text at) behind need room x some_need (omega arith) e))
 
           pub scanning_next : (n : ℕ) → after_node arities w.is_ground (class_of (pair_at text at)) (need - 1) ≡ give n → n ≤ max_byte + (need - 1)
               → Scanning text d arities w (at + 2) n (room - 1) (max highest (node_width (class_of (pair_at text at))))
@@ -186,38 +188,36 @@ module _ (text : List ℕ) (d : Span) (arities : List ℕ) (w : Wanted) where
             low = omega (arith, g.low, width_low (pair_at text at));
           }
 
--- A declared symbol, told without its class.
+-- A declared symbol, told without its class. The arity of one more adds at most a byte.
 pub scanning_declared : (text : List ℕ) (d : Span) (symbols : ℕ) (xs : List ℕ) (w : Wanted) (at need room highest : ℕ)
     → Scanning text d (listed symbols xs) w at need room highest
     → (at ≡ d.end → ⊥) → 0 < need → (room ≡ 0 → ⊥) → symbols ≤ max_symbols → {b a : ℕ} → b ≡ pair_at text at → b < symbols → a ≡ get_or xs b 0 → a ≤ max_byte
-    → Scanning text d (listed symbols xs) w (at + 2) (a + (need - 1)) (room - 1) highest
+    → Scanning text d (listed symbols xs) w (at + 2) (need - 1 + a) (room - 1) highest
 scanning_declared text d symbols xs w at need room highest g n h m l {b} {a} x i e k =
     let f = pair_at text at in
     let is_symbol : class_of f ≡ symbol f = symbol_class f (omega arith) in
-    let given : after_node (listed symbols xs) w.is_ground (class_of f) (need - 1) ≡ give (a + (need - 1)) =
+    let given : after_node (listed symbols xs) w.is_ground (class_of f) (need - 1) ≡ give (need - 1 + a) =
     ap (λ c. after_node (listed symbols xs) w.is_ground c (need - 1)) is_symbol
     ∙ after_known symbols xs w.is_ground f (need - 1) (omega arith)
-    ∙ ap (λ y. give (y + (need - 1))) (ap (λ j. get_or xs j 0) (sym x) ∙ sym e) in
+    ∙ ap give (omega (arith, ap (λ j. get_or xs j 0) x)) in
     let same_width : max highest (node_width (class_of f)) ≡ highest = ap (λ c. max highest (node_width c)) is_symbol ∙ omega arith in
-    subst (Scanning text d (listed symbols xs) w (at + 2) (a + (need - 1)) (room - 1)) same_width
-    (scanning_next text d (listed symbols xs) w at need room highest g n h m (a + (need - 1)) given (omega arith))
+    subst (Scanning text d (listed symbols xs) w (at + 2) (need - 1 + a) (room - 1)) same_width
+    (scanning_next text d (listed symbols xs) w at need room highest g n h m (need - 1 + a) given (omega arith))
 
 -- A node that is no declared symbol.
 module _ (text : List ℕ) (d : Span) (symbols : ℕ) (xs : List ℕ) (w : Wanted) (at need room highest : ℕ) (g : Scanning text d (listed symbols xs) w at need room highest)
-    (more : at ≡ d.end → ⊥) (some_need : 0 < need) (some_room : room ≡ 0 → ⊥) {b : ℕ} (is_byte_lem : b ≡ pair_at text at) (undeclared : symbols ≤ b) (r : OtherNode)
-    (read : (arities : List ℕ) (n : ℕ) → length arities ≤ b → OtherRead arities w.is_ground b n r) where
-  node_read : OtherRead (listed symbols xs) w.is_ground (pair_at text at) (need - 1) r
-  node_read =
-      subst (λ x. OtherRead (listed symbols xs) w.is_ground x (need - 1) r) is_byte_lem
-      (read (listed symbols xs) (need - 1) (omega (arith, length_listed symbols xs)))
+    (more : at ≡ d.end → ⊥) (some_need : 0 < need) (some_room : room ≡ 0 → ⊥) {b : ℕ} (is_byte_lem : b ≡ pair_at text at) (undeclared : symbols ≤ b) where
+  few : length (listed symbols xs) ≤ b
+  few = omega (arith, length_listed symbols xs)
 
-  pub stop_other : {x : Refusal} → r ≡ Node-Refused x → ScanRead text d (listed symbols xs) w (record { status = Refused x; at = at; width = highest })
-  stop_other {x} e =
+  pub stop_other : {x : Refusal} → ((arities : List ℕ) (n : ℕ) → length arities ≤ b → OtherRead arities w.is_ground b n (Err x)) → ScanRead text d (listed symbols xs) w (Err x)
+  stop_other {x} read =
       stop_refused text d (listed symbols xs) w at need room highest g more some_need some_room x
-      (subst (OtherRead (listed symbols xs) w.is_ground (pair_at text at) (need - 1)) e node_read)
+      (rw (← is_byte_lem) (read (listed symbols xs) (need - 1) few))
 
-  pub scanning_variable : {v : ℕ} → r ≡ Variable v → {u : ℕ} → u ≡ max highest v → Scanning text d (listed symbols xs) w (at + 2) (need - 1) (room - 1) u
-  scanning_variable {v} e x =
-      let (given, width) = subst (OtherRead (listed symbols xs) w.is_ground (pair_at text at) (need - 1)) e node_read in
+  pub scanning_variable : {v : ℕ} → ((arities : List ℕ) (n : ℕ) → length arities ≤ b → OtherRead arities w.is_ground b n (Ok v)) → {u : ℕ} → u ≡ max highest v
+      → Scanning text d (listed symbols xs) w (at + 2) (need - 1) (room - 1) u
+  scanning_variable {v} read x =
+      let (given, width) = subst (λ b. OtherRead (listed symbols xs) w.is_ground b (need - 1) (Ok v)) is_byte_lem (read (listed symbols xs) (need - 1) few) in
       subst (Scanning text d (listed symbols xs) w (at + 2) (need - 1) (room - 1)) (ap (max highest) width ∙ sym x)
       (scanning_next text d (listed symbols xs) w at need room highest g more some_need some_room (need - 1) given (omega arith))

@@ -12,7 +12,8 @@ use Rattle.format.specs.declared.refusal.Refusal.TheVariants.{FrameOrder, FrameB
 use Rattle.format.specs.Theory.Lists.{every_entry, entry_found}
 use Rattle.terms.specs.Equation.{Equation, Direction, direction_of}
 use Rattle.scanning.specs.declared.known.Known.{Known}
-use Rattle.scanning.specs.declared.scan.ReadStatus.{ReadStatus}
+use Rattle.std.specs.Prelude.{Result as Outcome}
+use Rattle.format.specs.declared.refusal.Refusal.{Refusal}
 use Rattle.sheet.specs.Sheet.{run, judgement, comparison, Sheet, equation_width}
 use Rattle.sheet.specs.Frame.{ground_terms, first_term, second_term, run_body, values_body, judgement_body, comparison_body}
 use Rattle.scanning.specs.ForContracts.Digits.{pair_at, bytes_between, BodyReady}
@@ -25,7 +26,7 @@ use Rattle.scanning.specs.Theory.Listed.{get_or_listed}
 use Rattle.scanning.specs.Theory.Between.{between_end, between_cons, first_byte, body_behind}
 
 -- 1. The status of equal results; the frame behind its first byte.
-matches_same : {A : Type 0} {r s : Result A} (o : ReadStatus) → r ≡ s → Matches r o → Matches s o
+matches_same : {A : Type 0} {r s : Result A} (o : Outcome (Unit {0}) Refusal) → r ≡ s → Matches r o → Matches s o
 matches_same o e h = subst (λ r. Matches r o) e h
 
 no_entry : {A : Type 0} (xs : List A) (i : ℕ) → length xs ≤ i → entry xs i ≡ none
@@ -53,7 +54,7 @@ width_entry (x ∷ es) zero q e = let d : x ≡ q = cc in ap equation_width d
 width_entry (x ∷ es) (suc i) q e = width_entry es i q e
 
 module _ (k : Known) (s : Sheet) (knows : KnowsSheet k s) where
-  same_arities : {A : Type 0} (g : List ℕ → Result A) (o : ReadStatus) → Matches (g (known_arities k)) o → Matches (g s.arities) o
+  same_arities : {A : Type 0} (g : List ℕ → Result A) (o : Outcome (Unit {0}) Refusal) → Matches (g (known_arities k)) o → Matches (g s.arities) o
   same_arities g o h = matches_same o (ap g knows.arities_are) h
 
   -- 2. A run.
@@ -61,7 +62,7 @@ module _ (k : Known) (s : Sheet) (knows : KnowsSheet k s) where
   unfolding run_body
   run_early text from end e = ap (run_body s) (between_end text from end (omega arith))
 
-  pub run_read : (text : List ℕ) (from end : ℕ) → BodyReady text from end → (from ≡ end → ⊥) → (o : ReadStatus)
+  pub run_read : (text : List ℕ) (from end : ℕ) → BodyReady text from end → (from ≡ end → ⊥) → (o : Outcome (Unit {0}) Refusal)
       → Matches (ground_terms (known_arities k) 1 (bytes_between text (from + 2) end)) o
       → Matches (run_body s (bytes_between text from end)) o
   unfolding run_body
@@ -71,7 +72,7 @@ module _ (k : Known) (s : Sheet) (knows : KnowsSheet k s) where
       (same_arities (λ as'. ground_terms as' 1 (bytes_between text (from + 2) end)) o h))
 
   -- 3. A comparison.
-  pub comparison_read : (bs : List ℕ) (o : ReadStatus) → Matches (ground_terms (known_arities k) 2 bs) o → Matches (comparison_body s bs) o
+  pub comparison_read : (bs : List ℕ) (o : Outcome (Unit {0}) Refusal) → Matches (ground_terms (known_arities k) 2 bs) o → Matches (comparison_body s bs) o
   unfolding comparison_body
   comparison_read bs o h =
       matches_map (λ ts. comparison (first_term ts) (second_term ts)) (ground_terms s.arities 2 bs) o (same_arities (λ as'. ground_terms as' 2 bs) o h)
@@ -136,7 +137,7 @@ module _ (k : Known) (s : Sheet) (knows : KnowsSheet k s) where
           let (q, i) = named in
           omega (arith, width_known q i, equation_width_low q (every_entry (ValidEquation s.arities) s.equations e knows.valid.equations i).limits)
 
-      pub judgement_read : {d : ℕ} → d ≡ pair_at text (from + 2) → d ≤ 1 → {w : ℕ} → w ≡ get_or k.widths e 0 → (o : ReadStatus)
+      pub judgement_read : {d : ℕ} → d ≡ pair_at text (from + 2) → d ≤ 1 → {w : ℕ} → w ≡ get_or k.widths e 0 → (o : Outcome (Unit {0}) Refusal)
           → Matches (ground_terms (known_arities k) w (bytes_between text (from + 4) end)) o
           → Matches (judgement_body s (bytes_between text from end)) o
       unfolding values_body
@@ -163,17 +164,17 @@ other_kind s judgement_kind bs h = absurd (⊎_elim (λ e. omega arith) (λ e. �
 other_kind s comparison_kind bs h = absurd (⊎_elim (λ e. omega arith) (λ e. ⊎_elim (λ e. omega arith) (λ e. omega arith) e) h)
 other_kind s unknown_kind bs h = refl
 
-pub run_kind_is : (s : Sheet) {kind : FrameKind} (bs : List ℕ) (o : ReadStatus) → kind ≡ run_kind → Matches (run_body s bs) o
+pub run_kind_is : (s : Sheet) {kind : FrameKind} (bs : List ℕ) (o : Outcome (Unit {0}) Refusal) → kind ≡ run_kind → Matches (run_body s bs) o
     → Matches (task_result s kind bs) o
 unfolding task_result
 run_kind_is s bs o e h = subst (λ kind. Matches (task_result s kind bs) o) (sym e) h
 
-pub judgement_kind_is : (s : Sheet) {kind : FrameKind} (bs : List ℕ) (o : ReadStatus) → kind ≡ judgement_kind → Matches (judgement_body s bs) o
+pub judgement_kind_is : (s : Sheet) {kind : FrameKind} (bs : List ℕ) (o : Outcome (Unit {0}) Refusal) → kind ≡ judgement_kind → Matches (judgement_body s bs) o
     → Matches (task_result s kind bs) o
 unfolding task_result
 judgement_kind_is s bs o e h = subst (λ kind. Matches (task_result s kind bs) o) (sym e) h
 
-pub comparison_kind_is : (s : Sheet) {kind : FrameKind} (bs : List ℕ) (o : ReadStatus) → kind ≡ comparison_kind → Matches (comparison_body s bs) o
+pub comparison_kind_is : (s : Sheet) {kind : FrameKind} (bs : List ℕ) (o : Outcome (Unit {0}) Refusal) → kind ≡ comparison_kind → Matches (comparison_body s bs) o
     → Matches (task_result s kind bs) o
 unfolding task_result
 comparison_kind_is s bs o e h = subst (λ kind. Matches (task_result s kind bs) o) (sym e) h

@@ -1,4 +1,6 @@
 // What is remembered of the lines that are read.
+ghost use Rattle.std.specs.Prelude.{◌≡◌, ◌≤◌, length};
+ghost use Rattle.scanning.specs.ForContracts.Scan.{known_arities};
 ghost use Rattle.scanning.specs.ForContracts.Known.{none_known};
 
 use format::limits::Limits;
@@ -25,5 +27,13 @@ impl Known {
             widths: [0u8; Limits::EQUATIONS],
             tasks: 0,
         }
+    }
+
+    // The arities of the symbols.
+    pub fn symbol_arities(&self) -> &[u8]
+        requires { self.now.symbols ≤ length self.now.arities }
+        ensures { result.now ≡ known_arities self.now }
+    {
+        &self.arities[..self.symbols]
     }
 }

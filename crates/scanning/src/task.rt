@@ -7,52 +7,47 @@ ghost use Rattle.scanning.specs.ForContracts.Known.{KnowsSheet};
 
 use crate::frame::ground_terms;
 use crate::known::Known;
-use crate::scan::ReadStatus;
 use crate::text::{Span, byte_at};
-use format::byte::wide;
 use format::kind::FrameKind;
 use format::refusal::Refusal;
 
 // A step limit, and a ground term.
-fn run_task(known: Known, s: &[u8], span: Span) -> ReadStatus
+fn run_task(known: Known, s: &[u8], span: Span) -> Result<(), Refusal>
     requires { FrameReady s.now span known }
     ensures { (sheet : Sheet) → KnowsSheet known sheet → Matches (run_body sheet (span_bytes s.now span)) result }
 {
     if span.from == span.end {
-        return ReadStatus::Refused(Refusal::FrameBytes);
+        return Err(Refusal::FrameBytes);
     }
     let term = Span {
         from: span.from + 2,
-        end: span.end,
+        ..span
     };
     ground_terms(known, s, term, 1)
 }
 
 // An equation, a direction, and a value for each variable up to the equation's highest.
-fn judgement_task(known: Known, s: &[u8], span: Span) -> ReadStatus
+fn judgement_task(known: Known, s: &[u8], span: Span) -> Result<(), Refusal>
     requires { FrameReady s.now span known × ((sheet : Sheet) × KnowsSheet known sheet) }
     ensures { (sheet : Sheet) → KnowsSheet known sheet → Matches (judgement_body sheet (span_bytes s.now span)) result }
 {
     let from = span.from;
     if span.end - from < 4 {
-        return ReadStatus::Refused(Refusal::FrameBytes);
+        return Err(Refusal::FrameBytes);
     }
     let e = byte_at(s, from);
-    if known.equations <= e {
-        return ReadStatus::Refused(Refusal::AbsentDirection);
-    }
-    if 1 < byte_at(s, from + 2) {
-        return ReadStatus::Refused(Refusal::AbsentDirection);
+    if known.equations <= e || 1 < byte_at(s, from + 2) {
+        return Err(Refusal::AbsentDirection);
     }
     let values = Span {
         from: from + 4,
-        end: span.end,
+        ..span
     };
-    ground_terms(known, s, values, wide(known.widths[e]))
+    ground_terms(known, s, values, usize::from(known.widths[e]))
 }
 
 // The body of a task of this kind.
-pub fn task_body(known: Known, s: &[u8], span: Span, kind: FrameKind) -> ReadStatus
+pub fn task_body(known: Known, s: &[u8], span: Span, kind: FrameKind) -> Result<(), Refusal>
     requires { FrameReady s.now span known × ((sheet : Sheet) × KnowsSheet known sheet) }
     ensures { (sheet : Sheet) → KnowsSheet known sheet → Matches (task_result sheet kind (span_bytes s.now span)) result }
 {
@@ -60,6 +55,6 @@ pub fn task_body(known: Known, s: &[u8], span: Span, kind: FrameKind) -> ReadSta
         FrameKind::Run => run_task(known, s, span),
         FrameKind::Judgement => judgement_task(known, s, span),
         FrameKind::Comparison => ground_terms(known, s, span, 2),
-        _ => ReadStatus::Refused(Refusal::FrameOrder),
+        _ => Err(Refusal::FrameOrder),
     }
 }

@@ -1,11 +1,10 @@
 // The text of a sheet: digits, bytes of two digits, and where a line ends.
-ghost use Rattle.std.specs.Prelude.{◌≡◌, ◌+◌, ◌<◌, ◌≤◌, true, ◌&&◌, length, take, drop, nat_lt};
+ghost use Rattle.std.specs.Prelude.{◌≡◌, ◌+◌, ◌<◌, ◌≤◌, true, length, take, drop, nat_lt};
 ghost use Rattle.sheet.specs.Text.{base};
 ghost use Rattle.scanning.specs.ForContracts.Digits.{digit_number, pair_at, block, Digits, DigitsTo, LineRead, CountRead};
 
 use format::byte::LF;
 use format::limits::Limits;
-use std::num::wrapping_sub_u8;
 
 // The base of the digits.
 const BASE: usize = 16;
@@ -41,20 +40,11 @@ pub fn byte_at(s: &[u8], at: usize) -> usize
     BASE * high + low
 }
 
-// Whether a character is a digit, by differences that wrap, which compile to no branch.
+// Whether a character is a digit. The ranges compile to no branch.
 fn is_digit(c: u8) -> bool
     ensures { result ≡ nat_lt (digit_number c) base }
 {
-    if wrapping_sub_u8(c, b'0') < 10 {
-        return true;
-    }
-    wrapping_sub_u8(c, b'a') < 6
-}
-
-fn both(a: bool, b: bool) -> bool
-    ensures { result ≡ (a && b) }
-{
-    if a { b } else { false }
+    matches!(c, b'0'..=b'9' | b'a'..=b'f')
 }
 
 // Whether the characters of a block from `at` on are digits. No branch leaves the loop: they are tested at once, in one vector.
@@ -63,10 +53,8 @@ fn block_digits(s: &[u8], at: usize) -> bool
     ensures { result ≡ true → Digits (take block (drop at s.now)) }
 {
     let mut all = true;
-    let mut i = 0;
-    while i < BLOCK {
-        all = both(all, is_digit(s[at + i]));
-        i = i + 1;
+    for &c in &s[at..at + BLOCK] {
+        all &= is_digit(c);
     }
     all
 }
@@ -77,59 +65,38 @@ fn blocks_end(s: &[u8], at: usize) -> usize
     ensures { DigitsTo s.now at result }
 {
     let mut i = at;
-    while i + BLOCK <= s.len() {
-        if Limits::LINE_DIGITS < i + BLOCK - at {
-            return i;
-        }
-        if block_digits(s, i) {
-            i = i + BLOCK;
-        } else {
-            return i;
-        }
+    while i + BLOCK <= s.len() && i + BLOCK - at <= Limits::LINE_DIGITS && block_digits(s, i) {
+        i += BLOCK;
     }
     i
 }
 
 // Where the digits of a line end, if it is a line of the stated digits and LF.
-#[derive(Clone, Copy)]
-pub enum LineEnd {
-    At(usize),
-    Broken,
-}
-
-pub fn line_end(s: &[u8], at: usize) -> LineEnd
+pub fn line_end(s: &[u8], at: usize) -> Option<usize>
     requires { at < length s.now }
     ensures { LineRead s.now at result }
 {
-    let mut i = blocks_end(s, at);
-    while i < s.len() {
+    for i in blocks_end(s, at)..s.len() {
         let c = s[i];
         // Most characters are digits, so that the line's end is looked for among the others.
         if BASE <= digit_value(c) {
-            if c == LF {
-                return ended_at(at, i);
-            }
-            return LineEnd::Broken;
+            return if c == LF { ended_at(at, i) } else { None };
         }
         if i - at == Limits::LINE_DIGITS {
-            return LineEnd::Broken;
+            return None;
         }
-        i = i + 1;
     }
-    LineEnd::Broken
+    None
 }
 
 // An even count, not zero.
-fn ended_at(at: usize, end: usize) -> LineEnd
+fn ended_at(at: usize, end: usize) -> Option<usize>
     requires { at ≤ end }
     ensures { CountRead at end result }
 {
-    let count = end - at;
-    if count == 0 {
-        return LineEnd::Broken;
+    match end - at {
+        0 => None,
+        count if count % 2 == 1 => None,
+        _ => Some(end),
     }
-    if count % 2 == 1 {
-        return LineEnd::Broken;
-    }
-    LineEnd::At(end)
 }

@@ -14,9 +14,9 @@ module _ (text : List ℕ) (offset lines : ℕ) (l : FrameLine) (i : IsLine text
   pub line_text : TextLine
   line_text = ended (take (l.digits.end - offset) (drop offset text))
 
-  pub line_first : lines_of (drop offset text) ≡ line_text ∷ lines_of (drop l.behind text)
+  pub line_first : lines_of (drop offset text) ≡ line_text ∷ lines_of (drop (l.digits.end + 1) text)
   unfolding line_text
-  line_first = i.framed.is_first ∙ ap (λ m. ended (take (l.digits.end - offset) (drop offset text)) ∷ lines_of (drop m text)) (sym i.behind_is)
+  line_first = i.framed.is_first
 
   pub line_frame : frame_of line_text ≡ some (span_bytes text l.digits)
   unfolding line_text
@@ -36,8 +36,8 @@ module _ (text : List ℕ) (offset lines : ℕ) (l : FrameLine) (i : IsLine text
   line_some = omega (arith, i.framed.even, i.from_is)
 
   -- A line has characters, LF among them, and ends within the text.
-  pub line_long : offset + 1 ≤ l.behind
-  line_long = omega (arith, i.framed.even, i.behind_is)
+  pub line_long : offset + 1 ≤ l.digits.end + 1
+  line_long = omega (arith, i.framed.even)
 
-  pub line_inside : l.behind ≤ length text
-  line_inside = omega (arith, i.framed.inside, i.behind_is)
+  pub line_inside : l.digits.end + 1 ≤ length text
+  line_inside = omega (arith, i.framed.inside)

@@ -60,4 +60,4 @@ task_terms (judgement e d ts) = prefixes ts
 task_terms (comparison s t) = prefix s ++ prefix t
 
 abbrev pub TaskAt : List ℕ → Task → TaskFound → Type 0
-TaskAt text t r = (r.head ≡ task_head t) × Spans text r.from r.end (task_terms t)
+TaskAt text t r = (r.head ≡ task_head t) × Spans text r.terms.from r.terms.end (task_terms t)

@@ -1,19 +1,17 @@
 -- Digits, the bytes that they write, and the end of a line: what the contracts of the code that reads digits cite.
-use Rattle.std.specs.Prelude.{◌≡◌, ℕ, suc, ◌+◌, ◌-◌, ◌*◌, ◌<◌, ◌≤◌, ◌⊎◌, List, [], ◌∷◌, length, drop, slice_index, slice_range}
-use Rattle.std.proofs.Math.Option
+use Rattle.std.specs.Prelude.{◌≡◌, ℕ, suc, ◌+◌, ◌-◌, ◌*◌, ◌<◌, ◌≤◌, ◌⊎◌, Option, None, Some, List, [], ◌∷◌, length, drop, slice_index, slice_range}
+use Rattle.std.proofs.Math.Option as MathOption
 use Rattle.std.proofs.Math.Option.{none, some}
 use Rattle.format.specs.Limits.{max_line_digits}
 use Rattle.format.specs.Lists.{Every}
 use Rattle.sheet.specs.ForContracts.Bytes.{Bytes}
 use Rattle.scanning.specs.declared.text.Span.{Span}
-use Rattle.scanning.specs.declared.text.LineEnd.{LineEnd}
-use Rattle.scanning.specs.declared.text.LineEnd.TheVariants.{At, Broken}
 use Rattle.sheet.specs.Text.{base, TextLine, ended, lines_of, digit, frame_of}
 
 -- The value of a digit, the base for any other character.
 unfoldable pub digit_number : ℕ → ℕ
 unfolding digit
-digit_number c = Option.get_or (digit c) base
+digit_number c = MathOption.get_or (digit c) base
 
 abbrev pub Digits : List ℕ → Type 0
 Digits = Every (λ c. digit_number c < base)
@@ -72,11 +70,11 @@ pub record NoFrame (text : List ℕ) (at : ℕ) : Type 0 where
   pub is_first : lines_of (drop at text) ≡ line ∷ more
   pub no_frame : frame_of line ≡ none
 
-abbrev pub LineRead : List ℕ → ℕ → LineEnd → Type 0
-LineRead text at (At end) = LineTo text at end
-LineRead text at Broken = NoFrame text at
+abbrev pub LineRead : List ℕ → ℕ → Option ℕ → Type 0
+LineRead text at (Some end) = LineTo text at end
+LineRead text at None = NoFrame text at
 
 -- A count of digits from `at` to `end`: even and not zero, or not so.
-abbrev pub CountRead : (at end : ℕ) → LineEnd → Type 0
-CountRead at end (At e) = (e ≡ end) × (n : ℕ) × (end ≡ at + 2 * suc n)
-CountRead at end Broken = (end ≡ at) ⊎ ((n : ℕ) × (end ≡ at + suc (2 * n)))
+abbrev pub CountRead : (at end : ℕ) → Option ℕ → Type 0
+CountRead at end (Some e) = (e ≡ end) × (n : ℕ) × (end ≡ at + 2 * suc n)
+CountRead at end None = (end ≡ at) ⊎ ((n : ℕ) × (end ≡ at + suc (2 * n)))

@@ -1,18 +1,16 @@
 -- What the contracts of the code that reads terms cite.
-use Rattle.std.specs.Prelude.{◌≡◌, ℕ, zero, suc, ◌+◌, ◌*◌, ◌≤◌, max, Bool, false, List, [], ◌∷◌}
-use Rattle.format.specs.Limits.{max_symbols, variable_count, max_side_nodes, max_task_nodes, max_byte}
+use Rattle.std.specs.Prelude.{◌≡◌, ℕ, zero, suc, ◌+◌, ◌*◌, ◌≤◌, max, Bool, List, [], ◌∷◌, Ok, Err}
+use Rattle.std.specs.Prelude.{Result as Outcome}
+use Rattle.format.specs.Limits.{max_symbols, variable_count, max_task_nodes, max_byte}
 use Rattle.format.specs.declared.kind.FrameKind.{FrameKind}
 use Rattle.format.specs.declared.kind.FrameKind.TheVariants.{Symbols as symbols_kind, Equation as equation_kind, Run as run_kind, Judgement as judgement_kind, Comparison as comparison_kind, Unknown as unknown_kind}
+use Rattle.format.specs.declared.refusal.Refusal.{Refusal}
 use Rattle.format.specs.declared.refusal.Refusal.TheVariants.{FrameOrder}
 use Rattle.format.specs.Refusal.{Result, refuse, give}
 use Rattle.format.specs.declared.byte.Class.{Class}
 use Rattle.format.specs.declared.byte.Class.TheVariants.{Symbol as symbol, Variable as variable, Foreign as foreign}
 use Rattle.format.specs.Byte.{class_of}
 use Rattle.scanning.specs.declared.known.Known.{Known}
-use Rattle.scanning.specs.declared.scan.OtherNode.{OtherNode}
-use Rattle.scanning.specs.declared.scan.OtherNode.TheVariants.{Variable, Refused as Node-Refused}
-use Rattle.scanning.specs.declared.scan.ReadStatus.{ReadStatus}
-use Rattle.scanning.specs.declared.scan.ReadStatus.TheVariants.{Done, Refused}
 use Rattle.scanning.specs.declared.scan.Scanned.{Scanned}
 use Rattle.scanning.specs.declared.scan.Wanted.{Wanted}
 use Rattle.scanning.specs.declared.text.Span.{Span}
@@ -48,9 +46,9 @@ widest [] = 0
 widest (b ∷ bs) = max (node_width (class_of b)) (widest bs)
 
 -- A node that is no declared symbol is passed, or refused.
-abbrev pub OtherRead : (arities : List ℕ) → (is_ground : Bool) → (b need : ℕ) → OtherNode → Type 0
-OtherRead arities is_ground b need (Variable w) = (after_node arities is_ground (class_of b) need ≡ give need) × (node_width (class_of b) ≡ w)
-OtherRead arities is_ground b need (Node-Refused x) = after_node arities is_ground (class_of b) need ≡ refuse x
+abbrev pub OtherRead : (arities : List ℕ) → (is_ground : Bool) → (b need : ℕ) → Outcome ℕ Refusal → Type 0
+OtherRead arities is_ground b need (Ok w) = (after_node arities is_ground (class_of b) need ≡ give need) × (node_width (class_of b) ≡ w)
+OtherRead arities is_ground b need (Err x) = after_node arities is_ground (class_of b) need ≡ refuse x
 
 -- The digits are bytes, and the numbers are as small as those of a frame.
 pub record ScanReady (text : List ℕ) (d : Span) (symbols : ℕ) (w : Wanted) : Type 0 where
@@ -60,35 +58,37 @@ pub record ScanReady (text : List ℕ) (d : Span) (symbols : ℕ) (w : Wanted) :
   pub few_nodes : w.nodes ≤ max_task_nodes
   pub low_width : w.width ≤ variable_count
 
-abbrev pub status_result : List ℕ → ReadStatus → Result (List ℕ)
-status_result rest Done = give rest
-status_result rest (Refused r) = refuse r
-
--- What the scan gives, where it stands, and the highest variable so far.
-pub record ScanRead (text : List ℕ) (d : Span) (arities : List ℕ) (w : Wanted) (r : Scanned) : Type 0 where
-  pub given : scan arities w.is_ground (span_bytes text d) w.terms w.nodes ≡ status_result (bytes_between text r.at d.end) r.status
+-- Where the scan stands, and the highest variable so far.
+pub record ScanTo (text : List ℕ) (d : Span) (arities : List ℕ) (w : Wanted) (r : Scanned) : Type 0 where
+  pub given : scan arities w.is_ground (span_bytes text d) w.terms w.nodes ≡ give (bytes_between text r.at d.end)
   pub behind : BodyReady text r.at d.end
   pub widths : max w.width (widest (span_bytes text d)) ≡ max r.width (widest (bytes_between text r.at d.end))
   pub low_width : r.width ≤ variable_count
+
+-- What the scan gives.
+abbrev pub ScanRead : List ℕ → Span → List ℕ → Wanted → Outcome Scanned Refusal → Type 0
+ScanRead text d arities w (Ok r) = ScanTo text d arities w r
+ScanRead text d arities w (Err x) = scan arities w.is_ground (span_bytes text d) w.terms w.nodes ≡ refuse x
 
 -- The digits are the bytes of a frame's body.
 pub record FrameReady (text : List ℕ) (d : Span) (k : Known) : Type 0 where
   pub body : SpanReady text d
   pub few_symbols : k.symbols ≤ max_symbols
 
--- The status is that of the definition's result.
-abbrev pub Matches : {A : Type 0} → Result A → ReadStatus → Type 0
-Matches {A} r Done = (a : A) × (r ≡ give a)
-Matches r (Refused x) = r ≡ refuse x
+-- The reading gives or refuses as the definition does.
+abbrev pub Matches : {A : Type 0} → Result A → Outcome (Unit {0}) Refusal → Type 0
+Matches {A} r (Ok u) = (a : A) × (r ≡ give a)
+Matches r (Err x) = r ≡ refuse x
 
--- A side and nothing behind it, and the highest variable so far.
-abbrev pub LastSide : List ℕ → List ℕ → (width highest : ℕ) → ReadStatus → Type 0
-LastSide arities bs width highest Done = (scan arities false bs 1 max_side_nodes ≡ give []) × (max width (widest bs) ≡ highest)
-LastSide arities bs width highest (Refused x) = (ts : Terms) → all_read ts (scan arities false bs 1 max_side_nodes) ≡ refuse x
+-- What is wanted and nothing behind it, and the highest variable so far.
+abbrev pub WholeScan : List ℕ → List ℕ → Wanted → Outcome ℕ Refusal → Type 0
+WholeScan arities bs w (Ok highest) = (scan arities w.is_ground bs w.terms w.nodes ≡ give []) × (max w.width (widest bs) ≡ highest)
+WholeScan arities bs w (Err x) = (ts : Terms) → all_read ts (scan arities w.is_ground bs w.terms w.nodes) ≡ refuse x
 
-abbrev pub EquationGiven : List ℕ → List ℕ → (width : ℕ) → ReadStatus → Type 0
-EquationGiven arities bs width Done = (e : Equation) × (equation_body arities bs ≡ give e) × (equation_width e ≡ width)
-EquationGiven arities bs width (Refused x) = equation_body arities bs ≡ refuse x
+-- An equation, and how many variables there are up to its highest.
+abbrev pub EquationGiven : List ℕ → List ℕ → Outcome ℕ Refusal → Type 0
+EquationGiven arities bs (Ok width) = (e : Equation) × (equation_body arities bs ≡ give e) × (equation_width e ≡ width)
+EquationGiven arities bs (Err x) = equation_body arities bs ≡ refuse x
 
 -- A task's body by its kind.
 unfoldable pub task_result : Sheet → FrameKind → List ℕ → Result Task

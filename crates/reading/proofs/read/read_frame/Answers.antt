@@ -20,7 +20,7 @@ first_frame-requires c = line_behind _ _ c.requires.0 c.requires.1
 pub returns-then-known-eq0 : goal.returns-then-known-eq0
 returns-then-known-eq0 c =
     read_first _ _ c.requires.0 c.requires.1 _ (c.kind_of-kind.ensures ∙ ap kind_of c.byte_at.ensures) c.if-known-eq0.true
-    c.first_frame.result.known c.first_frame.result.status c.first_frame.ensures
+    c.first_frame.result c.first_frame.ensures
 
 pub equation_frame-requires : goal.equation_frame-requires
 equation_frame-requires c =
@@ -36,9 +36,9 @@ pub returns-in-Equation : goal.returns-in-Equation
 returns-in-Equation c =
     read_later _ _ c.requires.0 c.requires.1 _ (c.kind_of-kind.ensures ∙ ap kind_of c.byte_at.ensures) c.if-known-eq0.false
     c.in-Equation.is
-    c.equation_frame.result.known c.equation_frame.result.status c.equation_frame.ensures
+    c.equation_frame.result c.equation_frame.ensures
 
 pub returns-in_default : goal.returns-in_default
 returns-in_default c =
     read_later _ _ c.requires.0 c.requires.1 _ (c.kind_of-kind.ensures ∙ ap kind_of c.byte_at.ensures) c.if-known-eq0.false refl
-    c.task_frame.result.known c.task_frame.result.status c.task_frame.ensures
+    c.task_frame.result c.task_frame.ensures

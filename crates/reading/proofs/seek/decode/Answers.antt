@@ -1,31 +1,27 @@
 -- Goals of `decode`.
+use Prim.Native.Nat.{◌+◌}
+use mathlib.Core.Path.{subst}
+use lib.ListN.{set}
 use native.Mathlib.Omega.{arith}
-use Rattle.reading.proofs.Decode.{decoding_start, decoding_length, decoding_done, decoding_inside, decoding_byte, decoding_place, decoding_next}
+use Rattle.reading.proofs.Decode.{Decoding, decoding_start, decoding_done, decoding_inside, decoding_byte, decoding_place, decoding_next}
 use Rattle.reading.proofs.seek.decode.Goals as goal
 
-pub loop-at-init : goal.loop-at-init
-loop-at-init c = decoding_start _ _ _ _ c.requires
+pub loop-n-init : goal.loop-n-init
+loop-n-init c = subst (λ at. Decoding c.args.s.now c.args.digits.from c.args.digits.end c.args.out.now c.args.out.now at 0) (omega arith) (decoding_start _ _ _ _ c.requires)
 
 pub byte_at-requires : goal.byte_at-requires
-byte_at-requires c = omega (arith, decoding_inside _ _ _ _ _ _ _ c.loop-at.invariant c.loop-at-test.true)
+byte_at-requires c = omega (arith, decoding_inside _ _ _ _ _ _ _ c.loop-n.invariant (omega (arith, c.loop-n.invariant.ready.even)))
 
 pub overflow_cast-out : goal.overflow_cast-out
-overflow_cast-out c = omega (arith, c.byte_at.ensures, decoding_byte _ _ _ _ _ _ _ c.loop-at.invariant c.loop-at-test.true)
+overflow_cast-out c = omega (arith, c.byte_at.ensures, decoding_byte _ _ _ _ _ _ _ c.loop-n.invariant (omega (arith, c.loop-n.invariant.ready.even)))
 
 pub bounds-out-n : goal.bounds-out-n
-bounds-out-n c = decoding_place _ _ _ _ _ _ _ c.loop-at.invariant c.loop-at-test.true
+bounds-out-n c = decoding_place _ _ _ _ _ _ _ c.loop-n.invariant (omega (arith, c.loop-n.invariant.ready.even))
 
-pub overflow_add-at : goal.overflow_add-at
-overflow_add-at c = omega (arith, decoding_inside _ _ _ _ _ _ _ c.loop-at.invariant c.loop-at-test.true)
-
-pub overflow_add-n : goal.overflow_add-n
-overflow_add-n c = omega (arith, decoding_place _ _ _ _ _ _ _ c.loop-at.invariant c.loop-at-test.true, decoding_length _ _ _ _ _ _ _ c.loop-at.invariant)
-
-pub loop-at-preserved : goal.loop-at-preserved
-loop-at-preserved c = decoding_next _ _ _ _ _ _ _ c.loop-at.invariant c.loop-at-test.true c.byte_at.ensures
-
-pub shape_of-out : goal.shape_of-out
-shape_of-out c = decoding_length _ _ _ _ _ _ _ c.loop-at.invariant
+pub loop-n-preserved : goal.loop-n-preserved
+loop-n-preserved c = subst (λ at. Decoding c.args.s.now c.args.digits.from c.args.digits.end c.args.out.now (set c.loop-n.out c.loop-n.n c.byte_at.result) at (c.loop-n.n + 1)) (omega arith) (decoding_next _ _ _ _ _ _ _ c.loop-n.invariant (omega (arith, c.loop-n.invariant.ready.even)) c.byte_at.ensures)
 
 pub returns : goal.returns
-returns c = decoding_done _ _ _ _ _ _ _ c.loop-at.invariant c.loop-at-test.false
+returns c = λ bs spans.
+    let (counted, written) = decoding_done _ _ _ _ _ _ _ c.loop-n.invariant (omega (arith, c.loop-n.invariant.ready.even)) bs spans in
+    (omega (arith, counted), written)

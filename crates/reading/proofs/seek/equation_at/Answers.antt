@@ -10,8 +10,8 @@ overflow_add-e c = omega (arith, equation_low _ _ _ c.requires.0 c.requires.1)
 pub frame_at-frame-requires : goal.frame_at-frame-requires
 frame_at-frame-requires c = equation_wanted _ _ _ c.requires.0 c.requires.1
 
-pub overflow_add-frame : goal.overflow_add-frame
-overflow_add-frame c =
+pub overflow_add-sides : goal.overflow_add-sides
+overflow_add-sides c =
     omega (arith, equation_inside _ _ _ c.requires.0 c.requires.1 _ _ c.frame_at-frame.ensures)
 
 pub decode-requires : goal.decode-requires

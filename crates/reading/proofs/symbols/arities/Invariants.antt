@@ -1,10 +1,6 @@
 -- `reading::symbols::arities` reads the arities. The loop's invariant, `AritiesFilled`: those passed are known and low.
-use Prim.Native.Nat.{◌-◌}
 use Rattle.reading.proofs.Arities.{AritiesFilled}
 use Rattle.reading.proofs.symbols.arities.Given as goal
 
 abbrev pub invariant-loop-i : goal.invariant-loop-i
 invariant-loop-i l = AritiesFilled l.s l.from l.n l.known l.i
-
-abbrev pub decreases-loop-i : goal.decreases-loop-i
-decreases-loop-i l = l.n - l.i

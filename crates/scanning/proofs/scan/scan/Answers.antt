@@ -1,54 +1,44 @@
 -- Goals of `scan`.
 use Rattle.std.proofs.Common.{arith}
+use Rattle.std.proofs.lemmas.Result.{err_from_is_err_and}
 use Rattle.scanning.proofs.Scanning.{scanning_start, stop_done, stop_early, stop_full, stop_other, next_small, next_inside, scanning_variable, scanning_declared}
 use Rattle.scanning.proofs.scan.scan.Goals as goal
+use Rattle.scanning.proofs.scan.scan.Goals.{then-at-span-via-then-at-span, then-at-span-via-else-at-span+then-room-eq0}
 
 pub loop-need-init : goal.loop-need-init
 loop-need-init c = scanning_start _ _ _ _ c.requires
 
-pub returns-then-at-end : goal.returns-then-at-end
-returns-then-at-end c =
-    stop_early _ _ _ _ c.loop-need.at c.loop-need.need c.loop-need.room c.loop-need.widest c.loop-need.invariant c.if-at-end.true c.loop-need-test.true
-
-pub returns-then-room-eq0 : goal.returns-then-room-eq0
-returns-then-room-eq0 c =
-    stop_full _ _ _ _ c.loop-need.at c.loop-need.need c.loop-need.room c.loop-need.widest c.loop-need.invariant c.if-at-end.false c.loop-need-test.true
-    c.if-room-eq0.true
+pub returns-then-at-span : goal.returns-then-at-span
+returns-then-at-span c = elim c.then-at-span.branch [
+  | then-at-span-via-then-at-span w ↦ stop_early _ _ _ _ c.loop-need.at c.loop-need.need c.loop-need.room c.loop-need.width c.loop-need.invariant w.if-at-span.true c.loop-need-test.true
+  | then-at-span-via-else-at-span+then-room-eq0 w ↦ stop_full _ _ _ _ c.loop-need.at c.loop-need.need c.loop-need.room c.loop-need.width c.loop-need.invariant w.if-at-span.false c.loop-need-test.true w.if-room-eq0.true
+]
 
 pub byte_at-b-requires : goal.byte_at-b-requires
-byte_at-b-requires c =
-    omega (arith, next_inside _ _ _ _ c.loop-need.at c.loop-need.need c.loop-need.room c.loop-need.widest c.loop-need.invariant c.if-at-end.false)
+byte_at-b-requires c = omega (arith, next_inside _ _ _ _ c.loop-need.at c.loop-need.need c.loop-need.room c.loop-need.width c.loop-need.invariant c.if-at-span.false)
 
 pub overflow_add-at : goal.overflow_add-at
-overflow_add-at c =
-    omega (arith, next_inside _ _ _ _ c.loop-need.at c.loop-need.need c.loop-need.room c.loop-need.widest c.loop-need.invariant c.if-at-end.false)
+overflow_add-at c = omega (arith, next_inside _ _ _ _ c.loop-need.at c.loop-need.need c.loop-need.room c.loop-need.width c.loop-need.invariant c.if-at-span.false)
 
-pub loop-need-preserved-then-b-symbols : goal.loop-need-preserved-then-b-symbols
-loop-need-preserved-then-b-symbols c =
-    scanning_declared _ _ _ _ _ c.loop-need.at c.loop-need.need c.loop-need.room c.loop-need.widest c.loop-need.invariant c.if-at-end.false c.loop-need-test.true
-    c.if-room-eq0.false
-    c.requires.few_symbols c.byte_at-b.ensures c.if-b-symbols.true c.wide.ensures.value c.wide.ensures.upper_bound
+pub loop-need-preserved-then-b-known : goal.loop-need-preserved-then-b-known
+loop-need-preserved-then-b-known c =
+    scanning_declared _ _ _ _ _ c.loop-need.at c.loop-need.need c.loop-need.room c.loop-need.width c.loop-need.invariant c.if-at-span.false c.loop-need-test.true c.if-room-eq0.false
+    c.requires.few_symbols c.byte_at-b.ensures c.if-b-known.true c.from.ensures (omega arith)
 
 pub overflow_cast-b : goal.overflow_cast-b
-overflow_cast-b c =
-    omega (arith, c.byte_at-b.ensures, next_small _ _ _ _ c.loop-need.at c.loop-need.need c.loop-need.room c.loop-need.widest c.loop-need.invariant c.if-at-end.false)
+overflow_cast-b c = omega (arith, c.byte_at-b.ensures, next_small _ _ _ _ c.loop-need.at c.loop-need.need c.loop-need.room c.loop-need.width c.loop-need.invariant c.if-at-span.false)
 
-pub returns-in-Refused : goal.returns-in-Refused
-returns-in-Refused c =
-    stop_other _ _ _ _ _ c.loop-need.at c.loop-need.need c.loop-need.room c.loop-need.widest c.loop-need.invariant c.if-at-end.false c.loop-need-test.true
-    c.if-room-eq0.false
-    c.byte_at-b.ensures c.if-b-symbols.false c.other_node.result c.other_node.ensures c.in-Refused.is
-
-pub overflow_add-at-in-Variable : goal.overflow_add-at-in-Variable
-overflow_add-at-in-Variable c =
-    omega (arith, next_inside _ _ _ _ c.loop-need.at c.loop-need.need c.loop-need.room c.loop-need.widest c.loop-need.invariant c.if-at-end.false)
+pub returns-in_err-other_node : goal.returns-in_err-other_node
+returns-in_err-other_node c =
+    let p = err_from_is_err_and c.from_residual.result c.from_residual.ensures.1 in
+    rw (p.1, p.2)
+    (stop_other _ _ _ _ _ c.loop-need.at c.loop-need.need c.loop-need.room c.loop-need.width c.loop-need.invariant c.if-at-span.false c.loop-need-test.true c.if-room-eq0.false
+    c.byte_at-b.ensures c.if-b-known.false c.in_err-other_node.ensures)
 
 pub loop-need-preserved : goal.loop-need-preserved
 loop-need-preserved c =
-    scanning_variable _ _ _ _ _ c.loop-need.at c.loop-need.need c.loop-need.room c.loop-need.widest c.loop-need.invariant c.if-at-end.false c.loop-need-test.true
-    c.if-room-eq0.false
-    c.byte_at-b.ensures c.if-b-symbols.false c.other_node.result c.other_node.ensures c.in-Variable.is c.greater-widest.ensures
+    scanning_variable _ _ _ _ _ c.loop-need.at c.loop-need.need c.loop-need.room c.loop-need.width c.loop-need.invariant c.if-at-span.false c.loop-need-test.true c.if-room-eq0.false
+    c.byte_at-b.ensures c.if-b-known.false c.in_ok-other_node.ensures c.max-width.ensures
 
 pub returns : goal.returns
-returns c =
-    stop_done _ _ _ _ c.loop-need.at c.loop-need.need c.loop-need.room c.loop-need.widest c.loop-need.invariant c.loop-need-test.false
+returns c = stop_done _ _ _ _ c.loop-need.at c.loop-need.need c.loop-need.room c.loop-need.width c.loop-need.invariant c.loop-need-test.false

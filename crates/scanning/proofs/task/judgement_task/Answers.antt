@@ -2,6 +2,7 @@
 use Rattle.std.proofs.Common.{arith}
 use Rattle.scanning.proofs.Tasks.{behind_two, judgement_short, equation_absent, direction_absent, width_few, judgement_read}
 use Rattle.scanning.proofs.task.judgement_task.Goals as goal
+use Rattle.scanning.proofs.task.judgement_task.Goals.{then-known-e-via-then-known-e, then-known-e-via-else-known-e+then-byte_at-gt1}
 
 pub overflow_sub-span : goal.overflow_sub-span
 overflow_sub-span c = omega (arith, c.requires.0.body.even)
@@ -13,19 +14,18 @@ pub byte_at-e-requires : goal.byte_at-e-requires
 byte_at-e-requires c = omega (arith, c.requires.0.body.inside, c.if-span-from-lt4.false)
 
 pub returns-then-known-e : goal.returns-then-known-e
-returns-then-known-e c = λ sheet knows.
-    equation_absent _ sheet knows _ _ _ c.requires.0.body c.if-span-from-lt4.false c.byte_at-e.ensures c.if-known-e.true
+returns-then-known-e c = λ sheet knows. elim c.then-known-e.branch [
+  | then-known-e-via-then-known-e w ↦ equation_absent _ sheet knows _ _ _ c.requires.0.body c.if-span-from-lt4.false c.byte_at-e.ensures w.if-known-e.true
+  | then-known-e-via-else-known-e+then-byte_at-gt1 w ↦
+      direction_absent _ sheet knows _ _ _ c.requires.0.body c.if-span-from-lt4.false _ c.byte_at-e.ensures w.if-known-e.false
+      w.byte_at.ensures w.if-byte_at-gt1.true
+]
 
 pub overflow_add-from : goal.overflow_add-from
 overflow_add-from c = omega (arith, c.requires.0.body.inside, c.if-span-from-lt4.false)
 
 pub byte_at-requires : goal.byte_at-requires
 byte_at-requires c = omega (arith, c.requires.0.body.inside, c.if-span-from-lt4.false)
-
-pub returns-then-byte_at-gt1 : goal.returns-then-byte_at-gt1
-returns-then-byte_at-gt1 c = λ sheet knows.
-    direction_absent _ sheet knows _ _ _ c.requires.0.body c.if-span-from-lt4.false _ c.byte_at-e.ensures c.if-known-e.false
-    c.byte_at.ensures c.if-byte_at-gt1.true
 
 pub overflow_add-values : goal.overflow_add-values
 overflow_add-values c = omega (arith, c.requires.0.body.inside, c.if-span-from-lt4.false)
@@ -39,11 +39,11 @@ pub ground_terms-requires : goal.ground_terms-requires
 ground_terms-requires c =
     let (sheet, knows) = c.requires.1 in (
       record { body = behind_two _ sheet knows _ _ _ c.requires.0.body c.if-span-from-lt4.false; few_symbols = c.requires.0.few_symbols },
-      omega (arith, c.wide.ensures.value, width_few _ sheet knows _ _ _ c.requires.0.body c.if-span-from-lt4.false _ c.byte_at-e.ensures c.if-known-e.false),
+      omega (arith, c.from.ensures, width_few _ sheet knows _ _ _ c.requires.0.body c.if-span-from-lt4.false _ c.byte_at-e.ensures c.if-known-e.false),
     )
 
 pub returns : goal.returns
 returns c = λ sheet knows.
     judgement_read _ sheet knows _ _ _ c.requires.0.body c.if-span-from-lt4.false _ c.byte_at-e.ensures c.if-known-e.false
     c.byte_at.ensures c.if-byte_at-gt1.false
-    c.wide.ensures.value c.ground_terms.result c.ground_terms.ensures
+    c.from.ensures c.ground_terms.result c.ground_terms.ensures

@@ -1,10 +1,19 @@
--- `scanning::text::is_digit` tells the digits, by the differences to the first of each range.
-use Rattle.scanning.proofs.Digits.{decimal_told, letter_told}
+-- `scanning::text::is_digit` tells the digits, by the ranges of the definition.
+use Rattle.std.proofs.Common.{arith}
+use Rattle.scanning.proofs.Digits.{digit_low, digit_between, digit_high, decimal_told, letter_told, other_told}
 use Rattle.scanning.proofs.text.is_digit.Goals as goal
 
-pub returns-then-wrapping_sub_u8-lt10 : goal.returns-then-wrapping_sub_u8-lt10
-returns-then-wrapping_sub_u8-lt10 c = decimal_told _ _ c.wrapping_sub_u8.ensures.value c.if-wrapping_sub_u8-lt10.true
+pub returns-in-48-to-57 : goal.returns-in-48-to-57
+returns-in-48-to-57 c = decimal_told _ (omega arith) (omega arith)
 
-pub returns : goal.returns
-returns c =
-    letter_told _ _ _ c.wrapping_sub_u8.type_inv c.wrapping_sub_u8-2.type_inv c.wrapping_sub_u8.ensures.value c.wrapping_sub_u8-2.ensures.value c.if-wrapping_sub_u8-lt10.false
+pub returns-in-48-to-57-2 : goal.returns-in-48-to-57-2
+returns-in-48-to-57-2 c = letter_told _ (omega arith) (omega arith)
+
+pub returns-in_default : goal.returns-in_default
+returns-in_default c = other_told _ (digit_low _ (omega arith))
+
+pub returns-in_default-2 : goal.returns-in_default-2
+returns-in_default-2 c = other_told _ (digit_between _ (omega arith) (omega arith))
+
+pub returns-in_default-3 : goal.returns-in_default-3
+returns-in_default-3 c = other_told _ (digit_high _ (omega arith))

@@ -3,15 +3,12 @@ use Rattle.std.proofs.Common.{arith}
 use Rattle.scanning.proofs.Digits.{digits_to_next, digits_to_ended, digits_to_other, digits_to_long, digits_to_unended, digit_no_end}
 use Rattle.scanning.proofs.text.line_end.Goals as goal
 
-pub loop-i-init : goal.loop-i-init
-loop-i-init c = c.blocks_end-i.ensures
-
 pub returns-then-c-eq-LF : goal.returns-then-c-eq-LF
 returns-then-c-eq-LF c =
     digits_to_ended _ _ _ c.loop-i.invariant c.loop-i-test.true c.if-c-eq-LF.true c.ended_at.result c.ended_at.ensures
 
-pub returns-then-digit_value-ge-BASE : goal.returns-then-digit_value-ge-BASE
-returns-then-digit_value-ge-BASE c =
+pub returns-else-c-eq-LF : goal.returns-else-c-eq-LF
+returns-else-c-eq-LF c =
     digits_to_other _ _ _ c.loop-i.invariant c.loop-i-test.true c.if-c-eq-LF.false
     (omega (arith, c.digit_value.ensures, c.if-digit_value-ge-BASE.true))
 

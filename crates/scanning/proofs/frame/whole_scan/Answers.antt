@@ -1,0 +1,16 @@
+-- `scanning::frame::whole_scan` reads what is wanted, and asks that nothing is behind it.
+use Rattle.std.proofs.lemmas.Result.{err_from_is_err_and}
+use Rattle.scanning.proofs.Body.{refused_read, done_whole, done_width, left_over}
+use Rattle.scanning.proofs.frame.whole_scan.Goals as goal
+
+pub returns-in_err-scanned : goal.returns-in_err-scanned
+returns-in_err-scanned c =
+    let p = err_from_is_err_and c.from_residual.result c.from_residual.ensures.1 in
+    rw (p.1, p.2) (refused_read _ _ _ c.args.wanted c.in_err-scanned.ensures)
+
+pub returns-then-scanned-span : goal.returns-then-scanned-span
+returns-then-scanned-span c =
+    (done_whole _ _ _ _ _ c.in_ok-scanned.ensures c.if-scanned-span.true, done_width _ _ _ _ _ c.in_ok-scanned.ensures c.if-scanned-span.true)
+
+pub returns-else-scanned-span : goal.returns-else-scanned-span
+returns-else-scanned-span c = left_over _ _ _ _ _ c.in_ok-scanned.ensures c.if-scanned-span.false
