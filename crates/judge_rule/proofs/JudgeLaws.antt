@@ -23,7 +23,6 @@ use Rattle.reducing.specs.Walks.{equation_line}
 use Rattle.kept_lines.specs.declared.trimmed.Kept.{Kept}
 use Rattle.kept_lines.specs.declared.trimmed.Kept.TheVariants.{Full, End}
 use Rattle.kept_lines.specs.ForContracts.Trimmed.{trimmed_lines, RecordsAre, HasRecords, KeptAs}
-use Rattle.judge_rule.specs.declared.judge.Judged.TheVariants.{Refused as Unsolved, End as Ended}
 use Rattle.rules.specs.ForContracts.Rows.{RowsAre, RuleIs, HasRows}
 use Rattle.judge_rule.specs.ForContracts.Judgement.{JudgedAs}
 use Rattle.reducing.specs.Theory.Walks.{SolvedBefore, refused_first, solved_all, none_refused}
@@ -31,6 +30,7 @@ use Rattle.reducing.specs.Theory.Rules.{rule_of, rule_below}
 use Rattle.rules.specs.Theory.Rows.{rule_row, rule_there}
 use Rattle.rules.specs.Theory.Kept.{leaves_refused, records_there}
 use Rattle.rules.specs.Theory.Front.{KeptTo, front_fits, front_kept, walk_solves}
+use Rattle.std.specs.Prelude.{Ok, Err}
 
 -- From rule to rule.
 pub record JudgedSoFar (es : List Equation) (judged : ℕ) (table : List ℕ) (end rule : ℕ) : Type 0 where
@@ -55,7 +55,7 @@ judging_start equations lengths count judged table scratch = record {
 }
 
 module _ {equations lengths : List ℕ} {count judged : ℕ} {table₀ scratch₀ table scratch : List ℕ} {end rule : ℕ} (k : Judging equations lengths count judged table₀ scratch₀ table scratch end rule) where
-  pub judging_done : count + count ≤ rule → (arities : List ℕ) (es : List Equation) → RowsAre equations lengths arities es → count ≡ length es → JudgedAs es judged table (Ended end)
+  pub judging_done : count + count ≤ rule → (arities : List ℕ) (es : List Equation) → RowsAre equations lengths arities es → count ≡ length es → JudgedAs es judged table (Ok end)
   judging_done h arities es rows c =
       let s = k.so_far arities es rows c in (
         none_refused 0 es (solved_all es (λ j q f x l. s.solve_below j q f x (omega arith))),
@@ -66,7 +66,7 @@ module _ {equations lengths : List ℕ} {count judged : ℕ} {table₀ scratch�
   module _ (has : HasRows equations lengths count) (there : rule < count + count) {after : List ℕ} {told : Reported}
       (leaves : (arities : List ℕ) (i : ℕ) (e : Equation) (d : Direction) → RuleIs equations lengths arities rule i e d → Leaves (solve e d) after told) where
     pub judging_refused : {why : Refusal} → told.ending ≡ Refused why → (arities : List ℕ) (es : List Equation) → RowsAre equations lengths arities es → count ≡ length es
-        → JudgedAs es judged table (Unsolved why (rule / 2))
+        → JudgedAs es judged table (Err (record { why = why; equation = rule / 2 }))
     judging_refused {why} x arities es rows c =
         let r = rule_of es rule (omega (arith, c)) in
         let is : RuleIs equations lengths arities rule r.number r.equation r.direction = record { row = rows.row r.number r.equation r.numbered; number = r.is } in

@@ -11,13 +11,12 @@ ghost use Rattle.reading.specs.ForContracts.Loading.{Loaded};
 ghost use Rattle.rules.specs.ForContracts.Rows.{RowsAre, HasRows};
 ghost use Rattle.judge_rule.specs.ForContracts.Judgement.{ValuesAt, HasLoaded, JudgeIs, HasJudge, JudgedAs};
 
-use format::byte::wide;
 use format::copy::copy_front;
 use format::limits::Limits;
-use format::refusal::Refusal;
 use kept_lines::holding::first_holding;
 use kept_lines::trimmed::{Kept, KeptLines, keep_lines};
 use rules::keep::walk_rule;
+use rules::walks::RefusedWalk;
 use solve_equation::positions::WalkEnd;
 
 // The node of each value, where the values stand from the subject's first node to `end`.
@@ -29,8 +28,8 @@ fn place_values(sizes: &[u8], end: usize, values: &mut [u8])
     let mut v = 0;
     while node < end {
         values[v] = node as u8;
-        node = node + wide(sizes[node]);
-        v = v + 1;
+        node += usize::from(sizes[node]);
+        v += 1;
     }
 }
 
@@ -58,14 +57,7 @@ pub fn judge_lines(
     first_holding(table, lines, nodes, sizes, &values, &mut ready, cells)
 }
 
-// The refusal of a walk and its equation; or every walk solves, and where the lines of the judged rule end.
-#[derive(Clone, Copy)]
-pub enum Judged {
-    Refused(Refusal, usize),
-    End(usize),
-}
-
-// Walks every rule of the `count` equations in order, and keeps the lines of the one that is judged.
+// Walks every rule of the `count` equations in order, and keeps the lines of the one that is judged: where they end.
 pub fn walk_judged(
     equations: &[u8],
     lengths: &[u8],
@@ -73,7 +65,7 @@ pub fn walk_judged(
     judged: usize,
     table: &mut [u8],
     scratch: &mut [u8],
-) -> Judged
+) -> Result<usize, RefusedWalk>
     requires { HasRows equations.now lengths.now count × (table_bytes ≤ length table.old) × (memory_bytes ≤ length scratch.old) }
     ensures by_index { (arities : List ℕ) (es : List Equation) → RowsAre equations.now lengths.now arities es → count ≡ length es → JudgedAs es judged table.new result }
     ensures table_unchanged { drop table_bytes table.new ≡ drop table_bytes table.old }
@@ -81,12 +73,12 @@ pub fn walk_judged(
 {
     let rules = count + count;
     let mut end = 0;
-    let mut rule = 0;
-    while rule < rules {
+    for rule in 0..rules {
         let walked = walk_rule(equations, lengths, rule, scratch);
         let ending = walked.ending;
         if let WalkEnd::Refused(why) = ending {
-            return Judged::Refused(why, rule / 2);
+            let equation = rule / 2;
+            return Err(RefusedWalk { why, equation });
         }
         if rule == judged {
             let kept = keep_lines(scratch, walked.lines, table, 0);
@@ -95,7 +87,6 @@ pub fn walk_judged(
                 end = last;
             }
         }
-        rule = rule + 1;
     }
-    Judged::End(end)
+    Ok(end)
 }

@@ -23,11 +23,10 @@ use Rattle.reducing.specs.Walks.{equation_line, first_refusal}
 use Rattle.reducing.specs.Theory.Walks.{SolvedBefore, refused_first, solved_all, none_refused}
 use Rattle.reducing.specs.Theory.Rules.{RuleOf, rule_low, rule_of, rule_parts}
 use Rattle.kept_lines.specs.ForContracts.Trimmed.{trimmed_lines}
-use Rattle.rules.specs.declared.keep.RuleKept.{RuleKept}
-use Rattle.rules.specs.declared.keep.RuleKept.TheVariants.{Refused, Full, End}
 use Rattle.rules.specs.ForContracts.Rows.{RowsAre, RuleIs, HasRows, bound_count}
-use Rattle.rules.specs.ForContracts.Walks.{RuleKeptAs, RuleAt, RulesAt}
+use Rattle.rules.specs.ForContracts.Walks.{RuleKeptAs, RuleAt, RulesAt, WalksAs}
 use Rattle.rules.specs.Theory.Rows.{rule_in, this_rule}
+use Rattle.std.specs.Prelude.{Option as Maybe, Some, None, Result, Ok, Err}
 
 -- 1. A part that is put into the table: what stands before it and behind it stays.
 module _ (at : ℕ) (part buffer : List ℕ) (room : at + length part ≤ length buffer) where
@@ -72,7 +71,7 @@ module _ (equations lengths : List ℕ) (count : ℕ) (table₀ scratch₀ : Lis
     pub so_far : (arities : List ℕ) (es : List Equation) → RowsAre equations lengths arities es → count ≡ length es → WalkedTo bounds table fits start rule es
 
   -- One rule is walked.
-  pub record Turn (bounds table scratch : List ℕ) (fits : Bool) (start rule : ℕ) (kept : RuleKept) (after_table after_scratch : List ℕ) : Type 0 where
+  pub record Turn (bounds table scratch : List ℕ) (fits : Bool) (start rule : ℕ) (kept : Result (Maybe ℕ) Refusal) (after_table after_scratch : List ℕ) : Type 0 where
     pub has : HasRows equations lengths count
     pub low : rule < count + count
     pub room : table_bytes ≤ length table₀
@@ -98,20 +97,20 @@ module _ {equations lengths : List ℕ} {count : ℕ} (has : HasRows equations l
   pub next_bound : rule + 1 < bound_count
   next_bound = omega (arith, has.counted, has.are.few)
 
-module _ {equations lengths : List ℕ} {count : ℕ} {table₀ scratch₀ bounds table scratch : List ℕ} {fits : Bool} {start rule : ℕ} {kept : RuleKept} {after_table after_scratch : List ℕ}
+module _ {equations lengths : List ℕ} {count : ℕ} {table₀ scratch₀ bounds table scratch : List ℕ} {fits : Bool} {start rule : ℕ} {kept : Result (Maybe ℕ) Refusal} {after_table after_scratch : List ℕ}
     (t : Turn equations lengths count table₀ scratch₀ bounds table scratch fits start rule kept after_table after_scratch) where
-  kept_as : {answer : RuleKept} → kept ≡ answer → {arities : List ℕ} {es : List Equation} → RowsAre equations lengths arities es → (i : ℕ) (e : Equation) (d : Direction)
+  kept_as : {answer : Result (Maybe ℕ) Refusal} → kept ≡ answer → {arities : List ℕ} {es : List Equation} → RowsAre equations lengths arities es → (i : ℕ) (e : Equation) (d : Direction)
       → entry es i ≡ some e → rule ≡ rule_number i d → RuleKeptAs e d start table after_table answer
   kept_as y {arities} r i e d x z = subst (RuleKeptAs e d start table after_table) y (t.answer arities i e d (rule_in r x z))
 
   abbrev this : RuleOf t.has.those rule
   this = this_rule t.has t.low
 
-  this_kept : {answer : RuleKept} → kept ≡ answer → RuleKeptAs this.equation this.direction start table after_table answer
+  this_kept : {answer : Result (Maybe ℕ) Refusal} → kept ≡ answer → RuleKeptAs this.equation this.direction start table after_table answer
   this_kept y = kept_as y t.has.are this.number this.equation this.direction this.numbered this.is
 
   -- A walk that is refused is the first.
-  pub walk_refused : {why : Refusal} → kept ≡ Refused why → (arities : List ℕ) (es : List Equation) → RowsAre equations lengths arities es → count ≡ length es
+  pub walk_refused : {why : Refusal} → kept ≡ Err why → (arities : List ℕ) (es : List Equation) → RowsAre equations lengths arities es → count ≡ length es
       → first_refusal 0 es ≡ some (record { refusal = why; line = equation_line (rule / 2) })
   walk_refused {why} y arities es r c =
       let o = rule_of es rule (omega (arith, t.low)) in
@@ -120,7 +119,7 @@ module _ {equations lengths : List ℕ} {count : ℕ} {table₀ scratch₀ bound
       (λ j f d x l. (t.walking.so_far arities es r c).solve j f d x (omega (arith, o.is)))
       ∙ ap (λ n. some (record { refusal = why; line = equation_line n })) half
 
-  pub refused_behind : {why : Refusal} → kept ≡ Refused why → drop table_bytes after_table ≡ drop table_bytes table₀
+  pub refused_behind : {why : Refusal} → kept ≡ Err why → drop table_bytes after_table ≡ drop table_bytes table₀
   refused_behind y = ap (drop table_bytes) (this_kept y).1 ∙ t.walking.table_behind
 
   one_more_solves : {arities : List ℕ} {es : List Equation} → RowsAre equations lengths arities es → count ≡ length es
@@ -130,7 +129,7 @@ module _ {equations lengths : List ℕ} {count : ℕ} {table₀ scratch₀ bound
     | no n ↦ s i e d x (omega arith)
   ]
 
-  walking_full : kept ≡ Full → Walking equations lengths count table₀ scratch₀ (set bounds (rule + 1) 0) after_table after_scratch false 0 (rule + 1)
+  walking_full : kept ≡ Ok None → Walking equations lengths count table₀ scratch₀ (set bounds (rule + 1) 0) after_table after_scratch false 0 (rule + 1)
   walking_full y = record {
     bounds_length = length-set bounds (rule + 1) 0 ∙ t.walking.bounds_length;
     table_length = t.same_table ∙ t.walking.table_length;
@@ -146,7 +145,7 @@ module _ {equations lengths : List ℕ} {count : ℕ} {table₀ scratch₀ bound
   }
 
   -- Once the lines did not fit, those of one rule are kept at the front, where the next rule's are put too.
-  module _ {end : ℕ} (y : kept ≡ End end) (next : ℕ) (ends : fits ≡ true → next ≡ end) (low_next : next ≤ table_bytes) where
+  module _ {end : ℕ} (y : kept ≡ Ok (Some end)) (next : ℕ) (ends : fits ≡ true → next ≡ end) (low_next : next ≤ table_bytes) where
     abbrev after_bounds : List ℕ
     after_bounds = set bounds (rule + 1) next
 
@@ -221,23 +220,30 @@ module _ {equations lengths : List ℕ} {count : ℕ} {table₀ scratch₀ bound
   abbrev Next : (fits : Bool) (start : ℕ) → Type 0
   Next on next = Walking equations lengths count table₀ scratch₀ (set bounds (rule + 1) next) after_table after_scratch on next (rule + 1)
 
-  pub turn_full : kept ≡ Full → {on : Bool} {next : ℕ} → on ≡ false → next ≡ 0 → Next on next
+  pub turn_full : kept ≡ Ok None → {on : Bool} {next : ℕ} → on ≡ false → next ≡ 0 → Next on next
   turn_full y {on} {next} a b = subst (λ o. Next o next) (sym a) (subst (Next false) (sym b) (walking_full y))
 
-  pub turn_kept : {end : ℕ} → kept ≡ End end → {on : Bool} {next : ℕ} → on ≡ fits → next ≡ end → Next on next
+  pub turn_kept : {end : ℕ} → kept ≡ Ok (Some end) → {on : Bool} {next : ℕ} → on ≡ fits → next ≡ end → Next on next
   turn_kept {end} y {on} {next} a b = subst (λ o. Next o next) (sym a) (walking_end y next (λ f. b) (let (s, ls, are, e, l, p) = this_kept y in omega arith))
 
-  pub turn_unkept : {end : ℕ} → kept ≡ End end → {on : Bool} {next : ℕ} → on ≡ fits → fits ≡ false → next ≡ start → Next on next
+  pub turn_unkept : {end : ℕ} → kept ≡ Ok (Some end) → {on : Bool} {next : ℕ} → on ≡ fits → fits ≡ false → next ≡ start → Next on next
   turn_unkept y {on} {next} a n b =
       subst (λ o. Next o next) (sym a) (walking_end y next (λ f. let z : ◌≡◌ {A = ℕ} 0 1 = cc in absurd (omega arith)) (omega (arith, t.walking.within)))
 
 -- All rules are walked.
 module _ {equations lengths : List ℕ} {count : ℕ} {table₀ scratch₀ bounds table scratch : List ℕ} {fits : Bool} {start rule : ℕ} (w : Walking equations lengths count table₀ scratch₀ bounds table scratch fits start rule)
     (all : count + count ≤ rule) (arities : List ℕ) (es : List Equation) (r : RowsAre equations lengths arities es) (c : count ≡ length es) where
-  pub all_solve : (first_refusal 0 es ≡ none) × EverySolves es
+  all_solve : (first_refusal 0 es ≡ none) × EverySolves es
   all_solve =
       let s : SolvedBefore es (2 * length es) = λ i e d x l. (w.so_far arities es r c).solve i e d x (omega arith) in
       let all = solved_all es s in (none_refused 0 es all, all)
 
-  pub all_kept : fits ≡ true → RulesAt bounds table es
+  all_kept : fits ≡ true → RulesAt bounds table es
   all_kept f i e d x = ((w.so_far arities es r c).kept f i e d x (omega (arith, rule_low i d (entry_length es i x)))).0
+
+  pub all_walked : WalksAs es bounds table (Ok fits)
+  all_walked = go fits refl
+    where
+      go : (b : Bool) → fits ≡ b → WalksAs es bounds table (Ok b)
+      go false h = all_solve
+      go true h = (all_solve.0, all_solve.1, all_kept h)

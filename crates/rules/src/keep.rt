@@ -8,7 +8,6 @@ ghost use Rattle.solve_equation.specs.ForContracts.Reports.{Leaves};
 ghost use Rattle.rules.specs.ForContracts.Rows.{RuleIs, HasRuleIn};
 ghost use Rattle.rules.specs.ForContracts.Walks.{RuleKeptAs};
 
-use format::byte::wide;
 use format::limits::Limits;
 use format::refusal::Refusal;
 use kept_lines::trimmed::{Kept, keep_lines};
@@ -22,8 +21,8 @@ pub fn walk_rule(equations: &[u8], lengths: &[u8], rule: usize, scratch: &mut [u
     ensures scratch_unchanged { drop memory_bytes scratch.new ≡ drop memory_bytes scratch.old }
 {
     let row = rule / 2 * Limits::POSITIONS;
-    let right = row + wide(lengths[row]);
-    let end = right + wide(lengths[right]);
+    let right = row + usize::from(lengths[row]);
+    let end = right + usize::from(lengths[right]);
     walk_direction(
         &equations[row..end],
         &lengths[row..end],
@@ -32,15 +31,7 @@ pub fn walk_rule(equations: &[u8], lengths: &[u8], rule: usize, scratch: &mut [u
     )
 }
 
-// The walk is refused; or there is no room for the lines; or where they end.
-#[derive(Clone, Copy)]
-pub enum RuleKept {
-    Refused(Refusal),
-    Full,
-    End(usize),
-}
-
-// Walks a rule, and keeps its lines from `start` on.
+// Walks a rule, and keeps its lines from `start` on: where they end, or none if there is no room for them.
 pub fn keep_rule(
     equations: &[u8],
     lengths: &[u8],
@@ -48,7 +39,7 @@ pub fn keep_rule(
     table: &mut [u8],
     start: usize,
     scratch: &mut [u8],
-) -> RuleKept
+) -> Result<Option<usize>, Refusal>
     requires has_rule_in { HasRuleIn equations.now lengths.now rule × (memory_bytes ≤ length scratch.old) }
     requires start_le_table_bytes { (start ≤ table_bytes) × (table_bytes ≤ length table.old) }
     ensures by_index { (arities : List ℕ) (i : ℕ) (e : Equation) (d : Direction) → RuleIs equations.now lengths.now arities rule i e d → RuleKeptAs e d start table.old table.new result }
@@ -57,11 +48,11 @@ pub fn keep_rule(
     let walked = walk_rule(equations, lengths, rule, scratch);
     let ending = walked.ending;
     match ending {
-        WalkEnd::Refused(why) => RuleKept::Refused(why),
+        WalkEnd::Refused(why) => Err(why),
         WalkEnd::Solved => {
             match keep_lines(scratch, walked.lines, table, start) {
-                Kept::Full => RuleKept::Full,
-                Kept::End(end) => RuleKept::End(end),
+                Kept::Full => Ok(None),
+                Kept::End(end) => Ok(Some(end)),
             }
         }
     }

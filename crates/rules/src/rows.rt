@@ -25,9 +25,7 @@ pub fn store_equations(sheet: &[u8], known: Known, equations: &mut [u8], lengths
     ensures { (s : Sheet) → read sheet.now ≡ accepted s → RowsAre equations.new lengths.new (known_arities known) s.equations }
 {
     let arities = known.arities;
-    let count = known.equations;
-    let mut e = 0;
-    while e < count {
+    for e in 0..known.equations {
         let row = e * Limits::POSITIONS;
         let n = equation_at(sheet, known, e, &mut equations[row..]);
         measure(
@@ -37,6 +35,5 @@ pub fn store_equations(sheet: &[u8], known: Known, equations: &mut [u8], lengths
             0,
             n,
         );
-        e = e + 1;
     }
 }

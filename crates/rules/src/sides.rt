@@ -3,7 +3,6 @@ ghost use Rattle.std.specs.Prelude.{List, ℕ};
 ghost use Rattle.terms.specs.Equation.{Equation, Direction, source, target};
 ghost use Rattle.rules.specs.ForContracts.Rows.{HasRule, RuleIs, SideIs};
 
-use format::byte::wide;
 use format::limits::Limits;
 use terms::arguments::Arguments;
 
@@ -18,14 +17,14 @@ pub fn sides_of(lengths: &[u8], rule: usize) -> RuleSides
     ensures { (equations arities : List ℕ) (i : ℕ) (e : Equation) (d : Direction) → RuleIs equations lengths.now arities rule i e d → SideIs equations lengths.now arities result.source (source e d) × SideIs equations lengths.now arities result.target (target e d) }
 {
     let row = rule / 2 * Limits::POSITIONS;
-    let right = row + wide(lengths[row]);
+    let right = row + usize::from(lengths[row]);
     let first = Arguments {
         from: row,
         end: right,
     };
     let second = Arguments {
         from: right,
-        end: right + wide(lengths[right]),
+        end: right + usize::from(lengths[right]),
     };
     if rule % 2 == 0 {
         return RuleSides {

@@ -6,23 +6,22 @@ ghost use Rattle.walking.specs.ForContracts.Walking.{memory_bytes};
 ghost use Rattle.rules.specs.ForContracts.Rows.{RowsAre, HasRows, bound_count};
 ghost use Rattle.rules.specs.ForContracts.Walks.{WalksAs};
 
-use crate::keep::{RuleKept, keep_rule};
+use crate::keep::keep_rule;
 use format::limits::Limits;
 use format::refusal::Refusal;
 
 // The bounds of the lines of all rules: those of rule k stand from bound k to bound k + 1.
 pub const BOUNDS: usize = 2 * Limits::EQUATIONS + 1;
 
-// The refusal of a walk and its equation; or every walk solves, and the lines do not fit together, or are kept.
+// The refusal of a walk, and the equation that is walked.
 #[derive(Clone, Copy)]
-pub enum Walks {
-    Refused(Refusal, usize),
-    Full,
-    Kept,
+pub struct RefusedWalk {
+    pub why: Refusal,
+    pub equation: usize,
 }
 
-// Walks every rule of the `count` equations in order, and keeps their lines, one behind the other. Where they do not fit together, only
-// those of the last rule are kept.
+// Walks every rule of the `count` equations in order, and keeps their lines, one behind the other. Tells whether they fit together; where they do not, only those of the last
+// rule are kept.
 pub fn keep_rules(
     equations: &[u8],
     lengths: &[u8],
@@ -30,7 +29,7 @@ pub fn keep_rules(
     bounds: &mut [usize],
     table: &mut [u8],
     scratch: &mut [u8],
-) -> Walks
+) -> Result<bool, RefusedWalk>
     requires has_rows { HasRows equations.now lengths.now count × (length bounds.old ≡ bound_count) }
     requires table_bytes_in_bounds { (table_bytes ≤ length table.old) × (memory_bytes ≤ length scratch.old) }
     ensures by_index { (arities : List ℕ) (es : List Equation) → RowsAre equations.now lengths.now arities es → count ≡ length es → WalksAs es bounds.new table.new result }
@@ -41,27 +40,27 @@ pub fn keep_rules(
     bounds[0] = 0;
     let mut fits = true;
     let mut start = 0;
-    let mut rule = 0;
-    while rule < rules {
+    for rule in 0..rules {
         match keep_rule(equations, lengths, rule, table, start, scratch) {
-            RuleKept::Refused(why) => {
-                return Walks::Refused(why, rule / 2);
+            Err(why) => {
+                let equation = rule / 2;
+                return Err(RefusedWalk { why, equation });
             }
-            RuleKept::Full => {
-                fits = false;
-                start = 0;
-            }
-            RuleKept::End(end) => {
-                if fits {
-                    start = end;
+            Ok(kept) => {
+                match kept {
+                    None => {
+                        fits = false;
+                        start = 0;
+                    }
+                    Some(end) => {
+                        if fits {
+                            start = end;
+                        }
+                    }
                 }
             }
         }
-        rule = rule + 1;
-        bounds[rule] = start;
+        bounds[rule + 1] = start;
     }
-    if fits {
-        return Walks::Kept;
-    }
-    Walks::Full
+    Ok(fits)
 }

@@ -23,12 +23,12 @@ use Rattle.outcomes.specs.Outcome.{log_of}
 use Rattle.outcomes.specs.Theory.Outcomes.{length_log}
 use Rattle.rules.specs.Theory.Walks.{lines_stay}
 use Rattle.step_take.specs.ForContracts.Replacing.{ReplacedAs}
-use Rattle.step_take.specs.declared.part.Replaced.TheVariants.{TooLarge}
 use Rattle.step_by_position.specs.ForContracts.Searching.{StepAt}
 use Rattle.step_search.specs.ForContracts.Seeking.{RulesReady, RunIs}
 use Rattle.step_take.specs.ForContracts.Stepping.{StepIs}
 use Rattle.step_take.specs.Theory.Steps.{step_possible}
 use Rattle.run_steps.specs.ForContracts.Course.{CourseIs}
+use Rattle.std.specs.Prelude.{None}
 
 -- 1. The next search goes by the same rules, and by the same subject in the nodes that a search left.
 module _ {equations lengths : List ℕ} {rules : ℕ} {bounds next : List ℕ} {fits : Bool} {table nodes sizes : List ℕ} {n : ℕ} {arities : List ℕ} {es : List Equation} {subject : Term}
@@ -141,7 +141,7 @@ module _ {equations lengths : List ℕ} {rules : ℕ} {bounds next : List ℕ} {
             let none_left : limit - steps ≡ 0 = omega arith in
             ended limit_reached (ap (λ k. line_run (filling arities) es k h.current) none_left ∙ run_at_limit (filling arities) es h.current found.this found.first) s
 
-        pub size_ends : (nodes'' sizes'' : List ℕ) → steps < limit → ReplacedAs arities nodes' sizes' nodes'' sizes'' found.this.result TooLarge
+        pub size_ends : (nodes'' sizes'' : List ℕ) → steps < limit → ReplacedAs arities nodes' sizes' nodes'' sizes'' found.this.result None
             → CourseIs arities es limit subject log₀ log (record { steps = steps; ending = result_too_large; size = n; nodes = nodes'' })
         size_ends nodes'' sizes'' x (large, a, b) =
             let more_left : limit - steps ≡ suc (limit - (steps + 1)) = omega arith in

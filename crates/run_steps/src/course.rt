@@ -8,9 +8,8 @@ ghost use Rattle.run_steps.specs.ForContracts.Course.{CourseIs};
 
 use format::limits::Limits;
 use reducing::ending::Ending;
-use step_by_position::positions::{Found, Search};
+use step_by_position::positions::{FoundStep, Search};
 use step_search::seek::find_step;
-use step_take::part::Replaced;
 use step_take::step::{put_step, take_step};
 
 // What a run starts from: the rules, whether the lines of all fit the table together, the step limit, and the subject: how many nodes it has, and these with their sizes.
@@ -61,40 +60,40 @@ pub fn run_steps(
         let search = Search {
             rules: start.rules,
             fits: start.fits,
-            size: size,
+            size,
         };
         let found = find_step(
             equations, lengths, search, bounds, next, table, &mut nodes, &mut sizes, scratch,
         );
-        let Found::Step(rule, node) = found else {
+        let Some(FoundStep { rule, node }) = found else {
             return Course {
-                steps: steps,
+                steps,
                 ending: Ending::NoneFound,
-                size: size,
-                nodes: nodes,
+                size,
+                nodes,
             };
         };
         if steps == limit {
             return Course {
-                steps: steps,
+                steps,
                 ending: Ending::LimitReached,
-                size: size,
-                nodes: nodes,
+                size,
+                nodes,
             };
         }
         let replaced = take_step(
             equations, lengths, rule, arities, &mut nodes, &mut sizes, node, size,
         );
-        let Replaced::Size(now) = replaced else {
+        let Some(now) = replaced else {
             return Course {
-                steps: steps,
+                steps,
                 ending: Ending::ResultTooLarge,
-                size: size,
-                nodes: nodes,
+                size,
+                nodes,
             };
         };
         put_step(log, steps, rule, node - Limits::SUBJECT);
         size = now;
-        steps = steps + 1;
+        steps += 1;
     }
 }

@@ -5,7 +5,6 @@ ghost use Rattle.format.specs.Limits.{max_equations};
 ghost use Rattle.terms.specs.Equation.{Equation};
 ghost use Rattle.step_by_position.specs.ForContracts.Next.{next_bytes, NextIs, RulesKept, HasRulesKept, NextPut};
 
-use format::byte::wide;
 use format::limits::Limits;
 use rules::sides::sides_of;
 use rules::walks::BOUNDS;
@@ -23,19 +22,17 @@ fn put_entries(next: &mut [u8], rule: usize, top: u8, live: bool)
     requires { (length next.old ≡ next_bytes) × (rule < 2 * max_equations) }
     ensures { NextPut next.old next.new rule top live }
 {
-    let mut f = 0;
-    while f < Limits::SYMBOLS {
+    for f in 0..Limits::SYMBOLS {
         let at = f * BOUNDS + rule;
         let mut entry = next[at + 1];
         if live {
             if Limits::FIRST_VARIABLE <= top {
                 entry = rule as u8;
-            } else if wide(top) == f {
+            } else if usize::from(top) == f {
                 entry = rule as u8;
             }
         }
         next[at] = entry;
-        f = f + 1;
     }
 }
 
@@ -51,14 +48,10 @@ pub fn fill_next(
     requires { HasRulesKept equations.now lengths.now rules bounds.now table.now × (length next.old ≡ next_bytes) }
     ensures { (arities : List ℕ) (es : List Equation) → RulesKept equations.now lengths.now rules bounds.now table.now arities es → NextIs next.new rules es }
 {
-    let mut f = 0;
-    while f < Limits::SYMBOLS {
+    for f in 0..Limits::SYMBOLS {
         next[f * BOUNDS + rules] = rules as u8;
-        f = f + 1;
     }
-    let mut rule = rules;
-    while 0 < rule {
-        rule = rule - 1;
+    for rule in (0..rules).rev() {
         let sides = sides_of(lengths, rule);
         let source = sides.source;
         let from = source.from;

@@ -7,17 +7,16 @@ ghost use Rattle.terms.specs.ForContracts.Stored.{SubjectIs};
 ghost use Rattle.step_by_position.specs.ForContracts.Searching.{FoundIs};
 ghost use Rattle.step_by_position.specs.ForContracts.Next.{SearchIs, HasSearch};
 
-use format::byte::wide;
 use format::limits::Limits;
 use kept_lines::trimmed::KeptLines;
 use rules::walks::BOUNDS;
 use step_try::applies::{KeptRule, applies};
 
-// What a search finds: nothing, or a rule and a node.
+// A step that a search finds: a rule that can step at a node.
 #[derive(Clone, Copy)]
-pub enum Found {
-    Nothing,
-    Step(usize, usize),
+pub struct FoundStep {
+    pub rule: usize,
+    pub node: usize,
 }
 
 // What a search goes by besides the buffers: the rules, whether the lines of all fit the table together, and the subject's nodes.
@@ -39,7 +38,7 @@ pub fn find_by_positions(
     nodes: &mut [u8],
     sizes: &mut [u8],
     cells: &mut [u8],
-) -> Found
+) -> Option<FoundStep>
     requires { HasSearch equations.now lengths.now search.rules bounds.now next.now table.now nodes.old sizes.old search.size × (length cells.old ≡ cell_count) }
     ensures by_index { (arities : List ℕ) (es : List Equation) (subject : Term) → SearchIs equations.now lengths.now search.rules bounds.now next.now table.now nodes.old sizes.old arities es subject → FoundIs arities es subject result }
     ensures by_index_2 { (arities : List ℕ) (subject : Term) → SubjectIs nodes.old sizes.old arities subject → SubjectIs nodes.new sizes.new arities subject }
@@ -47,27 +46,22 @@ pub fn find_by_positions(
     let mut ready = [0u8; Limits::NODES];
     let rules = search.rules;
     let end = Limits::SUBJECT + search.size;
-    let mut node = Limits::SUBJECT;
-    while node < end {
-        let row = wide(nodes[node]) * BOUNDS;
-        let mut rule = wide(next[row]);
+    for node in Limits::SUBJECT..end {
+        let row = usize::from(nodes[node]) * BOUNDS;
+        let mut rule = usize::from(next[row]);
         while rule < rules {
             let lines = KeptLines {
                 from: bounds[rule],
                 end: bounds[rule + 1],
             };
-            let kept = KeptRule {
-                rule: rule,
-                lines: lines,
-            };
+            let kept = KeptRule { rule, lines };
             if applies(
                 equations, lengths, kept, table, nodes, sizes, &mut ready, cells, node,
             ) {
-                return Found::Step(rule, node);
+                return Some(FoundStep { rule, node });
             }
-            rule = wide(next[row + rule + 1]);
+            rule = usize::from(next[row + rule + 1]);
         }
-        node = node + 1;
     }
-    Found::Nothing
+    None
 }

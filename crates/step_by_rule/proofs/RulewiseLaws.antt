@@ -3,6 +3,9 @@ use Prim.Native.Nat.{ℕ, ◌+◌, ◌-◌, ◌≤◌, ◌<◌}
 use mathlib.Core.Path.{◌≡◌, refl, sym, ap, ap₂, subst, ◌∙◌}
 use mathlib.Core.Bool.{Bool, true, false}
 use mathlib.Core.Option.{Option, none, some}
+use Rattle.std.specs.Prelude.{Option as Maybe, Some, None, Result, Ok, Err, MatchOption}
+use Rattle.format.specs.declared.refusal.Refusal.{Refusal}
+use Rattle.step_by_position.specs.declared.positions.FoundStep.{FoundStep}
 use mathlib.Core.List.{List, ◌++◌}
 use native.Mathlib.Omega.{arith}
 use native.Mathlib.Decide.{dec_lt}
@@ -31,15 +34,13 @@ use Rattle.walking.specs.ForContracts.Walking.{memory_bytes}
 use Rattle.line_bytes.specs.Theory.Placed.{placed_length, drop_placed, slice_placed}
 use Rattle.kept_lines.specs.declared.trimmed.KeptLines.{KeptLines}
 use Rattle.kept_lines.specs.ForContracts.Trimmed.{trimmed_lines}
-use Rattle.rules.specs.declared.keep.RuleKept.{RuleKept}
-use Rattle.rules.specs.declared.keep.RuleKept.TheVariants.{Refused, Full, End}
 use Rattle.rules.specs.ForContracts.Rows.{SideIs}
 use Rattle.rules.specs.ForContracts.Walks.{RuleKeptAs}
 use Rattle.rules.specs.Theory.Rows.{rule_in}
 use Rattle.step_try.specs.ForContracts.Trying.{Settled, Applies, TryIs}
 use Rattle.step_try.specs.Theory.Parts.{side_part as matched_part}
-use Rattle.step_by_position.specs.ForContracts.Searching.{StepAt}
-use Rattle.step_by_rule.specs.ForContracts.Rulewise.{MatchesFrom, SourceIs, FirstFor, KeptTry, HasKeptTry, UnkeptTry, HasUnkeptTry, AllSolve, HasAllSolve}
+use Rattle.step_by_position.specs.ForContracts.Searching.{StepAt, FoundIs}
+use Rattle.step_by_rule.specs.ForContracts.Rulewise.{MatchesFrom, FirstMatch, FirstStep, SourceIs, FirstFor, KeptTry, HasKeptTry, UnkeptTry, HasUnkeptTry, AllSolve, HasAllSolve}
 
 -- 1. The first node at which a side matches.
 pub record Seeking (equations : List ℕ) (side : Arguments) (nodes sizes : List ℕ) (end node : ℕ) : Type 0 where
@@ -75,11 +76,17 @@ module _ {equations : List ℕ} {side : Arguments} {nodes sizes : List ℕ} {end
             (not_matched nodes sizes arities values (match s (part_at subject (node - position_count)) no_match) (a arities s (part_at subject (node - position_count)) (side_part i node k.low l)) h)
       ]
 
-  pub seeking_found : (arities : List ℕ) (s subject : Term) → SourceIs equations side nodes sizes end arities s subject → MatchesFrom s subject end node
-  seeking_found arities s subject i = record { within = k.within; low = k.low; none_before = k.none_before arities s subject i }
+  pub seeking_found : node < end → (arities : List ℕ) (s subject : Term) → SourceIs equations side nodes sizes end arities s subject → FirstMatch s subject end (Some node)
+  seeking_found l arities s subject i = (l, record { within = k.within; low = k.low; none_before = k.none_before arities s subject i })
 
-  pub seeking_done : end ≤ node → (arities : List ℕ) (s subject : Term) → SourceIs equations side nodes sizes end arities s subject → MatchesFrom s subject end end
+  pub seeking_done : end ≤ node → (arities : List ℕ) (s subject : Term) → SourceIs equations side nodes sizes end arities s subject → FirstMatch s subject end None
   seeking_done h arities s subject i = record { within = omega arith; low = i.low; none_before = λ p l. k.none_before arities s subject i p (omega arith) }
+
+pub matched_from : {s subject : Term} {end node : ℕ} {r : Maybe ℕ} → FirstMatch s subject end r → r ≡ Some node → MatchesFrom s subject end node
+matched_from {s} {subject} {end} m e = (subst (FirstMatch s subject end) e m).1
+
+pub matched_nowhere : {s subject : Term} {end : ℕ} {r : Maybe ℕ} → FirstMatch s subject end r → r ≡ None → MatchesFrom s subject end end
+matched_nowhere {s} {subject} {end} m e = subst (FirstMatch s subject end) e m
 
 -- 2. The first node at which a rule can step.
 module _ (equations lengths : List ℕ) (rule : ℕ) (table : List ℕ) (lines : KeptLines) (nodes₀ sizes₀ : List ℕ) (from end : ℕ) where
@@ -142,10 +149,10 @@ module _ {equations lengths : List ℕ} {rule : ℕ} {table : List ℕ} {lines :
       }
 
       pub trying_found : r ≡ true → (arities : List ℕ) (i : ℕ) (e : Equation) (d : Direction) (subject : Term) → KeptTry equations lengths rule table lines nodes₀ sizes₀ from end arities i e d subject
-          → FirstFor arities subject i e d end node
+          → FirstStep arities subject i e d end (Some node)
       trying_found h arities i e d subject t =
           let (s, x) = (a arities i e d subject (node - position_count) (try_here l t)).can h in
-          record { within = k.within; none_before = k.none_before arities i e d subject t; can = λ l. (node - position_count, s, omega (arith, t.low, k.low), x) }
+          (l, record { within = k.within; none_before = k.none_before arities i e d subject t; can = λ l. (node - position_count, s, omega (arith, t.low, k.low), x) })
 
     module _ (h : HasKeptTry equations lengths rule table lines nodes₀ sizes₀ from end) where
       pub trying_nodes : length nodes ≡ length nodes₀
@@ -155,7 +162,7 @@ module _ {equations lengths : List ℕ} {rule : ℕ} {table : List ℕ} {lines :
       trying_sizes = (k.same h.arities h.subject h.is.subject_is).sizes_length ∙ sym h.is.subject_is.sizes_length
 
     pub trying_done : end ≤ node → (arities : List ℕ) (i : ℕ) (e : Equation) (d : Direction) (subject : Term) → KeptTry equations lengths rule table lines nodes₀ sizes₀ from end arities i e d subject
-        → FirstFor arities subject i e d end end
+        → FirstStep arities subject i e d end None
     trying_done h arities i e d subject t =
         record { within = omega arith; none_before = λ p l. k.none_before arities i e d subject t p (omega arith); can = λ l. absurd (omega arith) }
 
@@ -165,16 +172,22 @@ module _ {equations lengths : List ℕ} {rule : ℕ} {nodes sizes : List ℕ} {e
   pub none_for : ((p : ℕ) → position_count + p < end → try (filling arities) line_test subject p (part_at subject p) i e d ≡ none) → FirstFor arities subject i e d end end
   none_for h = record { within = omega arith; none_before = h; can = λ l. absurd (omega arith) }
 
+  pub no_step : {r : Maybe ℕ} → r ≡ None → FirstFor arities subject i e d end end → FirstStep arities subject i e d end r
+  no_step n f = subst (FirstStep arities subject i e d end) (sym n) f
+
   pub source_there : {side : Arguments} → SideIs equations lengths arities side (source e d) → SourceIs equations side nodes sizes end arities (source e d) subject
   source_there s = record { lengths = lengths; side_is = s; subject_is = u.subject_is; low = u.low; inside = u.inside }
 
   -- At the front of the table there is room, and the walk solves.
-  pub kept_ends : (table after : List ℕ) (r : RuleKept) → RuleKeptAs e d 0 table after r → (last : ℕ) × (r ≡ End last)
-  kept_ends table after (Refused why) (x, y) = let s = u.solves.walked in let z : ◌≡◌ {A = ℕ} 0 1 = cc in absurd (omega arith)
-  kept_ends table after Full (s, h, y) = absurd (omega arith)
-  kept_ends table after (End last) k = (last, refl)
+  pub kept_ends : (table after : List ℕ) (r : Result (Maybe ℕ) Refusal) → RuleKeptAs e d 0 table after r → (last : ℕ) × (r ≡ Ok (Some last))
+  kept_ends table after (Err why) (x, y) = let s = u.solves.walked in let z : ◌≡◌ {A = ℕ} 0 1 = cc in absurd (omega arith)
+  kept_ends table after (Ok None) (s, h, y) = absurd (omega arith)
+  kept_ends table after (Ok (Some last)) k = (last, refl)
 
-  pub kept_at_front : (table after : List ℕ) {last from : ℕ} {r : RuleKept} → table_bytes ≤ length table → RuleKeptAs e d 0 table after r → r ≡ End last → MatchesFrom (source e d) subject end from
+  pub room_there : {kept : Maybe ℕ} (table after : List ℕ) (r : Result (Maybe ℕ) Refusal) → RuleKeptAs e d 0 table after r → r ≡ Ok kept → kept ≡ None → ⊥
+  room_there table after r k x y = let (last, z) = kept_ends table after r k in let w : ◌≡◌ {A = ℕ} 0 1 = cc in omega arith
+
+  pub kept_at_front : (table after : List ℕ) {last from : ℕ} {r : Result (Maybe ℕ) Refusal} → table_bytes ≤ length table → RuleKeptAs e d 0 table after r → r ≡ Ok (Some last) → MatchesFrom (source e d) subject end from
       → KeptTry equations lengths rule after (record { from = 0; end = last }) nodes sizes from end arities i e d subject
   kept_at_front table after {last} room k y m =
       let (s, ls, are, x, low, put) = subst (RuleKeptAs e d 0 table after) y k in
@@ -199,7 +212,7 @@ module _ {equations lengths : List ℕ} {rule : ℕ} {nodes sizes : List ℕ} {e
       }
 
 -- The lines of a rule are kept at the front of the table, and what is behind the table stays.
-pub front_behind : {equations lengths : List ℕ} {rule : ℕ} {nodes sizes : List ℕ} {end : ℕ} (h : HasUnkeptTry equations lengths rule nodes sizes end) (table after : List ℕ) (r : RuleKept)
+pub front_behind : {equations lengths : List ℕ} {rule : ℕ} {nodes sizes : List ℕ} {end : ℕ} (h : HasUnkeptTry equations lengths rule nodes sizes end) (table after : List ℕ) (r : Result (Maybe ℕ) Refusal)
     → table_bytes ≤ length table → RuleKeptAs h.equation h.direction 0 table after r → drop table_bytes after ≡ drop table_bytes table
 front_behind h table after r room k =
     let (last, y) = kept_ends h.is table after r k in
@@ -213,7 +226,7 @@ scratch_after_walk before after h = behind_more scratch_bytes memory_bytes after
 pub scratch_after_cells : (cells walked : List ℕ) → length cells ≡ cell_count → drop scratch_bytes (cells ++ drop cell_count walked) ≡ drop scratch_bytes walked
 scratch_after_cells cells walked h = cells_behind walked cells h
 
--- 4. The first step of all. The rules before `rule` cannot step before node `best`; rule `found`, if there is one, can step there, and none before it can.
+-- 4. The first step of all. The rules before `rule` cannot step before node `best`; the rule that is found, if there is one, can step there, and none before it can.
 pub record FoundHere (arities : List ℕ) (es : List Equation) (subject : Term) (best found : ℕ) : Type 0 where
   pub number : ℕ
   pub equation : Equation
@@ -227,14 +240,13 @@ pub record FoundHere (arities : List ℕ) (es : List Equation) (subject : Term) 
   pub possible : try (filling arities) line_test subject position (part_at subject position) number equation direction ≡ some this
   pub none_earlier : (j : ℕ) (e : Equation) (c : Direction) → entry es j ≡ some e → rule_number j c < found → try (filling arities) line_test subject position (part_at subject position) j e c ≡ none
 
-pub record FoundTo (arities : List ℕ) (es : List Equation) (subject : Term) (rules best found rule : ℕ) : Type 0 where
+pub record FoundTo (arities : List ℕ) (es : List Equation) (subject : Term) (best : ℕ) (found : Maybe FoundStep) (rule : ℕ) : Type 0 where
   pub none_before : (p j : ℕ) (e : Equation) (c : Direction) → position_count + p < best → entry es j ≡ some e → rule_number j c < rule
       → try (filling arities) line_test subject p (part_at subject p) j e c ≡ none
-  pub here : found < rules → FoundHere arities es subject best found
-  pub unfound : rules ≤ found → position_count + size subject ≤ best
+  pub here : MatchOption found (position_count + size subject ≤ best) (λ step. (step.node ≡ best) × FoundHere arities es subject best step.rule)
 
 module _ (equations lengths : List ℕ) (rules : ℕ) (nodes₀ sizes₀ : List ℕ) (n : ℕ) (table₀ scratch₀ : List ℕ) where
-  pub record Finding (table nodes sizes scratch : List ℕ) (best found rule : ℕ) : Type 0 where
+  pub record Finding (table nodes sizes scratch : List ℕ) (best : ℕ) (found : Maybe FoundStep) (rule : ℕ) : Type 0 where
     pub table_length : length table ≡ length table₀
     pub scratch_length : length scratch ≡ length scratch₀
     pub table_behind : drop table_bytes table ≡ drop table_bytes table₀
@@ -242,9 +254,9 @@ module _ (equations lengths : List ℕ) (rules : ℕ) (nodes₀ sizes₀ : List 
     pub same : (arities : List ℕ) (subject : Term) → SubjectIs nodes₀ sizes₀ arities subject → SubjectIs nodes sizes arities subject
     pub low : position_count ≤ best
     pub within : best ≤ position_count + n
-    pub so_far : (arities : List ℕ) (es : List Equation) (subject : Term) → AllSolve equations lengths rules nodes₀ sizes₀ n arities es subject → FoundTo arities es subject rules best found rule
+    pub so_far : (arities : List ℕ) (es : List Equation) (subject : Term) → AllSolve equations lengths rules nodes₀ sizes₀ n arities es subject → FoundTo arities es subject best found rule
 
-  pub finding_start : Finding table₀ nodes₀ sizes₀ scratch₀ (position_count + n) rules 0
+  pub finding_start : Finding table₀ nodes₀ sizes₀ scratch₀ (position_count + n) None 0
   finding_start = record {
     table_length = refl;
     scratch_length = refl;
@@ -255,12 +267,11 @@ module _ (equations lengths : List ℕ) (rules : ℕ) (nodes₀ sizes₀ : List 
     within = omega arith;
     so_far = λ arities es subject a. record {
       none_before = λ p j e c l x m. absurd (omega arith);
-      here = λ l. absurd (omega arith);
-      unfound = λ l. omega (arith, a.size_is);
+      here = omega (arith, a.size_is);
     };
   }
 
-module _ {equations lengths : List ℕ} {rules : ℕ} {nodes₀ sizes₀ : List ℕ} {n : ℕ} {table₀ scratch₀ table nodes sizes scratch : List ℕ} {best found rule : ℕ}
+module _ {equations lengths : List ℕ} {rules : ℕ} {nodes₀ sizes₀ : List ℕ} {n : ℕ} {table₀ scratch₀ table nodes sizes scratch : List ℕ} {best : ℕ} {found : Maybe FoundStep} {rule : ℕ}
     (k : Finding equations lengths rules nodes₀ sizes₀ n table₀ scratch₀ table nodes sizes scratch best found rule) where
   try_rule : {arities : List ℕ} {es : List Equation} {subject : Term} → AllSolve equations lengths rules nodes₀ sizes₀ n arities es subject → (i : ℕ) (e : Equation) (d : Direction)
       → entry es i ≡ some e → rule ≡ rule_number i d → UnkeptTry equations lengths rule nodes sizes best arities i e d subject
@@ -284,7 +295,7 @@ module _ {equations lengths : List ℕ} {rules : ℕ} {nodes₀ sizes₀ : List 
         is = try_rule h.are o.number o.equation o.direction o.numbered o.is;
       }
 
-  -- The rule is tried, and its first node is `node`.
+  -- The rule is tried, and its first node is `node`; `best` if there is none before that.
   module _ (h : HasAllSolve equations lengths rules nodes₀ sizes₀ n) (l : rule < rules) {node : ℕ} (after_table after_nodes after_sizes after_scratch : List ℕ)
       (a : (arities : List ℕ) (i : ℕ) (e : Equation) (d : Direction) (subject : Term) → UnkeptTry equations lengths rule nodes sizes best arities i e d subject → FirstFor arities subject i e d best node)
       (same : (arities : List ℕ) (subject : Term) → SubjectIs nodes sizes arities subject → SubjectIs after_nodes after_sizes arities subject)
@@ -310,11 +321,11 @@ module _ {equations lengths : List ℕ} {rules : ℕ} {nodes₀ sizes₀ : List 
         let (p, s, x, y) = (first_of h.are o.number o.equation o.direction o.numbered o.is).can b in
         omega arith
 
-    abbrev Next : (best found : ℕ) → Type 0
+    abbrev Next : (best : ℕ) (found : Maybe FoundStep) → Type 0
     Next best' found' = Finding equations lengths rules nodes₀ sizes₀ n table₀ scratch₀ after_table after_nodes after_sizes after_scratch best' found' (rule + 1)
 
-    better : node < best → Next node rule
-    better b = record {
+    finding_better : node < best → Next node (Some (record { rule = rule; node = node }))
+    finding_better b = record {
       table_length = same_table ∙ k.table_length;
       scratch_length = same_scratch ∙ k.scratch_length;
       table_behind = table_rest ∙ k.table_behind;
@@ -327,7 +338,7 @@ module _ {equations lengths : List ℕ} {rules : ℕ} {nodes₀ sizes₀ : List 
           let (p, t, x, y) = (first_of s o.number o.equation o.direction o.numbered o.is).can b in
           record {
             none_before = none_yet s node_within;
-            here = λ m. record {
+            here = (refl, record {
               number = o.number;
               equation = o.equation;
               direction = o.direction;
@@ -339,13 +350,12 @@ module _ {equations lengths : List ℕ} {rules : ℕ} {nodes₀ sizes₀ : List 
               numbered = o.numbered;
               possible = y;
               none_earlier = λ j e c z q. (k.so_far arities es subject s).none_before p j e c (omega arith) z q;
-            };
-            unfound = λ m. absurd (omega arith);
+            });
           };
     }
 
-    no_better : best ≤ node → Next best found
-    no_better b = record {
+    finding_same : best ≤ node → Next best found
+    finding_same b = record {
       table_length = same_table ∙ k.table_length;
       scratch_length = same_scratch ∙ k.scratch_length;
       table_behind = table_rest ∙ k.table_behind;
@@ -356,15 +366,28 @@ module _ {equations lengths : List ℕ} {rules : ℕ} {nodes₀ sizes₀ : List 
       so_far = λ arities es subject s. record {
         none_before = λ p j e c q x m. none_yet s node_within p j e c (omega arith) x m;
         here = (k.so_far arities es subject s).here;
-        unfound = (k.so_far arities es subject s).unfound;
       };
     }
 
-    pub finding_better : {best' found' : ℕ} → node < best → best' ≡ node → found' ≡ rule → Next best' found'
-    finding_better {best'} {found'} b x y = subst (λ m. Next m found') (sym x) (subst (Next node) (sym y) (better b))
+  -- The rule is tried, and the search tells its first node before `best`, if there is one.
+  module _ (h : HasAllSolve equations lengths rules nodes₀ sizes₀ n) (l : rule < rules) (after_table after_nodes after_sizes after_scratch : List ℕ) (first : Maybe ℕ)
+      (a : (arities : List ℕ) (i : ℕ) (e : Equation) (d : Direction) (subject : Term) → UnkeptTry equations lengths rule nodes sizes best arities i e d subject → FirstStep arities subject i e d best first)
+      (same : (arities : List ℕ) (subject : Term) → SubjectIs nodes sizes arities subject → SubjectIs after_nodes after_sizes arities subject)
+      (same_table : length after_table ≡ length table) (same_scratch : length after_scratch ≡ length scratch)
+      (table_rest : drop table_bytes after_table ≡ drop table_bytes table) (scratch_rest : drop scratch_bytes after_scratch ≡ drop scratch_bytes scratch) where
+    abbrev After : (best : ℕ) (found : Maybe FoundStep) → Type 0
+    After best' found' = Finding equations lengths rules nodes₀ sizes₀ n table₀ scratch₀ after_table after_nodes after_sizes after_scratch best' found' (rule + 1)
 
-    pub finding_same : {best' found' : ℕ} → best ≤ node → best' ≡ best → found' ≡ found → Next best' found'
-    finding_same {best'} {found'} b x y = subst (λ m. Next m found') (sym x) (subst (Next best) (sym y) (no_better b))
+    pub rule_tried : MatchOption first (After best found) (λ node. After node (Some (record { rule = rule; node = node })))
+    rule_tried = go first a
+      where
+        go : (o : Maybe ℕ) → ((arities : List ℕ) (i : ℕ) (e : Equation) (d : Direction) (subject : Term) → UnkeptTry equations lengths rule nodes sizes best arities i e d subject → FirstStep arities subject i e d best o)
+            → MatchOption o (After best found) (λ node. After node (Some (record { rule = rule; node = node })))
+        go None b = finding_same h l after_table after_nodes after_sizes after_scratch b same same_table same_scratch table_rest scratch_rest (omega arith)
+        go (Some node) b =
+            let o = rule_of h.those rule (omega (arith, h.are.counted)) in
+            let below = (b h.arities o.number o.equation o.direction h.subject (try_rule h.are o.number o.equation o.direction o.numbered o.is)).0 in
+            finding_better h l after_table after_nodes after_sizes after_scratch (λ arities i e d subject u. (b arities i e d subject u).1) same same_table same_scratch table_rest scratch_rest below
 
   module _ (h : HasAllSolve equations lengths rules nodes₀ sizes₀ n) where
     pub finding_nodes : length nodes ≡ length nodes₀
@@ -378,9 +401,8 @@ module _ {equations lengths : List ℕ} {rules : ℕ} {nodes₀ sizes₀ : List 
     none_at : (p j : ℕ) (e : Equation) (c : Direction) → position_count + p < best → entry es j ≡ some e → try (filling arities) line_test subject p (part_at subject p) j e c ≡ none
     none_at p j e c l x = (k.so_far arities es subject a).none_before p j e c l x (omega (arith, a.counted, rule_low j c (entry_length es j x)))
 
-    pub step_found : found < rules → StepAt arities es subject found best
-    step_found l =
-        let f = (k.so_far arities es subject a).here l in
+    step_found : {rule' : ℕ} → FoundHere arities es subject best rule' → StepAt arities es subject rule' best
+    step_found f =
         record {
           number = f.number;
           equation = f.equation;
@@ -401,5 +423,12 @@ module _ {equations lengths : List ℕ} {rules : ℕ} {nodes₀ sizes₀ : List 
           });
         }
 
-    pub nothing_found : rules ≤ found → step (filling arities) line_test es subject ≡ none
-    nothing_found l = step_none (filling arities) line_test subject es (λ p j c m e x. none_at p j e c (omega (arith, (k.so_far arities es subject a).unfound l)) x)
+    nothing_found : position_count + size subject ≤ best → step (filling arities) line_test es subject ≡ none
+    nothing_found l = step_none (filling arities) line_test subject es (λ p j c m e x. none_at p j e c (omega (arith, l)) x)
+
+    pub all_tried : FoundIs arities es subject found
+    all_tried = go found (k.so_far arities es subject a).here
+      where
+        go : (o : Maybe FoundStep) → MatchOption o (position_count + size subject ≤ best) (λ step. (step.node ≡ best) × FoundHere arities es subject best step.rule) → FoundIs arities es subject o
+        go None l = nothing_found l
+        go (Some step) (e, here) = subst (StepAt arities es subject step.rule) (sym e) (step_found here)

@@ -6,34 +6,38 @@ ghost use Rattle.terms.specs.Term.{Term};
 ghost use Rattle.terms.specs.Equation.{Equation, Direction};
 ghost use Rattle.terms.specs.ForContracts.Stored.{SubjectIs};
 ghost use Rattle.step_by_position.specs.ForContracts.Searching.{FoundIs};
-ghost use Rattle.step_by_rule.specs.ForContracts.Rulewise.{MatchesFrom, HasSource, SourceIs, FirstFor, KeptTry, HasKeptTry, UnkeptTry, HasUnkeptTry, AllSolve, HasAllSolve};
+ghost use Rattle.step_by_rule.specs.ForContracts.Rulewise.{FirstMatch, HasSource, SourceIs, FirstStep, KeptTry, HasKeptTry, UnkeptTry, HasUnkeptTry, AllSolve, HasAllSolve};
 
 use format::limits::Limits;
 use kept_lines::trimmed::KeptLines;
-use rules::keep::{RuleKept, keep_rule};
+use rules::keep::keep_rule;
 use rules::sides::sides_of;
-use step_by_position::positions::Found;
+use step_by_position::positions::FoundStep;
 use step_match::side::match_side;
 use step_try::applies::{KeptRule, applies};
 use terms::arguments::Arguments;
 
-// The first node before `end` at which the side matches, or `end`.
-fn first_match(equations: &[u8], side: Arguments, nodes: &[u8], sizes: &[u8], end: usize) -> usize
+// The first node before `end` at which the side matches.
+fn first_match(
+    equations: &[u8],
+    side: Arguments,
+    nodes: &[u8],
+    sizes: &[u8],
+    end: usize,
+) -> Option<usize>
     requires { HasSource equations.now side nodes.now sizes.now end }
-    ensures { (arities : List ℕ) (s subject : Term) → SourceIs equations.now side nodes.now sizes.now end arities s subject → MatchesFrom s subject end result }
+    ensures { (arities : List ℕ) (s subject : Term) → SourceIs equations.now side nodes.now sizes.now end arities s subject → FirstMatch s subject end result }
 {
     let mut values = [0u8; Limits::VARIABLES];
-    let mut node = Limits::SUBJECT;
-    while node < end {
+    for node in Limits::SUBJECT..end {
         if match_side(equations, side, nodes, sizes, node, &mut values) {
-            return node;
+            return Some(node);
         }
-        node = node + 1;
     }
-    end
+    None
 }
 
-// The first node from `from` to `end` at which the rule, whose lines are kept, can step, or `end`. It cannot before `from`.
+// The first node from `from` to `end` at which the rule, whose lines are kept, can step. It cannot before `from`.
 fn first_applying(
     equations: &[u8],
     lengths: &[u8],
@@ -44,25 +48,23 @@ fn first_applying(
     cells: &mut [u8],
     from: usize,
     end: usize,
-) -> usize
+) -> Option<usize>
     requires { HasKeptTry equations.now lengths.now kept.rule table.now kept.lines nodes.old sizes.old from end × (length cells.old ≡ cell_count) }
-    ensures by_index { (arities : List ℕ) (i : ℕ) (e : Equation) (d : Direction) (subject : Term) → KeptTry equations.now lengths.now kept.rule table.now kept.lines nodes.old sizes.old from end arities i e d subject → FirstFor arities subject i e d end result }
+    ensures by_index { (arities : List ℕ) (i : ℕ) (e : Equation) (d : Direction) (subject : Term) → KeptTry equations.now lengths.now kept.rule table.now kept.lines nodes.old sizes.old from end arities i e d subject → FirstStep arities subject i e d end result }
     ensures by_index_2 { (arities : List ℕ) (subject : Term) → SubjectIs nodes.old sizes.old arities subject → SubjectIs nodes.new sizes.new arities subject }
 {
     let mut ready = [0u8; Limits::NODES];
-    let mut node = from;
-    while node < end {
+    for node in from..end {
         if applies(
             equations, lengths, kept, table, nodes, sizes, &mut ready, cells, node,
         ) {
-            return node;
+            return Some(node);
         }
-        node = node + 1;
     }
-    end
+    None
 }
 
-// The first node before `end` at which the rule can step, or `end`.
+// The first node before `end` at which the rule can step.
 fn first_node(
     equations: &[u8],
     lengths: &[u8],
@@ -72,29 +74,23 @@ fn first_node(
     sizes: &mut [u8],
     scratch: &mut [u8],
     end: usize,
-) -> usize
+) -> Option<usize>
     requires has_unkept_try { HasUnkeptTry equations.now lengths.now rule nodes.old sizes.old end }
     requires table_bytes_in_bounds { (table_bytes ≤ length table.old) × (scratch_bytes ≤ length scratch.old) }
-    ensures by_index { (arities : List ℕ) (i : ℕ) (e : Equation) (d : Direction) (subject : Term) → UnkeptTry equations.now lengths.now rule nodes.old sizes.old end arities i e d subject → FirstFor arities subject i e d end result }
+    ensures by_index { (arities : List ℕ) (i : ℕ) (e : Equation) (d : Direction) (subject : Term) → UnkeptTry equations.now lengths.now rule nodes.old sizes.old end arities i e d subject → FirstStep arities subject i e d end result }
     ensures by_index_2 { (arities : List ℕ) (subject : Term) → SubjectIs nodes.old sizes.old arities subject → SubjectIs nodes.new sizes.new arities subject }
     ensures table_unchanged { drop table_bytes table.new ≡ drop table_bytes table.old }
     ensures scratch_unchanged { drop scratch_bytes scratch.new ≡ drop scratch_bytes scratch.old }
 {
     let sides = sides_of(lengths, rule);
-    let from = first_match(equations, sides.source, nodes, sizes, end);
-    if end <= from {
-        return end;
-    }
-    let kept = keep_rule(equations, lengths, rule, table, 0, scratch);
+    let from = first_match(equations, sides.source, nodes, sizes, end)?;
     // Every rule solves, and the table has room for the lines of one.
-    let RuleKept::End(last) = kept else {
-        return end;
+    let Ok(kept) = keep_rule(equations, lengths, rule, table, 0, scratch) else {
+        return None;
     };
+    let last = kept?;
     let lines = KeptLines { from: 0, end: last };
-    let kept_rule = KeptRule {
-        rule: rule,
-        lines: lines,
-    };
+    let kept_rule = KeptRule { rule, lines };
     first_applying(
         equations,
         lengths,
@@ -118,7 +114,7 @@ pub fn find_by_rules(
     sizes: &mut [u8],
     scratch: &mut [u8],
     n: usize,
-) -> Found
+) -> Option<FoundStep>
     requires has_all_solve { HasAllSolve equations.now lengths.now rules nodes.old sizes.old n }
     requires table_bytes_in_bounds { (table_bytes ≤ length table.old) × (scratch_bytes ≤ length scratch.old) }
     ensures by_index { (arities : List ℕ) (es : List Equation) (subject : Term) → AllSolve equations.now lengths.now rules nodes.old sizes.old n arities es subject → FoundIs arities es subject result }
@@ -127,18 +123,13 @@ pub fn find_by_rules(
     ensures scratch_unchanged { drop scratch_bytes scratch.new ≡ drop scratch_bytes scratch.old }
 {
     let mut best = Limits::SUBJECT + n;
-    let mut found = rules;
-    let mut rule = 0;
-    while rule < rules {
-        let node = first_node(equations, lengths, rule, table, nodes, sizes, scratch, best);
-        if node < best {
+    let mut found = None;
+    for rule in 0..rules {
+        let first = first_node(equations, lengths, rule, table, nodes, sizes, scratch, best);
+        if let Some(node) = first {
             best = node;
-            found = rule;
+            found = Some(FoundStep { rule, node });
         }
-        rule = rule + 1;
     }
-    if found < rules {
-        return Found::Step(found, best);
-    }
-    Found::Nothing
+    found
 }

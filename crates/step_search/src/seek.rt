@@ -8,7 +8,7 @@ ghost use Rattle.step_by_position.specs.ForContracts.Searching.{FoundIs};
 ghost use Rattle.step_search.specs.ForContracts.Seeking.{RunIs, HasRun};
 
 use format::limits::Limits;
-use step_by_position::positions::{Found, Search, find_by_positions};
+use step_by_position::positions::{FoundStep, Search, find_by_positions};
 use step_by_rule::search::find_by_rules;
 
 // One step: by positions where the lines of all rules fit the table together, else rule by rule.
@@ -22,7 +22,7 @@ pub fn find_step(
     nodes: &mut [u8],
     sizes: &mut [u8],
     scratch: &mut [u8],
-) -> Found
+) -> Option<FoundStep>
     requires has_run { HasRun equations.now lengths.now search.rules bounds.now next.now search.fits table.old nodes.old sizes.old search.size }
     requires table_bytes_in_bounds { (table_bytes ≤ length table.old) × (scratch_bytes ≤ length scratch.old) }
     ensures by_index { (arities : List ℕ) (es : List Equation) (subject : Term) → RunIs equations.now lengths.now search.rules bounds.now next.now search.fits table.old nodes.old sizes.old search.size arities es subject → FoundIs arities es subject result }

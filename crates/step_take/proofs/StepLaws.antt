@@ -5,6 +5,7 @@ use mathlib.Core.Bool.{Bool, true, false, not}
 use mathlib.Core.Logic.{inl, inr}
 use mathlib.Core.Option
 use mathlib.Core.Option.{Option, none, some}
+use Rattle.std.specs.Prelude.{Option as Answer}
 use mathlib.Core.List.{List}
 use native.Mathlib.Omega.{arith}
 use lib.ListN.{get_or}
@@ -24,7 +25,6 @@ use Rattle.reducing.proofs.Theory.Match.{either}
 use Rattle.reducing.specs.ForContracts.Part.{part_at}
 use Rattle.step_match.specs.ForContracts.Matching.{SlotIs, MatchIs, Matched, SidePart}
 use Rattle.step_take.specs.ForContracts.Replacing.{ReplacementIs, ReplacedAs}
-use Rattle.step_take.specs.declared.part.Replaced.{Replaced}
 use Rattle.rules.specs.ForContracts.Rows.{SideIs}
 use Rattle.step_try.specs.Theory.Parts.{side_part}
 use Rattle.step_take.specs.ForContracts.Stepping.{StepIs}
@@ -89,7 +89,7 @@ module _ {equations lengths : List ℕ} {rule : ℕ} {arities nodes sizes : List
       };
     }
 
-    pub step_replaced : (nodes_after sizes_after : List ℕ) (answer : Replaced)
+    pub step_replaced : (nodes_after sizes_after : List ℕ) (answer : Rattle.std.specs.Prelude.Option ℕ)
         → ReplacedAs arities nodes sizes nodes_after sizes_after (replace subject p (inst (values_of (filling arities) possible.found) (target e d))) answer
         → ReplacedAs arities nodes sizes nodes_after sizes_after s.result answer
     step_replaced nodes_after sizes_after answer = subst (λ t. ReplacedAs arities nodes sizes nodes_after sizes_after t answer) (sym possible.gives)

@@ -6,7 +6,6 @@ ghost use Rattle.terms.specs.Term.{Term, Values, size, inst};
 ghost use Rattle.terms.specs.Prefix.{prefix};
 ghost use Rattle.step_take.specs.ForContracts.Replacing.{InstanceIs, HasInstance};
 
-use format::byte::wide;
 use format::copy::copy_front;
 use format::limits::Limits;
 use terms::arguments::Arguments;
@@ -23,17 +22,15 @@ pub fn instance_size(
     ensures by_index { (arities : List ℕ) (t : Term) (ρ : Values) → InstanceIs bytes.now side nodes.now sizes.now values.now arities t ρ → result ≡ size (inst ρ t) }
     ensures upper_bound { result ≤ (max_task_nodes + 1) * position_count }
 {
-    let mut i = side.from;
     let mut size = 0;
-    while i < side.end {
+    for i in side.from..side.end {
         let byte = bytes[i];
         if byte < Limits::FIRST_VARIABLE {
-            size = size + 1;
+            size += 1;
         } else {
-            let node = wide(values[wide(byte - Limits::FIRST_VARIABLE)]);
-            size = size + wide(sizes[node]);
+            let node = usize::from(values[usize::from(byte - Limits::FIRST_VARIABLE)]);
+            size += usize::from(sizes[node]);
         }
-        i = i + 1;
     }
     size
 }
@@ -50,20 +47,18 @@ pub fn put_instance(
     requires { (arities : List ℕ) × (t : Term) × (ρ : Values) × InstanceIs bytes.now side nodes.now sizes.now values.now arities t ρ × (size (inst ρ t) ≤ length out.old) }
     ensures { (arities : List ℕ) (t : Term) (ρ : Values) → InstanceIs bytes.now side nodes.now sizes.now values.now arities t ρ → (result ≡ size (inst ρ t)) × (out.new ≡ written (prefix (inst ρ t)) out.old) }
 {
-    let mut i = side.from;
     let mut at = 0;
-    while i < side.end {
+    for i in side.from..side.end {
         let byte = bytes[i];
         if byte < Limits::FIRST_VARIABLE {
             out[at] = byte;
-            at = at + 1;
+            at += 1;
         } else {
-            let node = wide(values[wide(byte - Limits::FIRST_VARIABLE)]);
-            let size = wide(sizes[node]);
+            let node = usize::from(values[usize::from(byte - Limits::FIRST_VARIABLE)]);
+            let size = usize::from(sizes[node]);
             copy_front(&nodes[node..], &mut out[at..], size);
-            at = at + size;
+            at += size;
         }
-        i = i + 1;
     }
     at
 }

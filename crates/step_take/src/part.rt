@@ -7,18 +7,10 @@ ghost use Rattle.terms.specs.Prefix.{prefix};
 ghost use Rattle.step_take.specs.ForContracts.Replacing.{ReplacementIs, HasReplacement, ReplacedAs};
 
 use crate::instance::{instance_size, put_instance};
-use format::byte::wide;
 use format::copy::copy_front;
 use format::limits::Limits;
 use terms::arguments::Arguments;
 use terms::measure::measure;
-
-// The result has more nodes than a task may have, or how many it has.
-#[derive(Clone, Copy)]
-pub enum Replaced {
-    TooLarge,
-    Size(usize),
-}
 
 // The subject with the side's instance in the place of the part at `node`, to the front of `result`, which has room for it.
 fn put_result(
@@ -37,11 +29,12 @@ fn put_result(
     let p = node - Limits::POSITIONS;
     copy_front(&nodes[Limits::POSITIONS..], res, p);
     let new = put_instance(bytes, side, nodes, sizes, values, &mut res[p..]);
-    let old = wide(sizes[node]);
+    let old = usize::from(sizes[node]);
     copy_front(&nodes[node + old..], &mut res[p + new..], n - p - old);
 }
 
-// Replaces the part at `node` of a subject of `n` nodes by the side's instance. A result that is too large leaves the subject as it was.
+// Replaces the part at `node` of a subject of `n` nodes by the side's instance, and tells how many nodes the result has: none if more than a task may have, which leaves the
+// subject as it was.
 pub fn replace_part(
     bytes: &[u8],
     side: Arguments,
@@ -51,15 +44,15 @@ pub fn replace_part(
     values: &[u8],
     node: usize,
     n: usize,
-) -> Replaced
+) -> Option<usize>
     requires { HasReplacement bytes.now side arities.now nodes.old sizes.old values.now node n }
     ensures { (subject t : Term) (ρ : Values) (p : ℕ) → ReplacementIs bytes.now side arities.now nodes.old sizes.old values.now node n subject t ρ p → ReplacedAs arities.now nodes.old sizes.old nodes.new sizes.new (replace subject p (inst ρ t)) result }
 {
-    let old = wide(sizes[node]);
+    let old = usize::from(sizes[node]);
     let new = instance_size(bytes, side, nodes, sizes, values);
     let size = n - old + new;
     if Limits::TASK_NODES < size {
-        return Replaced::TooLarge;
+        return None;
     }
     let mut result = [0u8; Limits::TASK_NODES];
     put_result(bytes, side, nodes, sizes, values, node, n, &mut result);
@@ -71,5 +64,5 @@ pub fn replace_part(
         Limits::POSITIONS,
         Limits::POSITIONS + size,
     );
-    Replaced::Size(size)
+    Some(size)
 }

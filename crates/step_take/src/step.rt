@@ -8,7 +8,7 @@ ghost use Rattle.reducing.specs.Run.{Step};
 ghost use Rattle.step_take.specs.ForContracts.Replacing.{ReplacedAs};
 ghost use Rattle.step_take.specs.ForContracts.Stepping.{StepIs, HasStep};
 
-use crate::part::{Replaced, replace_part};
+use crate::part::replace_part;
 use format::limits::Limits;
 use rules::sides::sides_of;
 use step_match::side::match_side;
@@ -23,7 +23,7 @@ pub fn take_step(
     sizes: &mut [u8],
     node: usize,
     n: usize,
-) -> Replaced
+) -> Option<usize>
     requires { HasStep equations.now lengths.now rule arities.now nodes.old sizes.old node n }
     ensures { (i : ℕ) (e : Equation) (d : Direction) (subject : Term) (p : ℕ) (s : Step) → StepIs equations.now lengths.now rule arities.now nodes.old sizes.old node n i e d subject p s → ReplacedAs arities.now nodes.old sizes.old nodes.new sizes.new s.result result }
 {
@@ -31,7 +31,7 @@ pub fn take_step(
     let sides = sides_of(lengths, rule);
     // The search has matched it before.
     if !match_side(equations, sides.source, nodes, sizes, node, &mut values) {
-        return Replaced::TooLarge;
+        return None;
     }
     replace_part(
         equations,

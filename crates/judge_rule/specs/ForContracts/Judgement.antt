@@ -1,5 +1,5 @@
 -- A judgement as the code has it: the values of a task, and the kept lines of its direction.
-use Rattle.std.specs.Prelude.{ℕ, ◌+◌, ◌≤◌, ◌<◌, ◌≡◌, List, length, get_or}
+use Rattle.std.specs.Prelude.{Result, Ok, Err, ℕ, ◌+◌, ◌≤◌, ◌<◌, ◌≡◌, List, length, get_or}
 use Rattle.std.proofs.Math.Option.{none, some}
 use Rattle.format.specs.Limits.{variable_count, position_count}
 use Rattle.format.specs.Lists.{entry}
@@ -14,10 +14,9 @@ use Rattle.reducing.specs.ForContracts.Rules.{rule_number}
 use Rattle.reducing.specs.Walks.{equation_line, first_refusal}
 use Rattle.kept_lines.specs.declared.trimmed.KeptLines.{KeptLines}
 use Rattle.reading.specs.ForContracts.Loading.{Loaded}
-use Rattle.judge_rule.specs.declared.judge.Judged.{Judged}
-use Rattle.judge_rule.specs.declared.judge.Judged.TheVariants.{Refused, End}
 use Rattle.rules.specs.ForContracts.Rows.{RuleIs}
 use Rattle.rules.specs.ForContracts.Lines.{ProperLines, LinesAt}
+use Rattle.rules.specs.declared.walks.RefusedWalk.{RefusedWalk}
 
 -- Each variable up to the last that has a value has the node of its value; the others have none.
 pub record ValuesAt (arities nodes sizes values : List ℕ) (ts : Terms) : Type 0 where
@@ -53,9 +52,9 @@ module _ (equations lengths : List ℕ) (rule : ℕ) (table : List ℕ) (lines :
     pub is : JudgeIs arities number equation direction kept terms
 
 -- A walk is refused; or all solve, and the lines of the judged rule are kept from the front of the table.
-abbrev pub JudgedAs : List Equation → (rule : ℕ) (table : List ℕ) → Judged → Type 0
-JudgedAs es rule table (Refused why number) = first_refusal 0 es ≡ some (record { refusal = why; line = equation_line number })
-JudgedAs es rule table (End end) =
+abbrev pub JudgedAs : List Equation → (rule : ℕ) (table : List ℕ) → Result ℕ RefusedWalk → Type 0
+JudgedAs es rule table (Err stopped) = first_refusal 0 es ≡ some (record { refusal = stopped.why; line = equation_line stopped.equation })
+JudgedAs es rule table (Ok end) =
     (first_refusal 0 es ≡ none)
     × ((i : ℕ) (e : Equation) (d : Direction) → entry es i ≡ some e → rule ≡ rule_number i d
     → (ls : List Line) × (turns : ℕ) × (solve e d ≡ solved ls turns) × ProperLines e ls × LinesAt table (record { from = 0; end = end }) ls)

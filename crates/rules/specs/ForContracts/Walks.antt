@@ -1,6 +1,7 @@
 -- The walks of all rules in order, and their kept lines.
-use Rattle.std.specs.Prelude.{ℕ, suc, ◌+◌, ◌≤◌, ◌<◌, ◌≡◌, List, Bool, true, false, length, get_or, drop}
+use Rattle.std.specs.Prelude.{ℕ, suc, ◌+◌, ◌≤◌, ◌<◌, ◌≡◌, List, Bool, true, false, length, get_or, drop, Option, Some, None, Result, Ok, Err}
 use Rattle.std.proofs.Math.Option.{none, some}
+use Rattle.format.specs.declared.refusal.Refusal.{Refusal}
 use Rattle.format.specs.Limits.{table_bytes}
 use Rattle.format.specs.Lists.{entry}
 use Rattle.terms.specs.Equation.{Equation, Direction}
@@ -11,17 +12,14 @@ use Rattle.reducing.specs.Test.{EverySolves}
 use Rattle.reducing.specs.ForContracts.Rules.{rule_number}
 use Rattle.reducing.specs.Walks.{equation_line, first_refusal}
 use Rattle.kept_lines.specs.ForContracts.Trimmed.{trimmed_lines}
-use Rattle.rules.specs.declared.keep.RuleKept.{RuleKept}
-use Rattle.rules.specs.declared.keep.RuleKept.TheVariants.{Refused, Full, End}
-use Rattle.rules.specs.declared.walks.Walks.{Walks}
-use Rattle.rules.specs.declared.walks.Walks.TheVariants.{Refused as Unsolved, Full as TooMany, Kept}
+use Rattle.rules.specs.declared.walks.RefusedWalk.{RefusedWalk}
 use Rattle.rules.specs.ForContracts.Lines.{RuleLines, LinesAt}
 
 -- The lines of a rule are kept from `start` on. From the front of the table there is always room for the lines of one rule.
-abbrev pub RuleKeptAs : Equation → Direction → (start : ℕ) (before after : List ℕ) → RuleKept → Type 0
-RuleKeptAs e d start before after (Refused why) = (solve e d ≡ refused why) × (after ≡ before)
-RuleKeptAs e d start before after Full = Solves e d × (0 < start) × (drop table_bytes after ≡ drop table_bytes before)
-RuleKeptAs e d start before after (End end) =
+abbrev pub RuleKeptAs : Equation → Direction → (start : ℕ) (before after : List ℕ) → Result (Option ℕ) Refusal → Type 0
+RuleKeptAs e d start before after (Err why) = (solve e d ≡ refused why) × (after ≡ before)
+RuleKeptAs e d start before after (Ok None) = Solves e d × (0 < start) × (drop table_bytes after ≡ drop table_bytes before)
+RuleKeptAs e d start before after (Ok (Some end)) =
     Solves e d × (ls : List Line) × RuleLines e d ls × (end ≡ start + length (trimmed_lines ls)) × (end ≤ table_bytes) × (after ≡ placed start (trimmed_lines ls) before)
 
 -- The lines of rule `k` stand from bound `k` to bound `k` + 1.
@@ -34,10 +32,10 @@ abbrev pub RulesAt : (bounds table : List ℕ) → List Equation → Type 0
 RulesAt bounds table es = (i : ℕ) (e : Equation) (d : Direction) → entry es i ≡ some e → RuleAt bounds table (rule_number i d) e d
 
 -- A walk is refused; or all solve, and their lines are kept, or do not fit together.
-abbrev pub WalksAs : List Equation → (bounds table : List ℕ) → Walks → Type 0
-WalksAs es bounds table (Unsolved why number) = first_refusal 0 es ≡ some (record { refusal = why; line = equation_line number })
-WalksAs es bounds table TooMany = (first_refusal 0 es ≡ none) × EverySolves es
-WalksAs es bounds table Kept = (first_refusal 0 es ≡ none) × EverySolves es × RulesAt bounds table es
+abbrev pub WalksAs : List Equation → (bounds table : List ℕ) → Result Bool RefusedWalk → Type 0
+WalksAs es bounds table (Err stopped) = first_refusal 0 es ≡ some (record { refusal = stopped.why; line = equation_line stopped.equation })
+WalksAs es bounds table (Ok false) = (first_refusal 0 es ≡ none) × EverySolves es
+WalksAs es bounds table (Ok true) = (first_refusal 0 es ≡ none) × EverySolves es × RulesAt bounds table es
 
 -- All rules solve; where their lines fit the table together they are kept there.
 abbrev pub LinesReady : Bool → (bounds table : List ℕ) → List Equation → Type 0

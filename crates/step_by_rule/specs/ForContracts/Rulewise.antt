@@ -1,5 +1,5 @@
 -- The search rule by rule.
-use Rattle.std.specs.Prelude.{ℕ, ◌+◌, ◌*◌, ◌≤◌, ◌<◌, ◌≡◌, List, length}
+use Rattle.std.specs.Prelude.{ℕ, ◌+◌, ◌*◌, ◌≤◌, ◌<◌, ◌≡◌, List, length, Option, Some, None}
 use Rattle.std.proofs.Math.Option.{none, some}
 use Rattle.format.specs.Limits.{position_count}
 use Rattle.terms.specs.Term.{Term, size}
@@ -23,6 +23,11 @@ pub record MatchesFrom (s subject : Term) (end r : ℕ) : Type 0 where
   pub low : position_count ≤ r
   pub none_before : (p : ℕ) → position_count + p < r → match s (part_at subject p) no_match ≡ none
 
+-- The first node before `end` at which the side matches.
+abbrev pub FirstMatch : (s subject : Term) (end : ℕ) → Option ℕ → Type 0
+FirstMatch s subject end None = MatchesFrom s subject end end
+FirstMatch s subject end (Some node) = (node < end) × MatchesFrom s subject end node
+
 -- A side and a subject; the nodes before `end` are the subject's.
 module _ (equations : List ℕ) (side : Arguments) (nodes sizes : List ℕ) (end : ℕ) where
   pub record SourceIs (arities : List ℕ) (s subject : Term) : Type 0 where
@@ -43,6 +48,10 @@ pub record FirstFor (arities : List ℕ) (subject : Term) (i : ℕ) (e : Equatio
   pub within : r ≤ end
   pub none_before : (p : ℕ) → position_count + p < r → try (filling arities) line_test subject p (part_at subject p) i e d ≡ none
   pub can : r < end → (p : ℕ) × (s : Step) × (r ≡ position_count + p) × (try (filling arities) line_test subject p (part_at subject p) i e d ≡ some s)
+
+abbrev pub FirstStep : (arities : List ℕ) (subject : Term) (i : ℕ) (e : Equation) (d : Direction) (end : ℕ) → Option ℕ → Type 0
+FirstStep arities subject i e d end None = FirstFor arities subject i e d end end
+FirstStep arities subject i e d end (Some node) = (node < end) × FirstFor arities subject i e d end node
 
 -- A rule with its kept lines, which cannot step before `from`.
 module _ (equations lengths : List ℕ) (rule : ℕ) (table : List ℕ) (lines : KeptLines) (nodes sizes : List ℕ) (from end : ℕ) where

@@ -1,5 +1,5 @@
 -- What the code of replacing asks and answers: the instance of a side, and the subject with a part replaced by it.
-use Rattle.std.specs.Prelude.{ℕ, ◌+◌, ◌≤◌, ◌<◌, ◌≡◌, true, List, length, get_or}
+use Rattle.std.specs.Prelude.{ℕ, ◌+◌, ◌≤◌, ◌<◌, ◌≡◌, true, List, length, get_or, Option, Some, None}
 use Rattle.format.specs.Limits.{max_symbols, variable_count, position_count, max_task_nodes}
 use Rattle.terms.specs.Term.{Term, Values, size}
 use Rattle.terms.specs.Prefix.{prefix}
@@ -7,8 +7,6 @@ use Rattle.terms.specs.ForContracts.Fits.{Fits}
 use Rattle.terms.specs.ForContracts.Stored.{PartAt, GroundStored, SubjectIs}
 use Rattle.terms.specs.declared.arguments.Arguments.{Arguments}
 use Rattle.reducing.specs.Match.{has_variable}
-use Rattle.step_take.specs.declared.part.Replaced.{Replaced}
-use Rattle.step_take.specs.declared.part.Replaced.TheVariants.{TooLarge, Size}
 
 -- The side is the term `t`, and each of its variables has as its value the term at the node that `values` has for it.
 pub record InstanceIs (bytes : List ℕ) (side : Arguments) (nodes sizes values arities : List ℕ) (t : Term) (ρ : Values) : Type 0 where
@@ -42,6 +40,6 @@ pub record HasReplacement (bytes : List ℕ) (side : Arguments) (arities nodes s
   pub is : ReplacementIs bytes side arities nodes sizes values node n subject term assigned position
 
 -- "result above 160 nodes": nothing has changed. Else the result is the subject.
-abbrev pub ReplacedAs : (arities nodes sizes nodes_after sizes_after : List ℕ) (result : Term) → Replaced → Type 0
-ReplacedAs arities nodes sizes nodes_after sizes_after result TooLarge = (max_task_nodes < size result) × (nodes_after ≡ nodes) × (sizes_after ≡ sizes)
-ReplacedAs arities nodes sizes nodes_after sizes_after result (Size n) = (n ≡ size result) × SubjectIs nodes_after sizes_after arities result
+abbrev pub ReplacedAs : (arities nodes sizes nodes_after sizes_after : List ℕ) (result : Term) → Option ℕ → Type 0
+ReplacedAs arities nodes sizes nodes_after sizes_after result None = (max_task_nodes < size result) × (nodes_after ≡ nodes) × (sizes_after ≡ sizes)
+ReplacedAs arities nodes sizes nodes_after sizes_after result (Some n) = (n ≡ size result) × SubjectIs nodes_after sizes_after arities result

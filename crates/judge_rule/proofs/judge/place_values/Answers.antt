@@ -22,17 +22,17 @@ bounds-sizes-node c =
     omega (arith, value_inside has c.loop-node.invariant h, size_some has c.loop-node.invariant h, has.loaded.sizes_length)
 
 pub overflow_add-node : goal.overflow_add-node
-overflow_add-node c = omega (arith, value_inside c.requires.0 c.loop-node.invariant c.loop-node-test.true, c.wide-node.ensures.value)
+overflow_add-node c = omega (arith, value_inside c.requires.0 c.loop-node.invariant c.loop-node-test.true, c.from-node.ensures)
 
 pub overflow_add-v : goal.overflow_add-v
 overflow_add-v c = omega (arith, slot_there c.requires.0 c.loop-node.invariant c.loop-node-test.true)
 
 pub loop-node-smaller : goal.loop-node-smaller
-loop-node-smaller c = let h = c.loop-node-test.true in omega (arith, h, size_some c.requires.0 c.loop-node.invariant h, c.wide-node.ensures.value)
+loop-node-smaller c = let h = c.loop-node-test.true in omega (arith, h, size_some c.requires.0 c.loop-node.invariant h, c.from-node.ensures)
 
 pub loop-node-preserved : goal.loop-node-preserved
 loop-node-preserved c =
-    subst (λ k. Placing c.args.sizes.now c.args.end (set c.loop-node.values c.loop-node.v c.loop-node.node) (c.loop-node.node + k) (c.loop-node.v + 1)) (sym c.wide-node.ensures.value)
+    subst (λ k. Placing c.args.sizes.now c.args.end (set c.loop-node.values c.loop-node.v c.loop-node.node) (c.loop-node.node + k) (c.loop-node.v + 1)) (sym c.from-node.ensures)
     (placing_next c.requires.0 c.loop-node.invariant c.loop-node-test.true)
 
 pub shape_of-values : goal.shape_of-values

@@ -36,12 +36,6 @@ keep_lines-kept-requires c =
       omega (arith, k.table_length, c.requires.1),
     )
 
-pub overflow_add-rule : goal.overflow_add-rule
-overflow_add-rule c = let has = c.requires.0 in omega (arith, c.loop-rule-test.true, has.counted, has.are.few)
-
-pub loop-rule-smaller : goal.loop-rule-smaller
-loop-rule-smaller c = omega (arith, c.loop-rule-test.true)
-
 pub loop-rule-preserved : goal.loop-rule-preserved
 loop-rule-preserved c =
     let k = c.loop-rule.invariant in

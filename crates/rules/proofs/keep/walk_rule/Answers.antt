@@ -1,4 +1,5 @@
 -- `walk_rule` walks one direction of the equation whose bytes and sizes stand in the rule's row.
+use Prim.Native.Nat.{◌*◌, ◌/◌}
 use mathlib.Core.Path.{sym, ◌∙◌}
 use native.Mathlib.Omega.{arith}
 use lib.ListN.{drop}
@@ -16,19 +17,19 @@ pub bounds-lengths-row : goal.bounds-lengths-row
 bounds-lengths-row c = omega (arith, row_low c.requires.0.is)
 
 pub overflow_add-right : goal.overflow_add-right
-overflow_add-right c = let is = c.requires.0.is in omega (arith, row_low is, is.row.lengths_length, c.wide.ensures.upper_bound)
+overflow_add-right c = let is = c.requires.0.is in omega (arith, row_low is, is.row.lengths_length, c.from.ensures, c.type_inv.lengths (c.args.rule / 2 * 64))
 
 pub bounds-lengths-right : goal.bounds-lengths-right
-bounds-lengths-right c = second_low c.requires.0.is c.wide.ensures.value
+bounds-lengths-right c = second_low c.requires.0.is c.from.ensures
 
 pub overflow_add-end : goal.overflow_add-end
-overflow_add-end c = let is = c.requires.0.is in omega (arith, row_end is c.wide.ensures.value c.wide-2.ensures.value, row_room is.row)
+overflow_add-end c = let is = c.requires.0.is in omega (arith, row_end is c.from.ensures c.from-2.ensures, row_room is.row)
 
 pub slice_bounds-walk_direction-end : goal.slice_bounds-walk_direction-end
-slice_bounds-walk_direction-end c = end_in_equations c.requires.0.is c.wide.ensures.value c.wide-2.ensures.value
+slice_bounds-walk_direction-end c = end_in_equations c.requires.0.is c.from.ensures c.from-2.ensures
 
 pub slice_bounds-walk_direction-end-2 : goal.slice_bounds-walk_direction-end-2
-slice_bounds-walk_direction-end-2 c = end_in_lengths c.requires.0.is c.wide.ensures.value c.wide-2.ensures.value
+slice_bounds-walk_direction-end-2 c = end_in_lengths c.requires.0.is c.from.ensures c.from-2.ensures
 
 pub slice_bounds-walk_direction-end-4 : goal.slice_bounds-walk_direction-end-4
 slice_bounds-walk_direction-end-4 c = walk_room c.args.scratch.now c.requires.1
@@ -36,13 +37,13 @@ slice_bounds-walk_direction-end-4 c = walk_room c.args.scratch.now c.requires.1
 pub walk_direction-requires : goal.walk_direction-requires
 walk_direction-requires c =
     let is = c.requires.0.is in
-    (record { equation = c.requires.0.equation; are = sides_there is c.wide.ensures.value c.wide-2.ensures.value }, omega arith, sym (walk_room c.args.scratch.now c.requires.1))
+    (record { equation = c.requires.0.equation; are = sides_there is c.from.ensures c.from-2.ensures }, omega arith, sym (walk_room c.args.scratch.now c.requires.1))
 
 pub returns : goal.returns
 returns c =
     let whole = c.walk_direction.auto.memory in record {
       by_index = λ arities i e d is.
-          leaves_longer (c.walk_direction.ensures e d (sides_there is c.wide.ensures.value c.wide-2.ensures.value) (rule_direction is)) (drop memory_bytes c.args.scratch.now)
+          leaves_longer (c.walk_direction.ensures e d (sides_there is c.from.ensures c.from-2.ensures) (rule_direction is)) (drop memory_bytes c.args.scratch.now)
           (whole ∙ sym (walk_room c.args.scratch.now c.requires.1));
       scratch_unchanged = behind_kept c.args.scratch.now c.walk_direction.new.memory c.requires.1 whole;
     }

@@ -40,12 +40,6 @@ slice_bounds-measure-start-in-loop-e c = let k = c.loop-e.invariant in omega (ar
 pub measure-requires : goal.measure-requires
 measure-requires c = row_measurable c.requires.0 c.loop-e.invariant c.loop-e-test.true c.equation_at-n.auto.out c.equation_at-n.ensures
 
-pub overflow_add-e : goal.overflow_add-e
-overflow_add-e c = omega (arith, row_low c.requires.0 c.loop-e.invariant c.loop-e-test.true)
-
-pub loop-e-smaller : goal.loop-e-smaller
-loop-e-smaller c = omega (arith, c.loop-e-test.true)
-
 pub loop-e-preserved : goal.loop-e-preserved
 loop-e-preserved c =
     one_more_stored c.requires.0 c.loop-e.invariant c.loop-e-test.true c.equation_at-n.auto.out c.equation_at-n.ensures c.measure.auto.sizes c.measure.ensures

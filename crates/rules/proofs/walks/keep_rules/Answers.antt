@@ -1,10 +1,11 @@
 -- Goals of `keep_rules`.
-use mathlib.Core.Path.{◌∙◌}
+use mathlib.Core.Path.{ap, ◌∙◌}
+use Rattle.std.specs.Prelude.{Ok}
 use native.Mathlib.Omega.{arith}
-use Rattle.rules.proofs.WalkLaws.{Turn, walking_start, walk_refused, refused_behind, turn_full, turn_kept, turn_unkept, all_solve, all_kept}
+use Rattle.rules.proofs.WalkLaws.{Turn, walking_start, walk_refused, refused_behind, turn_full, turn_kept, turn_unkept, all_walked}
 use Rattle.rules.specs.Theory.Rows.{rule_there}
 use Rattle.rules.proofs.walks.keep_rules.Goals as goal
-use Rattle.rules.proofs.walks.keep_rules.Goals.{After-keep_rule, in-Full, in-End+then-fits, in-End+else-fits}
+use Rattle.rules.proofs.walks.keep_rules.Goals.{After-keep_rule, in-None, in-Some+then-fits, in-Some+else-fits}
 
 pub loop-rule-init : goal.loop-rule-init
 loop-rule-init c = walking_start _ _ _ _ _ c.args.bounds.now c.requires.has_rows.1
@@ -28,26 +29,22 @@ turn_at c =
       scratch_rest = c.keep_rule.ensures.scratch_unchanged;
     }
 
-pub returns-in-Refused : goal.returns-in-Refused
-returns-in-Refused c =
-    let t = turn_at (goal.at.returns-in-Refused c).After-keep_rule in
-    record { by_index = walk_refused t c.in-Refused.is; table_unchanged = refused_behind t c.in-Refused.is; scratch_unchanged = c.keep_rule.ensures.scratch_unchanged ∙ c.loop-rule.invariant.scratch_behind }
+pub returns-in-Err : goal.returns-in-Err
+returns-in-Err c =
+    let t = turn_at (goal.at.returns-in-Err c).After-keep_rule in
+    record { by_index = walk_refused t c.in-Err.is; table_unchanged = refused_behind t c.in-Err.is; scratch_unchanged = c.keep_rule.ensures.scratch_unchanged ∙ c.loop-rule.invariant.scratch_behind }
 
 pub loop-rule-preserved : goal.loop-rule-preserved
 loop-rule-preserved c =
     let t = turn_at (goal.at.loop-rule-preserved c).After-keep_rule in
-    elim c.match-keep_rule.branch [
-      | in-Full w ↦ turn_full t w.in-Full.is w.fits-is w.start-is
-      | in-End+then-fits w ↦ turn_kept t w.in-End.is w.fits-is w.start-is
-      | in-End+else-fits w ↦ turn_unkept t w.in-End.is w.fits-is w.if-fits.false w.start-is
+    let kept = c.in-Ok.is in
+    elim c.match-kept.branch [
+      | in-None w ↦ turn_full t (kept ∙ ap Ok w.in-None.is) w.fits-is w.start-is
+      | in-Some+then-fits w ↦ turn_kept t (kept ∙ ap Ok w.in-Some.is) w.fits-is w.start-is
+      | in-Some+else-fits w ↦ turn_unkept t (kept ∙ ap Ok w.in-Some.is) w.fits-is w.if-fits.false w.start-is
     ]
-
-pub returns-then-fits-2 : goal.returns-then-fits-2
-returns-then-fits-2 c =
-    let k = c.loop-rule.invariant in
-    record { by_index = λ arities es r x. let (n, s) = all_solve k c.loop-rule-test.false arities es r x in (n, s, all_kept k c.loop-rule-test.false arities es r x c.if-fits-2.true); table_unchanged = k.table_behind; scratch_unchanged = k.scratch_behind }
 
 pub returns : goal.returns
 returns c =
     let k = c.loop-rule.invariant in
-    record { by_index = all_solve k c.loop-rule-test.false; table_unchanged = k.table_behind; scratch_unchanged = k.scratch_behind }
+    record { by_index = all_walked k c.loop-rule-test.false; table_unchanged = k.table_behind; scratch_unchanged = k.scratch_behind }

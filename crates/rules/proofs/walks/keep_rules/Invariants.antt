@@ -1,10 +1,6 @@
 -- `keep_rules` walks the rules in order. The invariant: those passed solve, and where their lines fit together, these stand one behind the other.
-use Prim.Native.Nat.{◌-◌}
 use Rattle.rules.proofs.WalkLaws.{Walking}
 use Rattle.rules.proofs.walks.keep_rules.Given as goal
 
 abbrev pub invariant-loop-rule : goal.invariant-loop-rule
 invariant-loop-rule l = Walking l.equations l.lengths l.count l.initial.table l.initial.scratch l.bounds l.table l.scratch l.fits l.start l.rule
-
-abbrev pub decreases-loop-rule : goal.decreases-loop-rule
-decreases-loop-rule l = l.rules - l.rule

@@ -42,7 +42,7 @@ returns-then-steps-limit c =
           λ es subject is.
           let h = inv.so_far es subject is in
           let s = c.find_step-found.ensures.by_index_2 arities h.current h.is.subject_is in
-          limit_ends h s (subst (FoundIs arities es h.current) c.in-Step.is (c.find_step-found.ensures.by_index arities es h.current h.is)) c.if-steps-limit.true;
+          limit_ends h s (subst (FoundIs arities es h.current) c.in-Some.is (c.find_step-found.ensures.by_index arities es h.current h.is)) c.if-steps-limit.true;
       table_unchanged = kept.0;
       table_unchanged_2 = kept.1.0;
       scratch_unchanged = kept.1.1;
@@ -54,7 +54,7 @@ take_step-replaced-requires c =
     let arities = c.args.arities.now in
     let (es, subject, is) = c.requires.run_is in
     let h = inv.so_far es subject is in
-    let next = subst (FoundIs arities es h.current) c.in-Step.is (c.find_step-found.ensures.by_index arities es h.current h.is) in
+    let next = subst (FoundIs arities es h.current) c.in-Some.is (c.find_step-found.ensures.by_index arities es h.current h.is) in
     record {
       number = next.number;
       equation = next.equation;
@@ -75,7 +75,7 @@ returns-in_default-replaced c =
           λ es subject is.
           let h = inv.so_far es subject is in
           let s = c.find_step-found.ensures.by_index_2 arities h.current h.is.subject_is in
-          let next = subst (FoundIs arities es h.current) c.in-Step.is (c.find_step-found.ensures.by_index arities es h.current h.is) in
+          let next = subst (FoundIs arities es h.current) c.in-Some.is (c.find_step-found.ensures.by_index arities es h.current h.is) in
           let result = c.take_step-replaced.ensures next.number next.equation next.direction h.current next.position next.this (step_is h next s) in
           let nodes = c.take_step-replaced.new.nodes in
           let sizes = c.take_step-replaced.new.sizes in
@@ -91,7 +91,7 @@ overflow_sub-node c =
     let arities = c.args.arities.now in
     let (es, subject, is) = c.requires.run_is in
     let h = inv.so_far es subject is in
-    (position_byte h (subst (FoundIs arities es h.current) c.in-Step.is (c.find_step-found.ensures.by_index arities es h.current h.is))).0
+    (position_byte h (subst (FoundIs arities es h.current) c.in-Some.is (c.find_step-found.ensures.by_index arities es h.current h.is))).0
 
 pub put_step-requires : goal.put_step-requires
 put_step-requires c =
@@ -99,7 +99,7 @@ put_step-requires c =
     let arities = c.args.arities.now in
     let (es, subject, is) = c.requires.run_is in
     let h = inv.so_far es subject is in
-    let next = subst (FoundIs arities es h.current) c.in-Step.is (c.find_step-found.ensures.by_index arities es h.current h.is) in
+    let next = subst (FoundIs arities es h.current) c.in-Some.is (c.find_step-found.ensures.by_index arities es h.current h.is) in
     let room : 3 * c.loop-rule.steps + 3 ≤ length c.loop-rule.log = omega (arith, inv.within, inv.log_length, c.requires.table_bytes_in_bounds.2, c.requires.table_bytes_in_bounds.3, c.if-steps-limit.false) in
     (omega (arith, room), omega (arith, rule_byte h next), omega (arith, (position_byte h next).1))
 
@@ -129,10 +129,10 @@ loop-rule-preserved c =
       so_far = λ es subject is.
           let h = inv.so_far es subject is in
           let s = c.find_step-found.ensures.by_index_2 arities h.current h.is.subject_is in
-          let next = subst (FoundIs arities es h.current) c.in-Step.is (c.find_step-found.ensures.by_index arities es h.current h.is) in
+          let next = subst (FoundIs arities es h.current) c.in-Some.is (c.find_step-found.ensures.by_index arities es h.current h.is) in
           let result = c.take_step-replaced.ensures next.number next.equation next.direction h.current next.position next.this (step_is h next s) in
           let nodes = c.take_step-replaced.new.nodes in
           let sizes = c.take_step-replaced.new.sizes in
-          let (counted, there) = subst (ReplacedAs arities c.find_step-found.new.nodes c.find_step-found.new.sizes nodes sizes next.this.result) c.in-Size.is result in
-          one_more h next c.put_step.new.log c.in-Size.now below c.find_step-found.ensures.table_unchanged counted there c.put_step.ensures;
+          let (counted, there) = subst (ReplacedAs arities c.find_step-found.new.nodes c.find_step-found.new.sizes nodes sizes next.this.result) c.in-Some-replaced.is result in
+          one_more h next c.put_step.new.log c.in-Some-replaced.now below c.find_step-found.ensures.table_unchanged counted there c.put_step.ensures;
     }

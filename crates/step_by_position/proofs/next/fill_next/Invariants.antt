@@ -1,6 +1,5 @@
 -- `fill_next` fills the table of next rules. The loops' invariants: `Ended`, the last entries of the rows passed are put; `Filling`, the entries from `rule` on are as they
 -- are to be.
-use Prim.Native.Nat.{◌-◌}
 use Rattle.format.specs.Limits.{max_symbols}
 use Rattle.step_by_position.proofs.NextLaws.{Ended, Filling}
 use Rattle.step_by_position.proofs.next.fill_next.Given as goal
@@ -8,11 +7,5 @@ use Rattle.step_by_position.proofs.next.fill_next.Given as goal
 abbrev pub invariant-loop-f : goal.invariant-loop-f
 invariant-loop-f l = Ended l.rules l.next l.f
 
-abbrev pub decreases-loop-f : goal.decreases-loop-f
-decreases-loop-f l = max_symbols - l.f
-
 abbrev pub invariant-loop-rule : goal.invariant-loop-rule
 invariant-loop-rule l = Filling l.equations l.lengths l.rules l.bounds l.table l.next l.rule
-
-abbrev pub decreases-loop-rule : goal.decreases-loop-rule
-decreases-loop-rule l = l.rule

@@ -15,13 +15,13 @@ pub bounds-next-row : goal.bounds-next-row
 bounds-next-row c =
     let inv = c.loop-node.invariant in
     let h = search_there c.requires.0 inv c.loop-node-test.true in
-    row_inside h c.wide-row.ensures.value
+    row_inside h c.from-row.ensures
 
 pub loop-rule-init : goal.loop-rule-init
 loop-rule-init c =
     let inv = c.loop-node.invariant in
     let h = search_there c.requires.0 inv c.loop-node-test.true in
-    seeking_start h c.wide-row.ensures.value c.wide-rule.ensures.value inv.settled
+    seeking_start h c.from-row.ensures c.from-rule.ensures inv.settled
 
 pub bounds-bounds-rule-in-loop-rule : goal.bounds-bounds-rule-in-loop-rule
 bounds-bounds-rule-in-loop-rule c =
@@ -57,32 +57,32 @@ pub overflow_add-row : goal.overflow_add-row
 overflow_add-row c =
     let inv = c.loop-node.invariant in
     let h = search_there c.requires.0 inv c.loop-node-test.true in
-    omega (arith, following_inside h c.wide-row.ensures.value c.loop-rule-test.true, h.is.next_is.whole)
+    omega (arith, following_inside h c.from-row.ensures c.loop-rule-test.true, h.is.next_is.whole)
 
 pub overflow_add-row-in-loop-rule : goal.overflow_add-row-in-loop-rule
 overflow_add-row-in-loop-rule c =
     let inv = c.loop-node.invariant in
     let h = search_there c.requires.0 inv c.loop-node-test.true in
-    omega (arith, following_inside h c.wide-row.ensures.value c.loop-rule-test.true, h.is.next_is.whole)
+    omega (arith, following_inside h c.from-row.ensures c.loop-rule-test.true, h.is.next_is.whole)
 
 pub bounds-next-row-in-loop-rule : goal.bounds-next-row-in-loop-rule
 bounds-next-row-in-loop-rule c =
     let inv = c.loop-node.invariant in
     let h = search_there c.requires.0 inv c.loop-node-test.true in
-    following_inside h c.wide-row.ensures.value c.loop-rule-test.true
+    following_inside h c.from-row.ensures c.loop-rule-test.true
 
 pub loop-rule-smaller : goal.loop-rule-smaller
 loop-rule-smaller c =
     let inv = c.loop-node.invariant in
     let h = search_there c.requires.0 inv c.loop-node-test.true in
     let below = c.loop-rule-test.true in
-    omega (arith, below, seeking_onward h c.wide-row.ensures.value below c.wide-rule-in-loop-rule.ensures.value)
+    omega (arith, below, seeking_onward h c.from-row.ensures below c.from-rule-in-loop-rule.ensures)
 
 pub loop-rule-preserved : goal.loop-rule-preserved
 loop-rule-preserved c =
     let inv = c.loop-node.invariant in
     let h = search_there c.requires.0 inv c.loop-node-test.true in
-    seeking_next h c.loop-rule.invariant c.loop-rule-test.true c.applies.ensures.by_index c.if-applies.false c.wide-row.ensures.value c.wide-rule-in-loop-rule.ensures.value c.applies.ensures.by_index_2 c.applies.ensures.settled_2
+    seeking_next h c.loop-rule.invariant c.loop-rule-test.true c.applies.ensures.by_index c.if-applies.false c.from-row.ensures c.from-rule-in-loop-rule.ensures c.applies.ensures.by_index_2 c.applies.ensures.settled_2
 
 pub loop-node-preserved : goal.loop-node-preserved
 loop-node-preserved c =

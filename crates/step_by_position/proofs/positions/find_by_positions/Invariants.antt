@@ -15,7 +15,3 @@ decreases-loop-rule l =
 abbrev pub invariant-loop-node : goal.invariant-loop-node
 invariant-loop-node l =
     Finding l.equations l.lengths l.rules l.bounds l.next l.table l.initial.nodes l.initial.sizes l.nodes l.sizes l.ready l.cells l.node
-
-abbrev pub decreases-loop-node : goal.decreases-loop-node
-decreases-loop-node l =
-    l.end - l.node

@@ -1,11 +1,7 @@
 -- `find_by_rules` finds the first step. The invariant: the rules passed cannot step before the best node, and none of them before the found one can step there.
-use Prim.Native.Nat.{◌-◌}
 use Rattle.step_by_rule.proofs.RulewiseLaws.{Finding}
 use Rattle.step_by_rule.proofs.search.find_by_rules.Given as goal
 
 abbrev pub invariant-loop-rule : goal.invariant-loop-rule
 invariant-loop-rule l =
     Finding l.equations l.lengths l.rules l.initial.nodes l.initial.sizes l.n l.initial.table l.initial.scratch l.table l.nodes l.sizes l.scratch l.best l.found l.rule
-
-abbrev pub decreases-loop-rule : goal.decreases-loop-rule
-decreases-loop-rule l = l.rules - l.rule

@@ -37,12 +37,6 @@ returns-then-applies c =
     let k = c.loop-node.invariant in
     record { by_index = trying_found k c.loop-node-test.true c.applies.ensures.by_index c.if-applies.true; by_index_2 = λ arities subject s. c.applies.ensures.by_index_2 arities subject (k.same arities subject s) }
 
-pub overflow_add-node : goal.overflow_add-node
-overflow_add-node c = let has = c.requires.0 in omega (arith, c.loop-node-test.true, has.is.inside, has.is.subject_is.stored.within)
-
-pub loop-node-smaller : goal.loop-node-smaller
-loop-node-smaller c = omega (arith, c.loop-node-test.true)
-
 pub loop-node-preserved : goal.loop-node-preserved
 loop-node-preserved c =
     trying_next c.loop-node.invariant c.loop-node-test.true c.applies.ensures.by_index c.if-applies.false c.applies.ensures.settled_2 c.applies.ensures.by_index_2

@@ -1,11 +1,7 @@
 -- `first_applying` finds the first node at which a rule can step. The invariant: it can step at no node passed, the subject is the same, and the cells are settled.
-use Prim.Native.Nat.{◌-◌}
 use Rattle.step_by_rule.proofs.RulewiseLaws.{Trying}
 use Rattle.step_by_rule.proofs.search.first_applying.Given as goal
 
 abbrev pub invariant-loop-node : goal.invariant-loop-node
 invariant-loop-node l =
     Trying l.equations l.lengths l.kept.rule l.table l.kept.lines l.initial.nodes l.initial.sizes l.from l.end l.nodes l.sizes l.ready l.cells l.node
-
-abbrev pub decreases-loop-node : goal.decreases-loop-node
-decreases-loop-node l = l.end - l.node

@@ -16,13 +16,7 @@ match_side-requires c =
     (record { arities = c.requires.arities; pattern = c.requires.pattern; part = _; is = side_part c.requires.is _ k.0.low c.loop-node-test.true }, k.1)
 
 pub returns-then-match_side : goal.returns-then-match_side
-returns-then-match_side c = seeking_found c.loop-node.invariant.0
-
-pub overflow_add-node : goal.overflow_add-node
-overflow_add-node c = omega (arith, c.loop-node-test.true, c.requires.is.inside, c.requires.is.subject_is.stored.within)
-
-pub loop-node-smaller : goal.loop-node-smaller
-loop-node-smaller c = omega (arith, c.loop-node-test.true)
+returns-then-match_side c = seeking_found c.loop-node.invariant.0 c.loop-node-test.true
 
 pub loop-node-preserved : goal.loop-node-preserved
 loop-node-preserved c =

@@ -18,21 +18,18 @@ bounds-bytes-i c =
 pub overflow_add-size : goal.overflow_add-size
 overflow_add-size c = omega (arith, (of_some c.requires c.loop-i.invariant).few)
 
-pub bounds-values-wide : goal.bounds-values-wide
-bounds-values-wide c =
+pub bounds-values-from : goal.bounds-values-from
+bounds-values-from c =
     let k = of_some c.requires c.loop-i.invariant in
-    omega (arith, c.wide.ensures.value, (value_there k.left c.loop-i-test.true c.if-byte-lt-FIRST_VARIABLE.false).slot)
+    omega (arith, c.from.ensures, (value_there k.left c.loop-i-test.true c.if-byte-lt-FIRST_VARIABLE.false).slot)
 
 pub bounds-sizes-node : goal.bounds-sizes-node
 bounds-sizes-node c =
     let k = of_some c.requires c.loop-i.invariant in
-    rw (c.wide-node.ensures.value, c.wide.ensures.value) (value_there k.left c.loop-i-test.true c.if-byte-lt-FIRST_VARIABLE.false).stands.in_lengths
+    rw (c.from-node.ensures, c.from.ensures) (value_there k.left c.loop-i-test.true c.if-byte-lt-FIRST_VARIABLE.false).stands.in_lengths
 
 pub overflow_add-size-else-byte-lt-FIRST_VARIABLE : goal.overflow_add-size-else-byte-lt-FIRST_VARIABLE
-overflow_add-size-else-byte-lt-FIRST_VARIABLE c = omega (arith, (of_some c.requires c.loop-i.invariant).few, c.wide-size.ensures.upper_bound)
-
-pub loop-i-smaller : goal.loop-i-smaller
-loop-i-smaller c = let h = c.loop-i-test.true in omega arith
+overflow_add-size-else-byte-lt-FIRST_VARIABLE c = omega (arith, (of_some c.requires c.loop-i.invariant).few, c.from-size.ensures, c.type_inv.sizes c.from-node.result)
 
 pub loop-i-preserved : goal.loop-i-preserved
 loop-i-preserved c =
@@ -40,7 +37,7 @@ loop-i-preserved c =
     let k = c.loop-i.invariant arities t ρ s in
     elim c.if-byte-lt-FIRST_VARIABLE.branch [
       | then-byte-lt-FIRST_VARIABLE w ↦ rw w.size-is (symbol_counted k c.loop-i-test.true w.if-byte-lt-FIRST_VARIABLE.true)
-      | else-byte-lt-FIRST_VARIABLE w ↦ rw (w.size-is, w.wide-size.ensures.value, w.wide-node.ensures.value, w.wide.ensures.value) (value_counted k c.loop-i-test.true w.if-byte-lt-FIRST_VARIABLE.false)
+      | else-byte-lt-FIRST_VARIABLE w ↦ rw (w.size-is, w.from-size.ensures, w.from-node.ensures, w.from.ensures) (value_counted k c.loop-i-test.true w.if-byte-lt-FIRST_VARIABLE.false)
     ]
 
 pub returns : goal.returns

@@ -31,24 +31,24 @@ overflow_add-at c =
     let p = c.loop-i.invariant arities t ρ is in
     omega (arith, symbol_room p c.loop-i-test.true c.if-byte-lt-FIRST_VARIABLE.true)
 
-pub bounds-values-wide : goal.bounds-values-wide
-bounds-values-wide c =
+pub bounds-values-from : goal.bounds-values-from
+bounds-values-from c =
     let (arities, t, ρ, is, room) = c.requires in
     let p = c.loop-i.invariant arities t ρ is in
-    omega (arith, c.wide.ensures.value, (value_there p.left c.loop-i-test.true c.if-byte-lt-FIRST_VARIABLE.false).slot)
+    omega (arith, c.from.ensures, (value_there p.left c.loop-i-test.true c.if-byte-lt-FIRST_VARIABLE.false).slot)
 
 pub bounds-sizes-node : goal.bounds-sizes-node
 bounds-sizes-node c =
     let (arities, t, ρ, is, room) = c.requires in
     let p = c.loop-i.invariant arities t ρ is in
-    rw (c.wide-node.ensures.value, c.wide.ensures.value) (value_there p.left c.loop-i-test.true c.if-byte-lt-FIRST_VARIABLE.false).stands.in_lengths
+    rw (c.from-node.ensures, c.from.ensures) (value_there p.left c.loop-i-test.true c.if-byte-lt-FIRST_VARIABLE.false).stands.in_lengths
 
 pub slice_bounds-copy_front-count : goal.slice_bounds-copy_front-count
 slice_bounds-copy_front-count c =
     let (arities, t, ρ, is, room) = c.requires in
     let p = c.loop-i.invariant arities t ρ is in
     let v = (value_there p.left c.loop-i-test.true c.if-byte-lt-FIRST_VARIABLE.false).stands.in_nodes in
-    rw (c.wide-node.ensures.value, c.wide.ensures.value) (omega arith)
+    rw (c.from-node.ensures, c.from.ensures) (omega arith)
 
 pub slice_bounds-copy_front-start : goal.slice_bounds-copy_front-start
 slice_bounds-copy_front-start c = slice_bounds-copy_front-count c
@@ -66,19 +66,16 @@ pub copy_front-requires : goal.copy_front-requires
 copy_front-requires c =
     let (arities, t, ρ, is, room) = c.requires in
     let p = c.loop-i.invariant arities t ρ is in
-    let e = c.wide-node.ensures.value ∙ ap (λ v. get_or c.args.values.now v 0) c.wide.ensures.value in
-    let z = c.wide-size.ensures.value ∙ ap (λ i. get_or c.args.sizes.now i 0) e in
+    let e = c.from-node.ensures ∙ ap (λ v. get_or c.args.values.now v 0) c.from.ensures in
+    let z = c.from-size.ensures ∙ ap (λ i. get_or c.args.sizes.now i 0) e in
     let v = (value_there p.left c.loop-i-test.true c.if-byte-lt-FIRST_VARIABLE.false).stands.in_nodes in
-    (end_room c.args.nodes.now c.wide-node.result c.wide-size.result (omega arith), end_room c.loop-i.out c.loop-i.at c.wide-size.result (omega (arith, put_length p room, value_room p c.loop-i-test.true c.if-byte-lt-FIRST_VARIABLE.false)))
+    (end_room c.args.nodes.now c.from-node.result c.from-size.result (omega arith), end_room c.loop-i.out c.loop-i.at c.from-size.result (omega (arith, put_length p room, value_room p c.loop-i-test.true c.if-byte-lt-FIRST_VARIABLE.false)))
 
 pub overflow_add-at-else-byte-lt-FIRST_VARIABLE : goal.overflow_add-at-else-byte-lt-FIRST_VARIABLE
 overflow_add-at-else-byte-lt-FIRST_VARIABLE c =
     let (arities, t, ρ, is, room) = c.requires in
     let p = c.loop-i.invariant arities t ρ is in
-    omega (arith, c.wide-size.ensures.upper_bound, value_room p c.loop-i-test.true c.if-byte-lt-FIRST_VARIABLE.false)
-
-pub loop-i-smaller : goal.loop-i-smaller
-loop-i-smaller c = let h = c.loop-i-test.true in omega arith
+    omega (arith, c.from-size.ensures, c.type_inv.sizes c.from-node.result, value_room p c.loop-i-test.true c.if-byte-lt-FIRST_VARIABLE.false)
 
 pub loop-i-preserved : goal.loop-i-preserved
 loop-i-preserved c =
@@ -89,7 +86,7 @@ loop-i-preserved c =
       | then-byte-lt-FIRST_VARIABLE w ↦ rw (w.out-is, w.at-is) (symbol_put p c.loop-i-test.true w.if-byte-lt-FIRST_VARIABLE.true (omega (arith, c.requires.4, symbol_room q c.loop-i-test.true w.if-byte-lt-FIRST_VARIABLE.true)))
       | else-byte-lt-FIRST_VARIABLE w ↦
           rw (w.out-is, w.at-is)
-          (value_put p c.loop-i-test.true w.if-byte-lt-FIRST_VARIABLE.false w.wide-node.result w.wide-size.result w.copy_front.new.to (rw (← w.wide.ensures.value) w.wide-node.ensures.value) w.wide-size.ensures.value w.copy_front.ensures)
+          (value_put p c.loop-i-test.true w.if-byte-lt-FIRST_VARIABLE.false w.from-node.result w.from-size.result w.copy_front.new.to (rw (← w.from.ensures) w.from-node.ensures) w.from-size.ensures w.copy_front.ensures)
     ]
 
 pub shape_of-out : goal.shape_of-out

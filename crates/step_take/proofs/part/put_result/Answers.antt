@@ -32,10 +32,10 @@ pub bounds-sizes-node : goal.bounds-sizes-node
 bounds-sizes-node c = let b = bounds c.requires.5 in omega (arith, b.low, b.inside, b.few, b.sizes_length)
 
 pub overflow_add-node : goal.overflow_add-node
-overflow_add-node c = let b = bounds c.requires.5 in omega (arith, b.inside, b.few, c.wide-old.ensures.upper_bound)
+overflow_add-node c = let b = bounds c.requires.5 in omega (arith, b.inside, b.few, c.from-old.ensures, c.type_inv.sizes c.args.node)
 
 pub slice_bounds-copy_front-count-2 : goal.slice_bounds-copy_front-count-2
-slice_bounds-copy_front-count-2 c = let b = bounds c.requires.5 in omega (arith, b.low, b.inside, b.few, b.nodes_length, c.wide-old.ensures.value)
+slice_bounds-copy_front-count-2 c = let b = bounds c.requires.5 in omega (arith, b.low, b.inside, b.few, b.nodes_length, c.from-old.ensures)
 
 pub slice_bounds-copy_front-start-2 : goal.slice_bounds-copy_front-start-2
 slice_bounds-copy_front-start-2 c = slice_bounds-copy_front-count-2 c
@@ -56,22 +56,22 @@ pub overflow_sub-n : goal.overflow_sub-n
 overflow_sub-n c = omega (arith, (bounds c.requires.5).inside)
 
 pub overflow_sub-n-2 : goal.overflow_sub-n-2
-overflow_sub-n-2 c = omega (arith, (bounds c.requires.5).inside, c.wide-old.ensures.value)
+overflow_sub-n-2 c = omega (arith, (bounds c.requires.5).inside, c.from-old.ensures)
 
 pub copy_front-requires-2 : goal.copy_front-requires-2
 copy_front-requires-2 c =
     let node = c.args.node in
     let b = bounds c.requires.5 in
-    let x = c.wide-old.ensures.value in
+    let x = c.from-old.ensures in
     let at = node - position_count in
-    let rest = c.args.n - at - c.wide-old.result in
+    let rest = c.args.n - at - c.from-old.result in
     let first = c.copy_front.new.to in (
-      end_room c.args.nodes.now (node + c.wide-old.result) rest (omega (arith, b.low, b.inside, b.few, b.nodes_length)),
+      end_room c.args.nodes.now (node + c.from-old.result) rest (omega (arith, b.low, b.inside, b.few, b.nodes_length)),
       end_room (put_mid at (length first - at) first c.put_instance-new.new.out) (at + c.put_instance-new.result) rest (omega (arith, c.res-2-1.given.1, b.inside, result_size c.requires.5, c.requires.6, (c.put_instance-new.ensures _ _ _ c.requires.5.instance_is).0, c.copy_front.auto.to)),
     )
 
 pub returns : goal.returns
 returns c =
     λ arities subject t ρ p r.
-    result_put r c.args.res.now c.copy_front.new.to c.put_instance-new.new.out c.copy_front-2.new.to c.wide-old.result c.put_instance-new.result c.wide-old.ensures.value
+    result_put r c.args.res.now c.copy_front.new.to c.put_instance-new.new.out c.copy_front-2.new.to c.from-old.result c.put_instance-new.result c.from-old.ensures
     c.copy_front.ensures (c.put_instance-new.ensures arities t ρ r.instance_is) c.copy_front-2.ensures

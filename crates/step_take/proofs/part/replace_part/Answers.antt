@@ -17,20 +17,20 @@ pub instance_size-new-requires : goal.instance_size-new-requires
 instance_size-new-requires c = record { arities = c.args.arities.now; term = c.requires.term; assigned = c.requires.assigned; is = c.requires.is.instance_is }
 
 pub overflow_sub-size : goal.overflow_sub-size
-overflow_sub-size c = omega (arith, (bounds c.requires.is).inside, c.wide-old.ensures.value)
+overflow_sub-size c = omega (arith, (bounds c.requires.is).inside, c.from-old.ensures)
 
 pub overflow_add-size : goal.overflow_add-size
 overflow_add-size c = omega (arith, (bounds c.requires.is).few, c.instance_size-new.ensures.upper_bound)
 
 pub returns-then-size-gt-TASK_NODES : goal.returns-then-size-gt-TASK_NODES
 returns-then-size-gt-TASK_NODES c =
-    let old = c.wide-old.ensures.value in
+    let old = c.from-old.ensures in
     λ subject t ρ p r.
     (omega (arith, c.if-size-gt-TASK_NODES.true, c.instance_size-new.ensures.by_index _ t ρ r.instance_is, result_size r), refl, refl)
 
 pub put_result-requires : goal.put_result-requires
 put_result-requires c =
-    let old = c.wide-old.ensures.value in
+    let old = c.from-old.ensures in
     let room = c.if-size-gt-TASK_NODES.false in
     (c.args.arities.now, c.requires.subject, c.requires.term, c.requires.assigned, c.requires.position, c.requires.is, omega (arith, c.instance_size-new.ensures.by_index _ _ _ c.requires.is.instance_is, result_size c.requires.is))
 
@@ -38,25 +38,25 @@ pub copy_front-requires : goal.copy_front-requires
 copy_front-requires c =
     let room = c.if-size-gt-TASK_NODES.false in
     let b = bounds c.requires.is in
-    (omega (arith, c.put_result.auto.res), end_room c.args.nodes.now position_count (c.args.n - c.wide-old.result + c.instance_size-new.result) (omega (arith, b.nodes_length)))
+    (omega (arith, c.put_result.auto.res), end_room c.args.nodes.now position_count (c.args.n - c.from-old.result + c.instance_size-new.result) (omega (arith, b.nodes_length)))
 
 pub measure-requires : goal.measure-requires
 measure-requires c =
-    let x = c.wide-old.ensures.value in
+    let x = c.from-old.ensures in
     let e = c.instance_size-new.ensures.by_index c.args.arities.now c.requires.term c.requires.assigned c.requires.is.instance_is in
     let u = replace c.requires.subject c.requires.position (inst c.requires.assigned c.requires.term) in
-    result_measurable c.requires.is.stands u (ground_result c.requires.is) _ c.put_result.new.res c.copy_front.new.to (c.args.n - c.wide-old.result + c.instance_size-new.result)
+    result_measurable c.requires.is.stands u (ground_result c.requires.is) _ c.put_result.new.res c.copy_front.new.to (c.args.n - c.from-old.result + c.instance_size-new.result)
     (omega (arith, result_size c.requires.is)) c.if-size-gt-TASK_NODES.false (c.put_result.ensures c.args.arities.now c.requires.subject c.requires.term c.requires.assigned c.requires.position c.requires.is) c.copy_front.ensures
     c.nodes-1.given.1
 
 pub returns : goal.returns
 returns c =
-    let x = c.wide-old.ensures.value in
+    let x = c.from-old.ensures in
     λ subject t ρ p r.
     let e = c.instance_size-new.ensures.by_index c.args.arities.now t ρ r.instance_is in
-    let n : c.args.n - c.wide-old.result + c.instance_size-new.result ≡ width (replace subject p (inst ρ t)) = omega (arith, result_size r) in (
+    let n : c.args.n - c.from-old.result + c.instance_size-new.result ≡ width (replace subject p (inst ρ t)) = omega (arith, result_size r) in (
       n,
-      result_subject r.stands (replace subject p (inst ρ t)) (ground_result r) _ c.put_result.new.res c.copy_front.new.to (c.args.n - c.wide-old.result + c.instance_size-new.result)
+      result_subject r.stands (replace subject p (inst ρ t)) (ground_result r) _ c.put_result.new.res c.copy_front.new.to (c.args.n - c.from-old.result + c.instance_size-new.result)
           n c.if-size-gt-TASK_NODES.false (c.put_result.ensures c.args.arities.now subject t ρ p r) c.copy_front.ensures
           c.nodes-1.given.1 c.measure.new.sizes c.measure.auto.sizes c.measure.ensures,
     )
