@@ -1,6 +1,6 @@
 // Unification, left argument first. Bindings are changed in place: where there is a unifier, they are those that give it at the return.
 ghost use Rattle.std.specs.Prelude.{◌≡◌, ◌≤◌, ◌<◌, length, get_or, IsSome};
-ghost use Rattle.std.proofs.Math.Option.{none};
+ghost use Rattle.std.proofs.Math.Option.{none, some};
 ghost use Rattle.std.proofs.Math.Decide.{ℕ_discrete, dec_lt};
 ghost use Rattle.format.specs.Limits.{first_variable, variable_count, no_position};
 ghost use Rattle.solving.specs.Line.{lookup};
@@ -19,19 +19,18 @@ use terms::arguments::{Arguments, arguments_of, other_arguments};
 
 // "Two unbound variables: bind the smaller number to the other's position." `v` stands at `p`, `w` at `q`.
 #[tactic(auto, using(crate::specs::Theory::Unify::variables_same, crate::specs::Theory::Unify::variables_less, crate::specs::Theory::Unify::variables_more))]
-fn bind_variables(bindings: &mut [u8], v: usize, w: usize, p: usize, q: usize) -> Option<()>
+fn bind_variables(bindings: &mut [u8], v: usize, w: usize, p: usize, q: usize)
     requires { (v < length bindings.old) × (w < length bindings.old) × (p < no_position) × (q < no_position) }
-    ensures { unify_variables (bindings_of bindings.old) v w p q (ℕ_discrete v w) (dec_lt v w) ≡ answered result (bindings_of bindings.new) }
+    ensures { unify_variables (bindings_of bindings.old) v w p q (ℕ_discrete v w) (dec_lt v w) ≡ some (bindings_of bindings.new) }
 {
     if v == w {
-        return Some(());
+        return;
     }
     if v < w {
         bindings[v] = q as u8;
-        return Some(());
+    } else {
+        bindings[w] = p as u8;
     }
-    bindings[w] = p as u8;
-    Some(())
 }
 
 // "Variable and term: bind to the term's position unless it occurs there."
@@ -96,7 +95,8 @@ fn bind_reached(
         usize::from(g - Limits::FIRST_VARIABLE),
         s,
         t,
-    )
+    );
+    Some(())
 }
 
 // Unifies the terms at two positions. No descent is deeper than there are positions, so that `depth` does not run out.

@@ -28,16 +28,16 @@ use Rattle.bindings.specs.Theory.Bindings.{bind_byte, length_bindings}
 
 -- 1. Two variables.
 module _ (bs : List ℕ) (v w p q : ℕ) where
-  pub variables_same : v ≡ w → unify_variables (bindings_of bs) v w p q (ℕ_discrete v w) (dec_lt v w) ≡ answered (Some tt) (bindings_of bs)
-  unfolding answered unify_variables
+  pub variables_same : v ≡ w → unify_variables (bindings_of bs) v w p q (ℕ_discrete v w) (dec_lt v w) ≡ some (bindings_of bs)
+  unfolding unify_variables
   variables_same h = go (ℕ_discrete v w)
     where
       go : (d : Dec (v ≡ w)) → unify_variables (bindings_of bs) v w p q d (dec_lt v w) ≡ some (bindings_of bs)
       go (yes e) = refl
       go (no n) = absurd (n h)
 
-  pub variables_less : (v ≡ w → ⊥) → v < w → q < no_position → unify_variables (bindings_of bs) v w p q (ℕ_discrete v w) (dec_lt v w) ≡ answered (Some tt) (bindings_of (set bs v q))
-  unfolding answered unify_variables
+  pub variables_less : (v ≡ w → ⊥) → v < w → q < no_position → unify_variables (bindings_of bs) v w p q (ℕ_discrete v w) (dec_lt v w) ≡ some (bindings_of (set bs v q))
+  unfolding unify_variables
   variables_less h l b = go (ℕ_discrete v w) (dec_lt v w) ∙ ap some (sym (bind_byte bs v q b))
     where
       go : (d : Dec (v ≡ w)) (e : Dec (v < w)) → unify_variables (bindings_of bs) v w p q d e ≡ some (bind (bindings_of bs) v q)
@@ -45,8 +45,8 @@ module _ (bs : List ℕ) (v w p q : ℕ) where
       go (no n) (yes d) = refl
       go (no n) (no d) = absurd (d l)
 
-  pub variables_more : (v ≡ w → ⊥) → w ≤ v → p < no_position → unify_variables (bindings_of bs) v w p q (ℕ_discrete v w) (dec_lt v w) ≡ answered (Some tt) (bindings_of (set bs w p))
-  unfolding answered unify_variables
+  pub variables_more : (v ≡ w → ⊥) → w ≤ v → p < no_position → unify_variables (bindings_of bs) v w p q (ℕ_discrete v w) (dec_lt v w) ≡ some (bindings_of (set bs w p))
+  unfolding unify_variables
   variables_more h l b = go (ℕ_discrete v w) (dec_lt v w) ∙ ap some (sym (bind_byte bs w p b))
     where
       go : (d : Dec (v ≡ w)) (e : Dec (v < w)) → unify_variables (bindings_of bs) v w p q d e ≡ some (bind (bindings_of bs) w p)

@@ -1,6 +1,7 @@
 -- `bind_reached` meets its contract, by which of the two is a variable.
 use mathlib.Core.Path.{◌∙◌}
 use native.Mathlib.Omega.{arith}
+use Rattle.unifying.specs.ForContracts.Unify.{answered}
 use Rattle.unifying.specs.Theory.Unify.{free_variable, variable_slot, nodes_right, nodes_left, nodes_both}
 use Rattle.unifying.proofs.unify.bind_reached.Goals as goal
 
@@ -38,5 +39,6 @@ bind_variables-requires c =
     (variable_slot c.requires.readable.0 c.args.s c.from-2.result c.requires.free_at.0.within c.if-f-lt-FIRST_VARIABLE.false c.from-2.ensures, variable_slot c.requires.readable.0 c.args.t c.from-3.result c.requires.free_at.1.within c.if-g-lt-FIRST_VARIABLE.false c.from-3.ensures, omega (arith, c.requires.free_at.0.within, few), omega (arith, c.requires.free_at.1.within, few))
 
 pub returns : goal.returns
+unfolding answered
 returns c =
     record { tells = λ each. nodes_both _ _ _ c.args.s c.args.t c.requires.free_at.0.within c.requires.free_at.1.within each c.if-f-lt-FIRST_VARIABLE.false c.if-g-lt-FIRST_VARIABLE.false c.from-2.result c.from-3.result c.from-2.ensures c.from-3.ensures ∙ c.bind_variables.ensures }
