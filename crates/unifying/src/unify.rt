@@ -126,18 +126,16 @@ pub fn unify_terms(
     if s == t {
         return Some(());
     }
-    if nodes[s] < Limits::FIRST_VARIABLE {
-        if nodes[t] < Limits::FIRST_VARIABLE {
-            let a = linked(links, s);
-            let b = linked(links, t);
-            if a == b {
-                return Some(());
-            }
-            unify_symbols(nodes, sizes, variables, bindings, links, s, t, depth - 1)?;
-            links[a] = b as u8;
-            links[s] = b as u8;
+    if nodes[s] < Limits::FIRST_VARIABLE && nodes[t] < Limits::FIRST_VARIABLE {
+        let a = linked(links, s);
+        let b = linked(links, t);
+        if a == b {
             return Some(());
         }
+        unify_symbols(nodes, sizes, variables, bindings, links, s, t, depth - 1)?;
+        links[a] = b as u8;
+        links[s] = b as u8;
+        return Some(());
     }
     bind_reached(nodes, sizes, variables, bindings, s, t)
 }

@@ -5,7 +5,7 @@ use Rattle.unifying.specs.Theory.Unify.{unification_readable, arguments_rows, re
 use Rattle.unifying.specs.Theory.Links.{linked_followed, leads_same, links_meet, linked_later, linked_both}
 use lib.ListN.{length-set}
 use Rattle.unifying.proofs.unify.+unification.Goals as goal
-use Rattle.unifying.proofs.unify.+unification.Goals.{unify_terms-then-nodes-s-lt-FIRST_VARIABLE+else-nodes-t-lt-FIRST_VARIABLE, unify_terms-else-nodes-s-lt-FIRST_VARIABLE}
+use Rattle.unifying.proofs.unify.+unification.Goals.{unify_terms-else-nodes-s-lt-FIRST_VARIABLE-via-then-nodes-s-lt-FIRST_VARIABLE+else-nodes-t-lt-FIRST_VARIABLE, unify_terms-else-nodes-s-lt-FIRST_VARIABLE-via-else-nodes-s-lt-FIRST_VARIABLE}
 
 pub unify_rows-unify_terms-requires : goal.unify_rows-unify_terms-requires
 unify_rows-unify_terms-requires t c =
@@ -131,7 +131,7 @@ unify_terms-returns-then-nodes-t-lt-FIRST_VARIABLE t c =
 
 pub unify_terms-bind_reached-requires : goal.unify_terms-bind_reached-requires
 unify_terms-bind_reached-requires t c =
-    record { readable = c.requires.readable; free_at = (reached_free_at c.requires.readable.0 c.args.p c.reached-s.result c.reached-s.ensures.value c.reached-s.ensures.upper_bound, reached_free_at c.requires.readable.0 c.args.q c.reached-t.result c.reached-t.ensures.value c.reached-t.ensures.upper_bound); first_variable_bound = λ h. elim c.if-nodes-s-lt-FIRST_VARIABLE.branch [ unify_terms-then-nodes-s-lt-FIRST_VARIABLE+else-nodes-t-lt-FIRST_VARIABLE w ↦ w.if-nodes-t-lt-FIRST_VARIABLE.false | unify_terms-else-nodes-s-lt-FIRST_VARIABLE w ↦ absurd (omega (arith, w.if-nodes-s-lt-FIRST_VARIABLE.false, h)) ] }
+    record { readable = c.requires.readable; free_at = (reached_free_at c.requires.readable.0 c.args.p c.reached-s.result c.reached-s.ensures.value c.reached-s.ensures.upper_bound, reached_free_at c.requires.readable.0 c.args.q c.reached-t.result c.reached-t.ensures.value c.reached-t.ensures.upper_bound); first_variable_bound = λ h. elim c.else-nodes-s-lt-FIRST_VARIABLE.branch [ unify_terms-else-nodes-s-lt-FIRST_VARIABLE-via-then-nodes-s-lt-FIRST_VARIABLE+else-nodes-t-lt-FIRST_VARIABLE w ↦ w.if-nodes-t-lt-FIRST_VARIABLE.false | unify_terms-else-nodes-s-lt-FIRST_VARIABLE-via-else-nodes-s-lt-FIRST_VARIABLE w ↦ absurd (omega (arith, w.if-nodes-s-lt-FIRST_VARIABLE.false, h)) ] }
 
 pub unify_terms-returns : goal.unify_terms-returns
 unify_terms-returns t c =
