@@ -2,7 +2,7 @@
 use Prim.Native.Nat.{ℕ, zero, suc, ◌+◌, ◌-◌, ◌*◌, ◌≤◌, ◌<◌}
 use mathlib.Core.Path.{◌≡◌, refl, sym, ap, ap₂, ◌∙◌}
 use mathlib.Core.List.{List, [], ◌∷◌, ◌++◌, map, append_assoc}
-use lib.ListN.{length, get_or, set, take, drop, replicate, length-append, length-drop, length-map, length-replicate, replicate-append-replicate, take-append-drop, drop_of_length-le, get_or-map}
+use lib.ListN.{length, get_or, set, take, drop, replicate, length-append, length-drop, length-map, length-replicate, take-append-drop, drop_of_length-le, get_or-map}
 use lib.Seq.{slice, slice_empty, length-slice, length-take-le, take-suc, drop-append-le, drop-cons, drop-drop, set_comm, set_split, get_or-take, get_or-drop}
 use native.Mathlib.Nat.{zero-add}
 use native.Mathlib.Numerals.{add-one}
@@ -23,50 +23,6 @@ pub set_placed_one : (l : List ℕ) (at a : ℕ) → at < length l → set l at 
 unfolding placed
 set_placed_one l at a h = set_split l at a h ∙ ap (λ n. take at l ++ (a ∷ drop n l)) (sym (add-one at))
 
--- The bytes from `from` up to `i` are filled.
-pub record Padding (from : ℕ) (before after : List ℕ) (i : ℕ) : Type 0 where
-  pub started : from ≤ i
-  pub within : i ≤ record_bytes
-  pub whole : length before ≡ line_bytes
-  pub filled : after ≡ placed from (replicate (i - from) no_position) before
-
-pub padding_start : (from : ℕ) (l : List ℕ) → from ≤ record_bytes → length l ≡ line_bytes → Padding from l l from
-padding_start from l h w =
-    let e : 0 ≡ from - from = omega arith in
-    record { started = omega arith; within = h; whole = w; filled = sym (placed_none from l) ∙ ap (λ n. placed from (replicate n no_position) l) e }
-
-module _ {from : ℕ} {before after : List ℕ} {i : ℕ} (p : Padding from before after i) where
-  pub padding_length : length after ≡ length before
-  padding_length =
-      let s = p.started in
-      let w = p.within in
-      let n = length-replicate {A = ℕ} (i - from) no_position in
-      ap length p.filled ∙ placed_length from (replicate (i - from) no_position) before (omega (arith, p.whole))
-
-  pub padding_next : i < record_bytes → Padding from before (set after i no_position) (i + 1)
-  padding_next h =
-      let s = p.started in
-      let w = p.whole in
-      let k = padding_length in
-      let fill : List ℕ = replicate (i - from) no_position in
-      let n = length-replicate {A = ℕ} (i - from) no_position in
-      let at : i ≡ from + length fill = omega arith in
-      let more : i - from + 1 ≡ i + 1 - from = omega arith in
-      record {
-        started = omega arith;
-        within = omega arith;
-        whole = w;
-        filled =
-            set_placed_one after i no_position (omega arith)
-            ∙ (ap₂ (λ j l. placed j (no_position ∷ []) l) at p.filled
-            ∙ (placed_behind from fill (no_position ∷ []) before (omega arith)
-            ∙ (ap (λ l. placed from l before) (replicate-append-replicate (i - from) 1 no_position)
-            ∙ ap (λ j. placed from (replicate j no_position) before) more)));
-      }
-
-  pub padding_done : record_bytes ≤ i → after ≡ placed from (replicate (record_bytes - from) no_position) before
-  padding_done h = let e : i ≡ record_bytes = omega (arith, p.within) in p.filled ∙ ap (λ j. placed from (replicate (j - from) no_position) before) e
-
 -- The parts of a list of elements that can be marked.
 markable_at : (es : List Element) (i : ℕ) (d : Element) → Markable es → i < length es → Markable (get_or es i d ∷ [])
 markable_at [] i d m h = absurd (omega arith)
@@ -85,30 +41,28 @@ slice_more f t l d h k =
     let e = length-take-le t l (omega arith) in
     ap (λ n. slice f n l) (add-one t) ∙ (ap (drop f) (take-suc l t d k) ∙ drop-append-le f (take t l) (get_or l t d ∷ []) (omega arith))
 
--- The elements from `from` up to `i` stand from `to` up to `at`.
-pub record Putting (l : LineValue) (from to : ℕ) (before after : List ℕ) (i at : ℕ) : Type 0 where
+-- The elements from `from` up to `i` stand from `to` on.
+pub record Putting (l : LineValue) (from to : ℕ) (before after : List ℕ) (i : ℕ) : Type 0 where
   pub started : from ≤ i
   pub within : i ≤ l.count
   pub fits : ElementsFit l from to before
   pub places : length l.elements ≡ max_elements
-  pub at_is : at ≡ to + 2 * (i - from)
   pub stand : after ≡ placed to (marks (map meaning (slice from i l.elements))) before
 
 length_first : (l : LineValue) (from i : ℕ) → i ≤ length l.elements → length (marks (map meaning (slice from i l.elements))) ≡ 2 * (i - from)
 length_first l from i h = omega (arith, length_marks (map meaning (slice from i l.elements)), length-map (slice from i l.elements) meaning, length-slice from i l.elements h)
 
-pub putting_start : (l : LineValue) (from to : ℕ) (before : List ℕ) → ElementsFit l from to before → length l.elements ≡ max_elements → Putting l from to before before from to
+pub putting_start : (l : LineValue) (from to : ℕ) (before : List ℕ) → ElementsFit l from to before → length l.elements ≡ max_elements → Putting l from to before before from
 unfolding marks
 putting_start l from to before f p = record {
   started = omega arith;
   within = f.within;
   fits = f;
   places = p;
-  at_is = omega arith;
   stand = sym (placed_none to before) ∙ ap (λ es. placed to (marks (map meaning es)) before) (sym (slice_empty from l.elements));
 }
 
-module _ {l : LineValue} {from to : ℕ} {before after : List ℕ} {i at : ℕ} (p : Putting l from to before after i at) where
+module _ {l : LineValue} {from to : ℕ} {before after : List ℕ} {i : ℕ} (p : Putting l from to before after i) where
   pub putting_length : length after ≡ length before
   putting_length =
       let a = p.within in
@@ -117,8 +71,8 @@ module _ {l : LineValue} {from to : ℕ} {before after : List ℕ} {i at : ℕ} 
       ap length p.stand ∙ placed_length to (marks (map meaning (slice from i l.elements))) before (omega (arith, p.fits.room, p.started))
 
   module _ (h : i < l.count) where
-    pub putting_room : at + 2 ≤ length after
-    putting_room = omega (arith, putting_length, p.fits.room, p.at_is, p.started)
+    pub putting_room : to + 2 * (i - from) + 2 ≤ length after
+    putting_room = omega (arith, putting_length, p.fits.room, p.started)
 
     module _ (e d : Held) (x : e ≡ get_or l.elements i d) where
       pub putting_markable : Markable (meaning e ∷ [])
@@ -137,7 +91,7 @@ module _ {l : LineValue} {from to : ℕ} {before after : List ℕ} {i at : ℕ} 
           ∙ (ap (λ m. get_or (take l.count l.elements) m d) j ∙ (get_or-take l.count l.elements i d h ∙ sym x))) in
           rw same at (markable_at (map meaning part) (i - from) (meaning d) p.fits.markable (omega arith))
 
-      pub putting_next : (new : List ℕ) → new ≡ placed at (marks (meaning e ∷ [])) after → Putting l from to before new (i + 1) (at + 2)
+      pub putting_next : (new : List ℕ) → new ≡ placed (to + 2 * (i - from)) (marks (meaning e ∷ [])) after → Putting l from to before new (i + 1)
       putting_next new z =
           let b = p.fits.few in
           let k = p.places in
@@ -146,7 +100,7 @@ module _ {l : LineValue} {from to : ℕ} {before after : List ℕ} {i at : ℕ} 
           let es = l.elements in
           let first = marks (map meaning (slice from i es)) in
           let n = length_first l from i (omega arith) in
-          let place : at ≡ to + length first = omega (arith, p.at_is) in
+          let place : to + 2 * (i - from) ≡ to + length first = omega arith in
           let taken : slice from (i + 1) es ≡ slice from i es ++ (e ∷ []) = slice_more from i es d s (omega arith) ∙ ap (λ a. slice from i es ++ (a ∷ [])) (sym x) in
           let marked : first ++ marks (meaning e ∷ []) ≡ marks (map meaning (slice from (i + 1) es)) =
           sym (marks_append (map meaning (slice from i es)) (meaning e ∷ [])) ∙ ap marks (sym (map_append (slice from i es) (e ∷ [])) ∙ ap (map meaning) (sym taken)) in
@@ -155,7 +109,6 @@ module _ {l : LineValue} {from to : ℕ} {before after : List ℕ} {i at : ℕ} 
             within = omega arith;
             fits = p.fits;
             places = k;
-            at_is = omega (arith, p.at_is);
             stand =
                 z
                 ∙ (ap₂ (λ j m. placed j (marks (meaning e ∷ [])) m) place p.stand

@@ -5,10 +5,9 @@ ghost use Rattle.line_bytes.specs.ForContracts.Layout.{line_bytes, placed};
 ghost use Rattle.line_bytes.specs.ForContracts.Resting.{marks, resting_bytes};
 ghost use Rattle.lines.specs.ForContracts.Line.{resting_of, opening_line, elements_from, Writable, HasHead, ElementsFit, RemovalFits, Removes};
 
-use format::byte::wide;
 use format::limits::Limits;
 use line_bytes::edit::put;
-use line_bytes::element::{Element, Relation, put_element};
+use line_bytes::element::{Element, put_element};
 use line_bytes::layout::{COUNT, FIRST_ELEMENT, REDUCED};
 use line_bytes::rebind::rebind;
 
@@ -27,13 +26,11 @@ impl Line {
         ensures result_value { resting_of result ≡ opening_line source target }
         ensures writable { Writable result }
     {
-        let relation = Relation::Greater(source, target);
-        let element = Element { relation: relation };
         Line {
             bindings: [Limits::NO_POSITION; Limits::VARIABLES],
             count: 1,
             reduced: 0,
-            elements: [element; Limits::ELEMENTS],
+            elements: [Element::Greater(source, target); Limits::ELEMENTS],
         }
     }
 
@@ -42,17 +39,13 @@ impl Line {
         requires { place + line_bytes ≤ length memory.now }
         ensures { HasHead memory.now place result }
     {
-        let relation = Relation::Greater(0, 0);
-        let element = Element { relation: relation };
         let mut bindings = [Limits::NO_POSITION; Limits::VARIABLES];
-        for i in 0..Limits::VARIABLES {
-            bindings[i] = memory[place + i];
-        }
+        bindings.copy_from_slice(&memory[place..place + Limits::VARIABLES]);
         Line {
-            bindings: bindings,
-            count: wide(memory[place + COUNT]),
-            reduced: wide(memory[place + REDUCED]),
-            elements: [element; Limits::ELEMENTS],
+            bindings,
+            count: usize::from(memory[place + COUNT]),
+            reduced: usize::from(memory[place + REDUCED]),
+            elements: [Element::Greater(0, 0); Limits::ELEMENTS],
         }
     }
 
@@ -61,12 +54,10 @@ impl Line {
         requires { Writable self × (length line.old ≡ line_bytes) }
         ensures { line.new ≡ resting_bytes (resting_of self) }
     {
-        let bindings = self.bindings;
-        let count = self.count;
-        rebind(line, 0, &bindings);
-        line[COUNT] = count as u8;
+        rebind(line, 0, &self.bindings);
+        line[COUNT] = self.count as u8;
         self.put_elements(line, 0, FIRST_ELEMENT);
-        pad(line, FIRST_ELEMENT + 2 * count);
+        pad(line, FIRST_ELEMENT + 2 * self.count);
     }
 
     // Puts the elements from number `from` on, one behind the other from `to` on.
@@ -74,14 +65,8 @@ impl Line {
         requires { ElementsFit self from to bytes.old }
         ensures { bytes.new ≡ placed to (marks (elements_from self from)) bytes.old }
     {
-        let count = self.count;
-        let mut i = from;
-        let mut at = to;
-        while i < count {
-            let element = self.elements[i];
-            put_element(bytes, at, element);
-            i = i + 1;
-            at = at + 2;
+        for i in from..self.count {
+            put_element(bytes, to + 2 * (i - from), self.elements[i]);
         }
     }
 
@@ -108,9 +93,5 @@ fn pad(line: &mut [u8], from: usize)
     requires { (from ≤ record_bytes) × (length line.old ≡ line_bytes) }
     ensures { line.new ≡ placed from (replicate (record_bytes - from) no_position) line.old }
 {
-    let mut i = from;
-    while i < Limits::RECORD {
-        line[i] = Limits::NO_POSITION;
-        i = i + 1;
-    }
+    line[from..Limits::RECORD].fill(Limits::NO_POSITION);
 }

@@ -18,12 +18,9 @@ use Rattle.solving.specs.Turns.{table_after}
 use Rattle.solving.specs.Theory.Turns.{same_table}
 use Rattle.solving.proofs.Theory.Whole.{no_bindings_proper}
 use Rattle.walking.specs.declared.walk.Walk.{Walk}
-use Rattle.walking.specs.declared.walk.Advanced.{Advanced}
-use Rattle.walking.specs.declared.walk.WalkProgress.TheVariants.{Going, Refused}
-use Rattle.solve_equation.specs.declared.positions.WalkEnd.{WalkEnd}
-use Rattle.solve_equation.specs.declared.positions.WalkEnd.TheVariants.{Solved, Refused as Unsolved}
-use Rattle.solve_equation.specs.declared.positions.WalkResult.{WalkResult as Reported}
-use Rattle.solve_equation.specs.ForContracts.Reports.{ReportsEnd, Reports, LeavesEnd, Leaves, LeavesWalk}
+use Rattle.std.specs.Prelude.{Result, Ok, Err}
+use Rattle.solve_equation.specs.declared.positions.Solved.{Solved}
+use Rattle.solve_equation.specs.ForContracts.Reports.{Reports, Leaves, LeavesWalk}
 use Rattle.bindings.specs.ForContracts.PrefixForm.{view_of, InPrefixForm}
 use Rattle.bindings.specs.ForContracts.Bindings.{bindings_of, Readable}
 use Rattle.line_bytes.specs.ForContracts.Resting.{resting_bytes}
@@ -32,7 +29,7 @@ use Rattle.line_bytes.specs.ForContracts.Layout.{line_bytes, placed}
 use Rattle.line_bytes.specs.ForContracts.Room.{lines_bytes}
 use Rattle.walking.specs.ForContracts.WellFormed.{WellFormed}
 use Rattle.walking.specs.ForContracts.Walking.{memory_bytes, Walking}
-use Rattle.stopping.specs.ForContracts.Ends.{stop_test, stopping_walk, EndsAt, EndsAs, WalkEnds}
+use Rattle.stopping.specs.ForContracts.Ends.{stop_test, stopping_walk, EndsAt, WalkEnds}
 use Rattle.bindings.specs.Theory.PrefixForm.{form_layout}
 use Rattle.line_bytes.specs.Theory.Placed.{placed_length, placed_back}
 use Rattle.lines.specs.Theory.Line.{opening_means}
@@ -84,65 +81,52 @@ module _ {nodes sizes : List ℕ} (laid : InPrefixForm nodes sizes) (s t : ℕ) 
       }
 
 -- 2. The walk from its first line.
-pub ends_between : {nodes sizes memory : List ℕ} {stops : Bool} {s t source target : ℕ} {a : Advanced} → s ≡ source → t ≡ target → WalkEnds nodes sizes memory stops s t a → WalkEnds nodes sizes memory stops source target a
+pub ends_between : {nodes sizes memory : List ℕ} {stops : Bool} {s t source target : ℕ} {a : Result Walk Refusal} → s ≡ source → t ≡ target → WalkEnds nodes sizes memory stops s t a → WalkEnds nodes sizes memory stops source target a
 ends_between {nodes = nodes} {sizes = sizes} {memory = memory} {stops = stops} {t = t} {source = source} {a = a} x y c =
     subst (λ t. WalkEnds nodes sizes memory stops source t a) y (subst (λ s. WalkEnds nodes sizes memory stops s t a) x c)
 
 -- 3. The end of the walk, told. Nothing has stopped it, so that no line is left unfinished.
-module _ {nodes sizes memory : List ℕ} (source target : ℕ) (a : Advanced) (c : WalkEnds nodes sizes memory false source target a) where
-  comes_walk : stopping_walk false nodes sizes source target ≡ walk enough (view_of nodes sizes) source target
-  unfolding walk stop_test
-  comes_walk = refl
+comes_walk : (nodes sizes : List ℕ) (source target : ℕ) → stopping_walk false nodes sizes source target ≡ walk enough (view_of nodes sizes) source target
+unfolding walk stop_test
+comes_walk nodes sizes source target = refl
 
-  ended_at : a.progress ≡ Going → EndsAt nodes sizes memory false source target a.walk
-  ended_at e = subst (λ p. EndsAs nodes sizes memory false source target a.walk p) e c.end
-
-  all_finished : (k : EndsAt nodes sizes memory false source target a.walk) → max_lines ≤ a.walk.top
-  all_finished k = go (dec_lt a.walk.top max_lines)
+module _ {nodes sizes memory : List ℕ} (source target : ℕ) where
+  all_finished : {v : Walk} → EndsAt nodes sizes memory false source target v → max_lines ≤ v.top
+  all_finished {v} k = go (dec_lt v.top max_lines)
     where
-      go : Dec (a.walk.top < max_lines) → max_lines ≤ a.walk.top
+      go : Dec (v.top < max_lines) → max_lines ≤ v.top
       go (yes l) = false_true (k.stopped l).0
       go (no l) = omega arith
 
-  pub solved_leaves : a.progress ≡ Going → LeavesWalk nodes sizes source target memory (record { ending = Solved; lines = a.walk.done; turns = a.walk.turns })
-  solved_leaves e =
-      let k = ended_at e in
-      let x = ended nodes sizes memory a.walk k.walking (all_finished k) in
-      let same = same_table enough (view_of nodes sizes) over_limit variable_count a.walk.source a.walk.target a.walk.turns _ _ k.walking.comes x.comes in
+  pub solved_leaves : (v : Walk) → WalkEnds nodes sizes memory false source target (Ok v) → LeavesWalk nodes sizes source target memory (Ok (record { lines = v.done; turns = v.turns }))
+  solved_leaves v c =
+      let k = c.end in
+      let x = ended nodes sizes memory v k.walking (all_finished k) in
+      let same = same_table enough (view_of nodes sizes) over_limit variable_count v.source v.target v.turns _ _ k.walking.comes x.comes in
       record {
         ends = (
           k.walking.finished,
-          sym comes_walk ∙ (k.walked ∙ ap (λ t. solved t a.walk.turns) same),
+          sym (comes_walk nodes sizes source target) ∙ (k.walked ∙ ap (λ t. solved t v.turns) same),
           sym x.count_is,
           omega (arith, k.walking.holds.ordered, k.walking.holds.top_is),
           x.records_are,
         );
       }
 
-  pub refused_leaves : (why : Refusal) → a.progress ≡ Refused why → LeavesWalk nodes sizes source target memory (record { ending = Unsolved why; lines = 0; turns = 0 })
-  refused_leaves why e = record { ends = sym comes_walk ∙ subst (λ p. EndsAs nodes sizes memory false source target a.walk p) e c.end }
+  pub refused_leaves : (why : Refusal) → WalkEnds nodes sizes memory false source target (Err why) → LeavesWalk nodes sizes source target memory (Err why)
+  refused_leaves why c = record { ends = sym (comes_walk nodes sizes source target) ∙ c.end }
 
 -- 4. The records are copied to the table.
-module _ {w : Walked} {memory : List ℕ} (r : Reported) (leaves : Leaves w memory r) where
-  solved_ends : r.ending ≡ Solved → LeavesEnd w memory Solved r.lines r.turns
-  solved_ends e = subst (λ x. LeavesEnd w memory x r.lines r.turns) e leaves.ends
+module _ {w : Walked} {memory : List ℕ} where
+  pub few_lines : (s : Solved) → Leaves w memory (Ok s) → s.lines ≤ max_lines
+  few_lines s k = k.ends.3
 
-  pub few_lines : r.ending ≡ Solved → r.lines ≤ max_lines
-  few_lines e = (solved_ends e).3
+  pub solved_tells : (s : Solved) → Leaves w memory (Ok s) → length memory ≡ memory_bytes → (behind table table' : List ℕ) → table' ≡ written (take (s.lines * record_bytes) (memory ++ behind)) table
+      → Reports w table table' (Ok s)
+  solved_tells s k l behind table table' t =
+      let (ls, x, y, f, z) = k.ends in
+      let front = take-append-le (s.lines * record_bytes) memory behind (omega (arith, f, l)) in
+      record { ends = (ls, x, y, t ∙ ap (λ part. written part table) (front ∙ z)) }
 
-  pub solved_tells : r.ending ≡ Solved → length memory ≡ memory_bytes → (behind table table' : List ℕ) → table' ≡ written (take (r.lines * record_bytes) (memory ++ behind)) table
-      → Reports w table table' r
-  solved_tells e l behind table table' t =
-      let (ls, x, y, f, z) = solved_ends e in
-      let front = take-append-le (r.lines * record_bytes) memory behind (omega (arith, f, l)) in
-      record { ends = subst (λ x. ReportsEnd w table table' x r.lines r.turns) (sym e) (ls, x, y, t ∙ ap (λ part. written part table) (front ∙ z)) }
-
-  pub refused_tells : (r.ending ≡ Solved → ⊥) → (table : List ℕ) → Reports w table table r
-  refused_tells n table = go r.ending refl leaves.ends
-    where
-      go : (x : WalkEnd) → r.ending ≡ x → LeavesEnd w memory x r.lines r.turns → Reports w table table r
-      go Solved e o = absurd (n e)
-      go (Unsolved why) e o = record { ends = subst (λ x. ReportsEnd w table table x r.lines r.turns) (sym e) (o, refl) }
-
-pub not_solved : {x : WalkEnd} {why : Refusal} → x ≡ Unsolved why → x ≡ Solved → ⊥
-not_solved h e = let z : ◌≡◌ {A = ℕ} 0 1 = cc (h, e) in absurd (omega arith)
+  pub refused_tells : (why : Refusal) → Leaves w memory (Err why) → (table : List ℕ) → Reports w table table (Err why)
+  refused_tells why k table = record { ends = (k.ends, refl) }

@@ -21,7 +21,9 @@ use Rattle.solving.specs.Walk.{enough, over_limit, walk_within, walk, solve}
 use Rattle.bindings.specs.ForContracts.PrefixForm.{view_of, InPrefixForm}
 use Rattle.bindings.specs.ForContracts.Equation.{equation_sizes}
 use Rattle.bindings.specs.Theory.Equation.{length_nodes, length_sizes, size_at, equation_view, equation_form}
-use Rattle.solve_equation.specs.declared.positions.WalkResult.{WalkResult as Reported}
+use Rattle.std.specs.Prelude.{Result}
+use Rattle.format.specs.declared.refusal.Refusal.{Refusal}
+use Rattle.solve_equation.specs.declared.positions.Solved.{Solved}
 use Rattle.solve_equation.specs.ForContracts.Reports.{Leaves, LeavesWalk}
 use Rattle.solve_equation.specs.ForContracts.Equation.{EquationIs, SidesAre, EndsAre}
 use Rattle.solve_equation.specs.declared.solve.Ends.{Ends}
@@ -73,7 +75,7 @@ module _ {nodes stored_sizes : List ℕ} {e : Equation} (are : SidesAre nodes st
         rw (at.source_is, at.target_is, are.measured, spelled)
         (ap (λ v. walk_within enough v over_limit stop max_turns variable_count (source_position e d) (target_position e d)) (equation_view e are.arities are.is.few_symbols are.is.left_fits are.is.right_fits))
 
-    pub leaves_direction : (memory : List ℕ) (told : Reported) → LeavesWalk nodes stored_sizes ends.source ends.target memory told → Leaves (solve e d) memory told
+    pub leaves_direction : (memory : List ℕ) (told : Result Solved Refusal) → LeavesWalk nodes stored_sizes ends.source ends.target memory told → Leaves (solve e d) memory told
     unfolding solve walk
     leaves_direction memory told t = subst (λ w. Leaves w memory told) (walk_is (λ table. false)) t
 

@@ -7,31 +7,19 @@ ghost use Rattle.solving.specs.Always.{always};
 ghost use Rattle.bindings.specs.ForContracts.PrefixForm.{InPrefixForm};
 ghost use Rattle.walking.specs.ForContracts.Walking.{memory_bytes};
 ghost use Rattle.solve_equation.specs.ForContracts.Equation.{EquationIs, HasEquation};
-ghost use Rattle.solve_equation.specs.ForContracts.Decides.{answered_as, decided, Told};
+ghost use Rattle.solve_equation.specs.ForContracts.Decides.{answered_as, decided};
 
 use crate::positions::{MEMORY, walk_between};
 use crate::solve::ends_of;
 use format::limits::Limits;
 use format::refusal::Refusal;
 use terms::measure::measure;
-use walking::walk::WalkProgress;
 
 // Yes or no, with "the turns taken by then".
 #[derive(Clone, Copy)]
-pub enum AlwaysAnswer {
-    Yes(u16),
-    No(u16),
-    Refused(Refusal),
-}
-
-// A line is left unfinished exactly if the walk has stopped.
-fn told(top: usize, turns: u16) -> AlwaysAnswer
-    ensures { Told top turns result }
-{
-    if top < Limits::LINES {
-        return AlwaysAnswer::Yes(turns);
-    }
-    AlwaysAnswer::No(turns)
+pub struct Decision {
+    pub yes: bool,
+    pub turns: u16,
 }
 
 // The answer for source > target, over an equation's bytes and sizes. `memory` holds anything at exit.
@@ -41,18 +29,18 @@ fn decide_positions(
     source: usize,
     target: usize,
     memory: &mut [u8],
-) -> AlwaysAnswer
+) -> Result<Decision, Refusal>
     requires in_prefix_form { InPrefixForm nodes.now sizes.now × (source < length nodes.now) × (target < length nodes.now) }
     requires memory_len { length memory.old ≡ memory_bytes }
     ensures { answered_as result ≡ decided nodes.now sizes.now source target }
 {
-    let last = walk_between(nodes, sizes, source, target, true, memory);
-    let walk = last.walk;
-    let progress = last.progress;
-    match progress {
-        WalkProgress::Going => told(walk.top, walk.turns),
-        WalkProgress::Refused(why) => AlwaysAnswer::Refused(why),
-    }
+    let walk = walk_between(nodes, sizes, source, target, true, memory)?;
+    // A line is left unfinished exactly if the walk has stopped.
+    let yes = walk.top < Limits::LINES;
+    Ok(Decision {
+        yes,
+        turns: walk.turns,
+    })
 }
 
 // The answer for one direction of the equation with these bytes. Scratch holds anything in the bytes that the walk works in.
@@ -61,7 +49,7 @@ pub fn decide_equation(
     arities: &[u8],
     direction: usize,
     scratch: &mut [u8],
-) -> AlwaysAnswer
+) -> Result<Decision, Refusal>
     requires { HasEquation bytes.now arities.now × (direction < 2) × (memory_bytes ≤ length scratch.old) }
     ensures result_value { (e : Equation) (d : Direction) → EquationIs bytes.now arities.now e → direction_of direction ≡ some d → answered_as result ≡ always e d }
     ensures scratch_unchanged { drop memory_bytes scratch.new ≡ drop memory_bytes scratch.old }

@@ -12,7 +12,7 @@ use line_bytes::edit::store;
 use line_bytes::layout::LINE;
 use lines::line::Line;
 use stopping::walk::go_on;
-use walking::walk::{Advanced, Walk, WalkProgress};
+use walking::walk::Walk;
 
 // The place of the first line: the last of the memory.
 const FIRST: usize = Limits::LINES - 1;
@@ -20,17 +20,9 @@ const FIRST: usize = Limits::LINES - 1;
 // The bytes of the memory: a place for each line.
 pub const MEMORY: usize = Limits::LINES * LINE;
 
-// How a walk ends.
+// The counts of lines and turns of a walk that solves.
 #[derive(Clone, Copy)]
-pub enum WalkEnd {
-    Solved,
-    Refused(Refusal),
-}
-
-// How it ends, and the counts of lines and turns of a walk that solves.
-#[derive(Clone, Copy)]
-pub struct WalkResult {
-    pub ending: WalkEnd,
+pub struct Solved {
     pub lines: usize,
     pub turns: u16,
 }
@@ -47,8 +39,8 @@ fn begin_walk(nodes: &[u8], sizes: &[u8], source: usize, target: usize, memory: 
     opening.write(&mut line);
     store(&line, memory, FIRST * LINE);
     Walk {
-        source: source,
-        target: target,
+        source,
+        target,
         done: 0,
         top: FIRST,
         turns: 0,
@@ -64,7 +56,7 @@ pub fn walk_between(
     target: usize,
     stops: bool,
     memory: &mut [u8],
-) -> Advanced
+) -> Result<Walk, Refusal>
     requires in_prefix_form { InPrefixForm nodes.now sizes.now × (source < length nodes.now) × (target < length nodes.now) }
     requires memory_len { length memory.old ≡ memory_bytes }
     ensures { WalkEnds nodes.now sizes.now memory.new stops source target result }
@@ -83,24 +75,14 @@ pub fn walk_positions(
     source: usize,
     target: usize,
     memory: &mut [u8],
-) -> WalkResult
+) -> Result<Solved, Refusal>
     requires in_prefix_form { InPrefixForm nodes.now sizes.now × (source < length nodes.now) × (target < length nodes.now) }
     requires memory_len { length memory.old ≡ memory_bytes }
     ensures { LeavesWalk nodes.now sizes.now source target memory.new result }
 {
-    let last = walk_between(nodes, sizes, source, target, false, memory);
-    let walk = last.walk;
-    let progress = last.progress;
-    match progress {
-        WalkProgress::Going => WalkResult {
-            ending: WalkEnd::Solved,
-            lines: walk.done,
-            turns: walk.turns,
-        },
-        WalkProgress::Refused(why) => WalkResult {
-            ending: WalkEnd::Refused(why),
-            lines: 0,
-            turns: 0,
-        },
-    }
+    let walk = walk_between(nodes, sizes, source, target, false, memory)?;
+    Ok(Solved {
+        lines: walk.done,
+        turns: walk.turns,
+    })
 }

@@ -8,13 +8,13 @@ ghost use Rattle.solve_equation.specs.ForContracts.Equation.{EquationIs, HasEqua
 ghost use Rattle.walking.specs.ForContracts.Walking.{memory_bytes};
 ghost use Rattle.solve_equation.specs.ForContracts.Reports.{Reports, Leaves};
 
-use crate::positions::{MEMORY, WalkEnd, WalkResult, walk_positions};
-use format::byte::wide;
+use crate::positions::{MEMORY, Solved, walk_positions};
 use format::copy::copy_front;
 use format::limits::Limits;
+use format::refusal::Refusal;
 use terms::measure::measure;
 
-// Where the two sides of a direction stand among the equation's positions.
+// Where the two sides of a direction stand among the equation's positions. No `Sides` of `treating`, whose names would be wrong: the source may be the right side.
 #[derive(Clone, Copy)]
 pub struct Ends {
     pub source: usize,
@@ -26,7 +26,7 @@ pub fn ends_of(sizes: &[u8], direction: usize) -> Ends
     requires { (0 < length sizes.now) × (direction < 2) }
     ensures { (nodes : List ℕ) (e : Equation) (d : Direction) → SidesAre nodes sizes.now e → direction_of direction ≡ some d → EndsAre e d result }
 {
-    let right = wide(sizes[0]);
+    let right = usize::from(sizes[0]);
     if direction == 0 {
         return Ends {
             source: 0,
@@ -40,7 +40,12 @@ pub fn ends_of(sizes: &[u8], direction: usize) -> Ends
 }
 
 // The walk of one direction of the equation with these bytes and sizes. The records of the solved lines stand first in `memory`.
-pub fn walk_direction(nodes: &[u8], sizes: &[u8], direction: usize, memory: &mut [u8]) -> WalkResult
+pub fn walk_direction(
+    nodes: &[u8],
+    sizes: &[u8],
+    direction: usize,
+    memory: &mut [u8],
+) -> Result<Solved, Refusal>
     requires { HasSides nodes.now sizes.now × (direction < 2) × (length memory.old ≡ memory_bytes) }
     ensures { (e : Equation) (d : Direction) → SidesAre nodes.now sizes.now e → direction_of direction ≡ some d → Leaves (solve e d) memory.new result }
 {
@@ -55,7 +60,7 @@ pub fn solve_equation(
     direction: usize,
     table: &mut [u8],
     scratch: &mut [u8],
-) -> WalkResult
+) -> Result<Solved, Refusal>
     requires has_equation { HasEquation bytes.now arities.now × (direction < 2) }
     requires table_bytes_in_bounds { (table_bytes ≤ length table.old) × (memory_bytes ≤ length scratch.old) }
     ensures reports { (e : Equation) (d : Direction) → EquationIs bytes.now arities.now e → direction_of direction ≡ some d → Reports (solve e d) table.old table.new result }
@@ -64,11 +69,7 @@ pub fn solve_equation(
     let mut sizes = [0u8; Limits::POSITIONS];
     let n = bytes.len();
     measure(bytes, arities, &mut sizes, 0, n);
-    let walked = walk_direction(bytes, &sizes[..n], direction, &mut scratch[..MEMORY]);
-    let ending = walked.ending;
-    let WalkEnd::Solved = ending else {
-        return walked;
-    };
-    copy_front(scratch, table, walked.lines * Limits::RECORD);
-    walked
+    let solved = walk_direction(bytes, &sizes[..n], direction, &mut scratch[..MEMORY])?;
+    copy_front(scratch, table, solved.lines * Limits::RECORD);
+    Ok(solved)
 }

@@ -4,7 +4,6 @@ ghost use Rattle.bindings.specs.ForContracts.PrefixForm.{InPrefixForm};
 ghost use Rattle.bindings.specs.ForContracts.Sets.{SetOf, VariablesFrom, HasVariables};
 
 use bindings::sets::{joined, singleton};
-use format::byte::wide;
 use format::limits::Limits;
 
 // The variables of the term at `p`, where `variables` has those of the terms behind that node.
@@ -15,14 +14,14 @@ fn variables_at(nodes: &[u8], sizes: &[u8], variables: &[u16], p: usize) -> u16
 {
     let byte = nodes[p];
     if Limits::FIRST_VARIABLE <= byte {
-        return singleton(wide(byte - Limits::FIRST_VARIABLE));
+        return singleton(usize::from(byte - Limits::FIRST_VARIABLE));
     }
-    let end = p + wide(sizes[p]);
+    let end = p + usize::from(sizes[p]);
     let mut set: u16 = 0;
     let mut k = p + 1;
     while k < end {
         set = joined(set, variables[k]);
-        k = k + wide(sizes[k]);
+        k += usize::from(sizes[k]);
     }
     set
 }
@@ -32,9 +31,7 @@ pub fn collect_variables(nodes: &[u8], sizes: &[u8], variables: &mut [u16])
     requires { InPrefixForm nodes.now sizes.now × (length variables.old ≡ length nodes.now) }
     ensures { HasVariables nodes.now sizes.now variables.new }
 {
-    let mut p = nodes.len();
-    while 0 < p {
-        p = p - 1;
+    for p in (0..nodes.len()).rev() {
         let set = variables_at(nodes, sizes, variables, p);
         variables[p] = set;
     }

@@ -1,10 +1,12 @@
 -- Lines at rest, looked at for one without binding and element.
 use Prim.Native.Nat.{ℕ, zero, suc, ◌+◌, ◌-◌, ◌*◌, ◌≤◌, ◌<◌}
 use mathlib.Core.Path.{◌≡◌, refl, sym, ap, ◌∙◌}
-use mathlib.Core.Bool.{Bool, true, false, ◌&&◌, ◌||◌}
+use mathlib.Core.Bool.{Bool, true, false, ◌||◌}
 use mathlib.Core.List.{List, [], ◌∷◌, map}
 use lib.ListN.{length, get_or, take, drop, length-drop}
-use lib.Seq.{slice, take_at, drop_at, drop-drop, get_or-take, get_or-drop}
+use lib.Seq.{slice, take_at, drop_at, drop-drop, get_or-take, get_or-drop, length-take-le}
+use Rattle.std.specs.List.{between}
+use Rattle.std.specs.Bool.{Decides, one_answer}
 use borrow.Author.Tests.{lt-ltb, le-ltb}
 use native.Mathlib.Decide.{dec_lt}
 use native.Mathlib.Omega.{arith}
@@ -29,29 +31,15 @@ unfolding bindings_of binding_of all is_unbound
 all_free [] h = refl
 all_free (b ∷ bs) h = rw (le-ltb b no_position (h 0 (omega arith)), is_unbound, all) (all_free bs (λ j l. h (suc j) (omega arith)))
 
-one_bound : (bs : List ℕ) (j : ℕ) → j < length bs → get_or bs j 0 < no_position → all is_unbound (bindings_of bs) ≡ false
+free_all : (bs : List ℕ) → all is_unbound (bindings_of bs) ≡ true → (j : ℕ) → j < length bs → no_position ≤ get_or bs j 0
 unfolding bindings_of binding_of all is_unbound
-one_bound [] j l h = absurd (omega arith)
-one_bound (b ∷ bs) zero l h = rw (lt-ltb b no_position h, is_unbound, all)
-one_bound (b ∷ bs) (suc j) l h = rw (one_bound bs j (omega arith) h, all) (and_false (is_unbound (binding_of b)))
+free_all [] e j h = absurd (omega arith)
+free_all (b ∷ bs) e j h = go (free_all bs) (dec_lt b no_position) j h
   where
-    and_false : (x : Bool) → (x && false) ≡ false
-    and_false true = refl
-    and_false false = refl
-
--- None of the first `i` variables is bound.
-abbrev pub Free : (memory : List ℕ) (place i : ℕ) → Type 0
-Free memory place i = (j : ℕ) → j < i → no_position ≤ get_or memory (place + j) 0
-
-pub free_start : (memory : List ℕ) (place : ℕ) → Free memory place 0
-free_start memory place j h = absurd (omega arith)
-
-pub free_next : (memory : List ℕ) (place i : ℕ) → Free memory place i → no_position ≤ get_or memory (place + i) 0 → Free memory place (i + 1)
-free_next memory place i f h j l = go (dec_lt j i)
-  where
-    go : Dec (j < i) → no_position ≤ get_or memory (place + j) 0
-    go (yes k) = f j k
-    go (no k) = let e : j ≡ i = omega arith in rw e h
+    go : (all is_unbound (bindings_of bs) ≡ true → (j : ℕ) → j < length bs → no_position ≤ get_or bs j 0) → Dec (b < no_position) → (j : ℕ) → j < length (b ∷ bs) → no_position ≤ get_or (b ∷ bs) j 0
+    go rest (yes l) j h = let z = rw (lt-ltb b no_position l, is_unbound, all) at e in cc
+    go rest (no l) zero h = omega arith
+    go rest (no l) (suc j) h = rest (rw (le-ltb b no_position (omega arith), is_unbound, all) at e) j (omega arith)
 
 module _ (memory : List ℕ) (place : ℕ) (room : place + line_bytes ≤ length memory) where
   module _ (l : RestingLine) (slots : length l.bindings ≡ variable_count) (there : slice place (place + line_bytes) memory ≡ resting_bytes l) where
@@ -79,17 +67,18 @@ module _ (memory : List ℕ) (place : ℕ) (room : place + line_bytes ≤ length
   pub has_elements : 0 < get_or memory (place + count_place) 0 → EmptyAt memory place false
   has_elements h = record { tells = λ l slots there. some_element l slots there l.elements refl (omega (arith, count_is l slots there)) }
 
-  pub has_binding : (i : ℕ) → i < variable_count → get_or memory (place + count_place) 0 ≤ 0 → get_or memory (place + i) 0 < no_position → EmptyAt memory place false
-  has_binding i h c b = record {
+  pub has_nothing : {r : Bool} → get_or memory (place + count_place) 0 ≡ 0 → ((i : ℕ) → get_or memory i 0 < 256)
+      → Decides r ((k : ℕ) → k < length (between place (place + variable_count) memory) → get_or (between place (place + variable_count) memory) k 0 ≡ no_position) → EmptyAt memory place r
+  has_nothing {r} c small d = record {
     tells = λ l slots there.
-        no_elements l slots there l.elements refl (omega (arith, count_is l slots there)) ∙ one_bound l.bindings i (omega arith) (omega (arith, binding_is l slots there i h));
-  }
-
-  pub has_nothing : (i : ℕ) → variable_count ≤ i → get_or memory (place + count_place) 0 ≤ 0 → Free memory place i → EmptyAt memory place true
-  has_nothing i h c f = record {
-    tells = λ l slots there.
+        let part = between place (place + variable_count) memory in
+        let n : length part ≡ variable_count = length-take-le (place + variable_count - place) (drop place memory) (omega (arith, length-drop place memory)) ∙ omega arith in
+        let same : (k : ℕ) → k < variable_count → get_or part k 0 ≡ get_or l.bindings k 0 =
+        λ k h. get_or-take (place + variable_count - place) (drop place memory) k 0 (omega arith) ∙ (get_or-drop place memory k 0 ∙ binding_is l slots there k h) in
+        let all_of : Decides r ((k : ℕ) → k < length l.bindings → no_position ≤ get_or l.bindings k 0) =
+        (λ e k h. omega (arith, same k (omega arith), d.0 e k (omega arith)), λ p. d.1 (λ k h. omega (arith, same k (omega arith), p k (omega arith), binding_is l slots there k (omega arith), small (place + k)))) in
         no_elements l slots there l.elements refl (omega (arith, count_is l slots there))
-        ∙ all_free l.bindings (λ j k. omega (arith, f j (omega arith), binding_is l slots there j (omega arith)));
+        ∙ one_answer (all is_unbound (bindings_of l.bindings)) r (free_all l.bindings, all_free l.bindings) all_of;
   }
 
 -- 2. One after the other: the lines from place `i` on tell what all of them tell.

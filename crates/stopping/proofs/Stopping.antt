@@ -1,6 +1,6 @@
 -- The walk from turn to turn, until it ends, is refused, or an empty line stops it.
 use Prim.Native.Nat.{ℕ, zero, suc, ◌+◌, ◌-◌, ◌*◌, ◌≤◌, ◌<◌}
-use mathlib.Core.Path.{◌≡◌, refl, sym, ap, subst, ◌∙◌}
+use mathlib.Core.Path.{◌≡◌, refl, sym, ap, ◌∙◌}
 use mathlib.Core.Bool.{Bool, true, false}
 use mathlib.Core.Option.{some}
 use mathlib.Core.List.{List, [], ◌∷◌, ◌++◌, map}
@@ -18,13 +18,12 @@ use Rattle.bindings.specs.ForContracts.PrefixForm.{view_of}
 use Rattle.line_bytes.specs.ForContracts.Resting.{RestingLine, line_of}
 use Rattle.line_bytes.specs.ForContracts.Layout.{line_bytes}
 use Rattle.walking.specs.declared.walk.Walk.{Walk}
-use Rattle.walking.specs.declared.walk.Advanced.{Advanced}
-use Rattle.walking.specs.declared.walk.WalkProgress.{WalkProgress}
-use Rattle.walking.specs.declared.walk.WalkProgress.TheVariants.{Going, Refused}
-use Rattle.walking.specs.ForContracts.Walking.{Walking, left_to_do, GoesOn, Advances, AdvancesAs}
+use Rattle.std.specs.Prelude.{Ok, Err}
+use Rattle.format.specs.declared.refusal.Refusal.{Refusal}
+use Rattle.walking.specs.ForContracts.Walking.{Walking, left_to_do, GoesOn, Advances}
 use Rattle.walking.specs.Theory.Walking.{ended}
 use Rattle.stopping.specs.ForContracts.Empty.{AnyEmpty}
-use Rattle.stopping.specs.ForContracts.Ends.{stop_test, stopping_walk, NoneEmpty, EndsAs, WalkEnds}
+use Rattle.stopping.specs.ForContracts.Ends.{stop_test, stopping_walk, NoneEmpty, WalkEnds}
 use Rattle.stopping.specs.Theory.Stopping.{none_at_first}
 
 -- The walk under way: nothing has stopped it so far.
@@ -60,20 +59,15 @@ module _ {nodes sizes memory : List ℕ} {stops : Bool} {w v : Walk} (u : Underw
   same_walk = rw (u.same_source, u.same_target)
 
   -- It is refused.
-  pub underway_refused : {memory' : List ℕ} (a : Advanced) → Advances nodes sizes memory' v a → (a.progress ≡ Going → ⊥) → WalkEnds nodes sizes memory' stops w.source w.target a
-  underway_refused {memory' = memory'} a s n = go a.progress refl s.outcome
-    where
-      go : (p : WalkProgress) → a.progress ≡ p → AdvancesAs nodes sizes memory' v a.walk p → WalkEnds nodes sizes memory' stops w.source w.target a
-      go Going e o = absurd (n e)
-      go (Refused r) e o = record {
-        end = subst (λ p. EndsAs nodes sizes memory' stops w.source w.target a.walk p) (sym e)
-            (sym same_walk
-            ∙ (sym (walk_goes_on enough (view_of nodes sizes) over_limit variable_count v.source v.target (stop_test stops) max_turns v.turns own_table u.walking.turns_within u.walking.comes unstopped)
-            ∙ o own_table u.walking.comes (stop_test stops)));
-      }
+  pub underway_refused : {memory' : List ℕ} (r : Refusal) → Advances nodes sizes memory' v (Err r) → WalkEnds nodes sizes memory' stops w.source w.target (Err r)
+  underway_refused r s = record {
+    end = sym same_walk
+        ∙ (sym (walk_goes_on enough (view_of nodes sizes) over_limit variable_count v.source v.target (stop_test stops) max_turns v.turns own_table u.walking.turns_within u.walking.comes unstopped)
+        ∙ s.outcome own_table u.walking.comes (stop_test stops));
+  }
 
   -- It has ended.
-  pub underway_ends : max_lines ≤ v.top → WalkEnds nodes sizes memory stops w.source w.target (record { progress = Going; walk = v })
+  pub underway_ends : max_lines ≤ v.top → WalkEnds nodes sizes memory stops w.source w.target (Ok v)
   underway_ends h =
       let end = ended nodes sizes memory v u.walking h in
       let same : own_table ≡ u.walking.finished = same_table enough (view_of nodes sizes) over_limit variable_count v.source v.target v.turns own_table u.walking.finished u.walking.comes end.comes in
@@ -90,12 +84,9 @@ module _ {nodes sizes memory : List ℕ} {stops : Bool} {w v : Walk} (u : Underw
         };
       }
 
-  module _ {memory' : List ℕ} (a : Advanced) (s : Advances nodes sizes memory' v a) (e : a.progress ≡ Going) where
-    abbrev n : Walk
-    n = a.walk
-
+  module _ {memory' : List ℕ} (n : Walk) (s : Advances nodes sizes memory' v (Ok n)) where
     g : GoesOn nodes sizes memory' v n
-    g = subst (λ p. AdvancesAs nodes sizes memory' v a.walk p) e s.outcome
+    g = s.outcome
 
     pub going_falls : left_to_do n < left_to_do v
     going_falls = g.further.falls
@@ -147,7 +138,7 @@ module _ {nodes sizes memory : List ℕ} {stops : Bool} {w v : Walk} (u : Underw
               (ap (λ b. stop_test b new_table) on ∙ h) (λ i table p q y. unstopped i table p (omega arith) y)
               ∙ ap (solved new_table) (sym z)
 
-      pub underway_stops : {r : Bool} → AnyEmpty memory' n.top (v.top + 1) r → r ≡ true → WalkEnds nodes sizes memory' stops w.source w.target (record { progress = Going; walk = n })
+      pub underway_stops : {r : Bool} → AnyEmpty memory' n.top (v.top + 1) r → r ≡ true → WalkEnds nodes sizes memory' stops w.source w.target (Ok n)
       underway_stops t f =
           let h = looked_over t ∙ f in
           record {

@@ -6,7 +6,8 @@ ghost use Rattle.stopping.specs.ForContracts.Ends.{NoneEmpty, WalkEnds};
 
 use crate::empty::any_empty;
 use format::limits::Limits;
-use walking::walk::{Advanced, Walk, WalkProgress, going};
+use format::refusal::Refusal;
+use walking::walk::Walk;
 
 // Until no line is unfinished, or the walk is refused; where it `stops`, also until a turn makes a line without binding and element, which is then left among
 // the unfinished ones. After a turn only its new lines are looked at: they stand from the new first place to the former first place.
@@ -18,25 +19,18 @@ pub fn go_on(
     sizes: &[u8],
     variables: &[u16],
     memory: &mut [u8],
-) -> Advanced
+) -> Result<Walk, Refusal>
     requires walking { Walking nodes.now sizes.now memory.old walk × HasVariables nodes.now sizes.now variables.now }
     requires none_empty { stops ≡ true → NoneEmpty nodes.now sizes.now walk }
     ensures { WalkEnds nodes.now sizes.now memory.new stops walk.source walk.target result }
 {
     let mut cursor = walk;
     while cursor.top < Limits::LINES {
-        let next = cursor.turn(nodes, sizes, variables, memory);
-        let progress = next.progress;
-        let WalkProgress::Going = progress else {
-            return next;
-        };
         let end = cursor.top + 1;
-        cursor = next.walk;
-        if stops {
-            if any_empty(memory, cursor.top, end) {
-                return going(cursor);
-            }
+        cursor = cursor.turn(nodes, sizes, variables, memory)?;
+        if stops && any_empty(memory, cursor.top, end) {
+            return Ok(cursor);
         }
     }
-    going(cursor)
+    Ok(cursor)
 }

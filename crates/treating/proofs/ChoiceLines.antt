@@ -1,5 +1,5 @@
 -- The choices of an inequality: the bytes of their lines, how many there are, and how long.
-use Prim.Native.Nat.{ℕ, zero, suc, ◌+◌, ◌≤◌, ◌<◌}
+use Prim.Native.Nat.{ℕ, suc, min, ◌+◌, ◌<◌}
 use mathlib.Core.Path.{◌≡◌, refl, ap, ap₂, ◌∙◌}
 use mathlib.Core.List.{List, [], ◌∷◌, ◌++◌, map, append_assoc, append-nil}
 use lib.ListN.{length, length-append, length-map}
@@ -11,7 +11,7 @@ use Rattle.line_bytes.specs.ForContracts.Resting.{marks, padding, resting_bytes}
 use Rattle.line_bytes.specs.ForContracts.Room.{lines_bytes, front_bytes, back_bytes}
 use Rattle.treating.specs.ForContracts.Choices.{choices_bytes}
 use Rattle.treating.specs.ForContracts.Children.{child}
-use Rattle.treating.specs.ForContracts.Splitting.{AllLong, lesser}
+use Rattle.treating.specs.ForContracts.Splitting.{AllLong}
 use Rattle.line_bytes.specs.Theory.Resting.{marks_append}
 
 -- 1. Their bytes, where all choices have `n` elements.
@@ -47,30 +47,11 @@ lexicographic_long p [] ts = tt
 lexicographic_long p (s ∷ ss) [] = tt
 lexicographic_long p (s ∷ ss) (t ∷ ts) = (omega (arith, exceeds_long p ts), long_map (length ts) (equal s t) (lexicographic_choices p ss ts) (lexicographic_long p ss ts))
 
-pub lexicographic_count : (p : ℕ) (ss ts : List ℕ) → length (lexicographic_choices p ss ts) ≡ lesser (length ss) (length ts)
-unfolding lexicographic_choices lesser
-lexicographic_count p [] ts = refl
-lexicographic_count p (s ∷ ss) [] = refl
-lexicographic_count p (s ∷ ss) (t ∷ ts) = ap suc (length-map (lexicographic_choices p ss ts) (equal s t ∷◌) ∙ lexicographic_count p ss ts)
-
-pub lesser_le : (m n : ℕ) → lesser m n ≤ m
-unfolding lesser
-lesser_le zero n = omega arith
-lesser_le (suc m) zero = omega arith
-lesser_le (suc m) (suc n) = omega (arith, lesser_le m n)
-
-pub lesser_left : (m n : ℕ) → m ≤ n → lesser m n ≡ m
-unfolding lesser
-lesser_left zero n h = refl
-lesser_left (suc m) zero h = absurd (omega arith)
-lesser_left (suc m) (suc n) h = ap suc (lesser_left m n (omega arith))
-
-pub lesser_right : (m n : ℕ) → n ≤ m → lesser m n ≡ n
-unfolding lesser
-lesser_right zero zero h = refl
-lesser_right zero (suc n) h = absurd (omega arith)
-lesser_right (suc m) zero h = refl
-lesser_right (suc m) (suc n) h = ap suc (lesser_right m n (omega arith))
+pub lexicographic_count : (p : ℕ) (ss ts : List ℕ) → length (lexicographic_choices p ss ts) ≡ min (length ss) (length ts)
+unfolding lexicographic_choices
+lexicographic_count p [] ts = omega arith
+lexicographic_count p (s ∷ ss) [] = omega arith
+lexicographic_count p (s ∷ ss) (t ∷ ts) = omega (arith, length-map (lexicographic_choices p ss ts) (equal s t ∷◌), lexicographic_count p ss ts)
 
 -- 2. The choices by the order of the symbols.
 module _ (p q f g : ℕ) (ss ts : List ℕ) where

@@ -1,5 +1,5 @@
 -- The lines of the choices of an inequality, one group behind the other.
-use Prim.Native.Nat.{ℕ, zero, suc, ◌+◌, ◌*◌, ◌≤◌, ◌<◌}
+use Prim.Native.Nat.{ℕ, zero, suc, min, ◌+◌, ◌*◌, ◌≤◌, ◌<◌}
 use mathlib.Core.Path.{◌≡◌, refl, sym, ap, ap₂, subst, ◌∙◌}
 use mathlib.Core.List.{List, [], ◌∷◌, ◌++◌, map, map-append, append-nil}
 use lib.ListN.{length, get_or, set, length-append, length-set}
@@ -12,7 +12,7 @@ use Rattle.solving.specs.Line.{Element}
 use Rattle.solving.specs.Walk.{argument_choices, exceeds_each, lexicographic_choices, choices}
 use Rattle.bindings.specs.ForContracts.PrefixForm.{arguments_of}
 use Rattle.bindings.specs.ForContracts.Count.{HasRow, CountsRow}
-use Rattle.treating.specs.declared.choices.CountedArguments.{CountedArguments}
+use Rattle.treating.specs.declared.split.CountedArguments.{CountedArguments}
 use Rattle.treating.specs.declared.treat.Sides.{Sides}
 use Rattle.line_bytes.specs.ForContracts.Resting.{marks, RestingLine, resting_bytes}
 use Rattle.line_bytes.specs.ForContracts.Layout.{first_element, reduced_place, count_place, line_bytes, placed}
@@ -20,12 +20,12 @@ use Rattle.line_bytes.specs.ForContracts.Room.{lines_bytes, Gap, front_bytes, ba
 use Rattle.treating.specs.ForContracts.Choices.{ExceedingFit, FillsExceeding, choices_bytes, ArgumentsFit, PushesArguments, LexicographicFit, PushesLexicographic}
 use Rattle.treating.specs.declared.split.Choices.{Choices}
 use Rattle.treating.specs.ForContracts.Children.{child}
-use Rattle.treating.specs.ForContracts.Splitting.{lesser, AllLong, CountsLastChoices, TooLong, span_of, HasArguments, ChoicesOf, Splitting, ChoicesFit}
+use Rattle.treating.specs.ForContracts.Splitting.{AllLong, CountsLastChoices, TooLong, span_of, HasArguments, ChoicesOf, Splitting, ChoicesFit}
 use Rattle.bindings.specs.Theory.PrefixForm.{row_unique}
 use Rattle.line_bytes.specs.Theory.Resting.{length_marks, length_resting, count_there, set_reduced}
 use Rattle.line_bytes.specs.Theory.Placed.{placed_behind, placed_length}
 use Rattle.line_bytes.specs.Theory.InPlace.{lines_append}
-use Rattle.treating.proofs.ChoiceLines.{child_bytes, children_bytes, exceeds_long, lexicographic_long, lexicographic_count, lesser_le, choices_less, choices_more, choices_same}
+use Rattle.treating.proofs.ChoiceLines.{child_bytes, children_bytes, exceeds_long, lexicographic_long, lexicographic_count, choices_less, choices_more, choices_same}
 use Rattle.treating.specs.Theory.Choices.{argument_long}
 
 -- 1. How many choices come last.
@@ -35,15 +35,15 @@ last_more f g m n h = record {
   few = omega arith;
 }
 
-pub last_same : (f g m n r : ℕ) → f ≡ g → r ≡ lesser m n → CountsLastChoices f g m n r
+pub last_same : (f g m n r : ℕ) → f ≡ g → r ≡ min m n → CountsLastChoices f g m n r
 last_same f g m n r h e = record {
   counts = λ p q ss ts x y. record {
     lasts = lexicographic_choices p ss ts;
     are = choices_same p q f g ss ts h;
     long = lexicographic_long p ss ts;
-    count = lexicographic_count p ss ts ∙ (ap₂ lesser x y ∙ sym e);
+    count = lexicographic_count p ss ts ∙ (ap₂ min x y ∙ sym e);
   };
-  few = omega (arith, e, lesser_le m n);
+  few = omega (arith, e);
 }
 
 pub last_none : (f g m n : ℕ) → f ≤ g → (f ≡ g → ⊥) → CountsLastChoices f g m n 0
@@ -64,7 +64,7 @@ module _ {sizes : List ℕ} {p : ℕ} (h : HasArguments sizes p) (size : ℕ) wh
   pub arguments_row : size ≡ get_or sizes p 0 → HasRow sizes (p + 1) (p + size)
   arguments_row e = rw e (record { starts = arguments_of sizes p; row = h.row; within = h.within })
 
-  pub arguments_counted : (r : ℕ) → size ≡ get_or sizes p 0 → CountsRow sizes (p + 1) (p + size) r → ◌≡◌ {A = CountedArguments} (record { from = p + 1; end = p + size; count = r }) (span_of sizes p)
+  pub arguments_counted : (r : ℕ) → size ≡ get_or sizes p 0 → CountsRow sizes (p + 1) (p + size) r → ◌≡◌ {A = CountedArguments} (record { row = record { from = p + 1; end = p + size }; count = r }) (span_of sizes p)
   arguments_counted r e c =
       let n : r ≡ length (arguments_of sizes p) = c.counts (arguments_of sizes p) (rw e h.row) in
       rw (n, e)
@@ -114,16 +114,16 @@ module _ {sizes line : List ℕ} {d : Choices} {bindings : List ℕ} {pre post :
 
   -- Where the arguments of f stand, and those of g.
   abbrev k : ℕ
-  k = d.left.from
+  k = d.left.row.from
 
   abbrev m : ℕ
-  m = d.left.end
+  m = d.left.row.end
 
   abbrev l : ℕ
-  l = d.right.from
+  l = d.right.row.from
 
   abbrev n : ℕ
-  n = d.right.end
+  n = d.right.row.end
 
   abbrev count : ℕ
   count = d.right.count

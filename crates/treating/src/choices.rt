@@ -1,31 +1,22 @@
 // The lines of the choices of an inequality, put into the memory of the walk.
 ghost use Rattle.treating.specs.ForContracts.Choices.{ExceedingFit, FillsExceeding, ArgumentsFit, PushesArguments, EqualFit, MarksEqual, LexicographicFit, PushesLexicographic};
 
-use format::byte::wide;
 use line_bytes::edit::{put, store_with};
 use line_bytes::element::EQUALITY;
 use line_bytes::layout::LINE;
-
-// The arguments of a term: `count` terms, which stand one behind the other from `from` to `end`.
-#[derive(Clone, Copy)]
-pub struct CountedArguments {
-    pub from: usize,
-    pub end: usize,
-    pub count: usize,
-}
+use terms::arguments::Arguments;
 
 // Puts p > t, for each argument t, one behind the other from `at` on.
-pub fn fill_exceeding(sizes: &[u8], line: &mut [u8], at: usize, p: u8, arguments: CountedArguments)
+pub fn fill_exceeding(sizes: &[u8], line: &mut [u8], at: usize, p: u8, arguments: Arguments)
     requires { ExceedingFit sizes.now at arguments.from arguments.end line.old }
     ensures { FillsExceeding sizes.now at p arguments.from arguments.end line.old line.new }
 {
-    let end = arguments.end;
     let mut t = arguments.from;
     let mut place = at;
-    while t < end {
+    while t < arguments.end {
         put(line, place, p, t as u8);
-        place = place + 2;
-        t = t + wide(sizes[t]);
+        place += 2;
+        t += usize::from(sizes[t]);
     }
 }
 
@@ -35,21 +26,20 @@ pub fn push_arguments(
     line: &[u8],
     at: usize,
     q: u8,
-    arguments: CountedArguments,
+    arguments: Arguments,
     records: &mut [u8],
     to: usize,
 ) -> usize
     requires { ArgumentsFit sizes.now at q arguments.from arguments.end to line.now records.old }
     ensures { PushesArguments sizes.now at q arguments.from arguments.end to line.now records.old records.new result }
 {
-    let end = arguments.end;
     let mut s = arguments.from;
     let mut next = to;
-    while s < end {
+    while s < arguments.end {
         store_with(line, at, s as u8, q, records, next);
         store_with(line, at, s as u8 + EQUALITY, q, records, next + LINE);
-        next = next + LINE + LINE;
-        s = s + wide(sizes[s]);
+        next += 2 * LINE;
+        s += usize::from(sizes[s]);
     }
     next
 }
@@ -63,8 +53,8 @@ fn mark_equal(sizes: &[u8], bytes: &mut [u8], at: usize, k: usize, end: usize)
     let mut place = at;
     while s < end {
         bytes[place] = s as u8 + EQUALITY;
-        place = place + 2;
-        s = s + wide(sizes[s]);
+        place += 2;
+        s += usize::from(sizes[s]);
     }
 }
 
@@ -74,31 +64,25 @@ pub fn push_lexicographic(
     sizes: &[u8],
     line: &[u8],
     at: usize,
-    left: CountedArguments,
-    right: CountedArguments,
+    left: Arguments,
+    right: Arguments,
     records: &mut [u8],
     to: usize,
 ) -> usize
     requires { LexicographicFit sizes.now at left.from left.end right.from right.end to line.now records.old }
     ensures { PushesLexicographic sizes.now at left.from left.end right.from right.end to line.now records.old records.new result }
 {
-    let k = left.from;
-    let m = left.end;
-    let n = right.end;
-    let mut s = k;
+    let mut s = left.from;
     let mut t = right.from;
     let mut place = at;
     let mut next = to;
-    while s < m {
-        if n <= t {
-            return next;
-        }
+    while s < left.end && t < right.end {
         store_with(line, place, s as u8, t as u8, records, next);
-        mark_equal(sizes, records, next + at, k, s);
-        place = place + 2;
-        next = next + LINE;
-        s = s + wide(sizes[s]);
-        t = t + wide(sizes[t]);
+        mark_equal(sizes, records, next + at, left.from, s);
+        place += 2;
+        next += LINE;
+        s += usize::from(sizes[s]);
+        t += usize::from(sizes[t]);
     }
     next
 }

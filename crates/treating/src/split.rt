@@ -1,23 +1,14 @@
 // The lines of the choices of an inequality.
 ghost use Rattle.std.specs.Prelude.{◌≡◌};
-ghost use Rattle.treating.specs.ForContracts.Splitting.{lesser, CountsLastChoices, TooLong, span_of, HasArguments, HasChoices, ChoicesOf, ChoicesFit, PushesChoices};
+ghost use Rattle.treating.specs.ForContracts.Splitting.{CountsLastChoices, TooLong, span_of, HasArguments, HasChoices, ChoicesOf, ChoicesFit, PushesChoices};
 
-use crate::choices::{CountedArguments, fill_exceeding, push_arguments, push_lexicographic};
+use crate::choices::{fill_exceeding, push_arguments, push_lexicographic};
 use crate::treat::Sides;
 use bindings::count::row_count;
-use format::byte::wide;
 use format::limits::Limits;
 use line_bytes::edit::{make_room, store};
 use line_bytes::layout::{FIRST_ELEMENT, REDUCED};
-
-fn lesser(a: usize, b: usize) -> usize
-    ensures { result ≡ lesser a b }
-{
-    if a < b {
-        return a;
-    }
-    b
-}
+use terms::arguments::Arguments;
 
 // How many choices there are besides those of the arguments of f, which has `m` and g `n`.
 pub fn count_last_choices(f: u8, g: u8, m: usize, n: usize) -> usize
@@ -27,7 +18,7 @@ pub fn count_last_choices(f: u8, g: u8, m: usize, n: usize) -> usize
         return 1;
     }
     if f == g {
-        return lesser(m, n);
+        return m.min(n);
     }
     0
 }
@@ -36,10 +27,14 @@ pub fn count_last_choices(f: u8, g: u8, m: usize, n: usize) -> usize
 pub fn too_long(last: usize, elements: usize) -> bool
     ensures { TooLong last elements result }
 {
-    if last == 0 {
-        return false;
-    }
-    Limits::ELEMENTS < elements
+    0 < last && Limits::ELEMENTS < elements
+}
+
+// The arguments of a term, and how many they are.
+#[derive(Clone, Copy)]
+pub struct CountedArguments {
+    pub row: Arguments,
+    pub count: usize,
 }
 
 // The arguments of the term at `p`.
@@ -47,11 +42,11 @@ fn counted_arguments(sizes: &[u8], p: usize) -> CountedArguments
     requires { HasArguments sizes.now p }
     ensures { result ≡ span_of sizes.now p }
 {
-    let end = p + wide(sizes[p]);
+    let from = p + 1;
+    let end = p + usize::from(sizes[p]);
     CountedArguments {
-        from: p + 1,
-        end: end,
-        count: row_count(sizes, p + 1, end),
+        row: Arguments { from, end },
+        count: row_count(sizes, from, end),
     }
 }
 
@@ -72,22 +67,20 @@ pub fn choices_of(nodes: &[u8], sizes: &[u8], at: usize, sides: Sides, terms: Si
     requires { HasChoices nodes.now sizes.now sides terms }
     ensures { ChoicesOf nodes.now sizes.now at sides terms result }
 {
-    let s = terms.left;
-    let t = terms.right;
-    let f = nodes[s];
-    let g = nodes[t];
-    let left = counted_arguments(sizes, s);
-    let right = counted_arguments(sizes, t);
+    let f = nodes[terms.left];
+    let g = nodes[terms.right];
+    let left = counted_arguments(sizes, terms.left);
+    let right = counted_arguments(sizes, terms.right);
     let last = count_last_choices(f, g, left.count, right.count);
     Choices {
-        at: at,
+        at,
         p: sides.left as u8,
         q: sides.right as u8,
-        f: f,
-        g: g,
-        left: left,
-        right: right,
-        last: last,
+        f,
+        g,
+        left,
+        right,
+        last,
     }
 }
 
@@ -99,18 +92,17 @@ pub fn push_choices(sizes: &[u8], line: &mut [u8], memory: &mut [u8], choices: C
     let at = choices.at;
     let left = choices.left;
     let right = choices.right;
-    let last = choices.last;
     line[REDUCED] = at as u8;
     let place = 2 * at + FIRST_ELEMENT;
-    let next = push_arguments(sizes, line, place, choices.q, left, memory, to);
-    if last == 0 {
+    let next = push_arguments(sizes, line, place, choices.q, left.row, memory, to);
+    if choices.last == 0 {
         return;
     }
     make_room(line, at, right.count);
-    fill_exceeding(sizes, line, place, choices.p, right);
+    fill_exceeding(sizes, line, place, choices.p, right.row);
     if choices.g < choices.f {
         store(line, memory, next);
         return;
     }
-    push_lexicographic(sizes, line, place, left, right, memory, next);
+    push_lexicographic(sizes, line, place, left.row, right.row, memory, next);
 }

@@ -9,9 +9,8 @@ ghost use Rattle.treating.specs.ForContracts.Treatment.{Treated};
 
 use bindings::occurs::occurs_at;
 use bindings::reach::reached;
-use format::byte::wide;
 use format::limits::Limits;
-use line_bytes::element::{Element, Relation};
+use line_bytes::element::Element;
 
 // The positions of an element's two sides, or of the terms reached from them.
 #[derive(Clone, Copy)]
@@ -34,8 +33,8 @@ fn element_sides(p: u8, q: u8) -> Sides
     ensures { result ≡ record { left = p; right = q } }
 {
     Sides {
-        left: wide(p),
-        right: wide(q),
+        left: usize::from(p),
+        right: usize::from(q),
     }
 }
 
@@ -62,7 +61,7 @@ fn inequality_treatment(
             sizes,
             variables,
             bindings,
-            wide(f - Limits::FIRST_VARIABLE),
+            usize::from(f - Limits::FIRST_VARIABLE),
             q,
         ) {
             return Treatment::DropLine;
@@ -76,7 +75,7 @@ fn inequality_treatment(
             sizes,
             variables,
             bindings,
-            wide(g - Limits::FIRST_VARIABLE),
+            usize::from(g - Limits::FIRST_VARIABLE),
             p,
         ) {
             return Treatment::DropElement;
@@ -98,15 +97,14 @@ pub fn treatment_of(
     requires within { Within (length nodes.now) (meaning element) }
     ensures { Treated nodes.now sizes.now bindings.now (meaning element) result }
 {
-    let relation = element.relation;
-    match relation {
-        Relation::Greater(p, q) => inequality_treatment(
+    match element {
+        Element::Greater(p, q) => inequality_treatment(
             nodes,
             sizes,
             variables,
             bindings,
             element_sides(p, q),
         ),
-        Relation::Equal(p, q) => Treatment::Unify(element_sides(p, q)),
+        Element::Equal(p, q) => Treatment::Unify(element_sides(p, q)),
     }
 }

@@ -1,7 +1,6 @@
 -- The first unfinished line is filled in, and looked through for the leftmost element that is not fully reduced.
 use Prim.Native.Nat.{ℕ, suc, ◌+◌, ◌*◌, ◌≤◌, ◌<◌}
 use mathlib.Core.Path.{◌≡◌, refl, sym, ap, ap₂, subst, ◌∙◌}
-use mathlib.Core.Logic.{◌⊎◌, inl, inr}
 use mathlib.Core.Option.{some}
 use mathlib.Core.List.{List, [], ◌∷◌, ◌++◌, map}
 use lib.ListN.{length, get_or, set, take, drop, length-set, get_or-map}
@@ -11,7 +10,7 @@ use native.Mathlib.Numerals.{add-one}
 use native.Mathlib.Omega.{arith}
 use Rattle.format.specs.Limits.{variable_count, max_elements, max_lines, max_turns}
 use Rattle.format.specs.Theory.Lists.{every_append, every_at}
-use Rattle.solving.specs.Line.{Element, greater, Line}
+use Rattle.solving.specs.Line.{greater, Line}
 use Rattle.solving.specs.ForContracts.Within.{Within}
 use Rattle.solving.specs.Walk.{treat, enough, fully_reduced}
 use Rattle.bindings.specs.ForContracts.Bindings.{Readable, bindings_of}
@@ -20,7 +19,7 @@ use Rattle.bindings.specs.ForContracts.PrefixForm.{view_of}
 use Rattle.line_bytes.specs.declared.element.Element.{Element as Held}
 use Rattle.lines.specs.declared.line.Line.{Line as LineValue}
 use Rattle.line_bytes.specs.ForContracts.Layout.{count_place, first_element, reduced_place, line_bytes}
-use Rattle.line_bytes.specs.ForContracts.Resting.{said, meaning, marked, RestingLine, line_of, resting_bytes}
+use Rattle.line_bytes.specs.ForContracts.Resting.{meaning, marked, RestingLine, line_of, resting_bytes}
 use Rattle.lines.specs.ForContracts.Line.{HasHead, elements_from, Carries}
 use Rattle.line_bytes.specs.Theory.Resting.{count_there, reduced_there, element_there}
 use Rattle.lines.specs.Theory.Line.{unfilled, elements_hold}
@@ -151,7 +150,7 @@ searching_start nodes sizes memory place line = record {
 
 -- The element that is looked at.
 looked_at : {l : LineValue} {s : RestingLine} {i : ℕ} → Carries l s → s.reduced ≤ i → i < l.count → meaning (get_or l.elements i unfilled) ≡ get_or s.elements i (greater 0 0)
-unfolding elements_from meaning said
+unfolding elements_from meaning
 looked_at {l = l} {s = s} {i = i} h a b =
     let part = slice i l.count l.elements in
     let e : i + 0 ≡ i = omega arith in
@@ -228,25 +227,21 @@ module _ {nodes sizes memory : List ℕ} {w : Walk} (k : Walking nodes sizes mem
   own_line : Carries line (opened k h).first
   own_line = filled_holds k h d f full
 
-  same_treated : (t : Treatment) (e : Element) → Treated nodes sizes start.bindings e t → Treated nodes sizes line.bindings e t
-  same_treated t e y = subst (λ bs. Treated nodes sizes bs e t) (sym f.same_bindings) y
+  pub filled_readable : Readable nodes sizes line.bindings
+  filled_readable = rw f.same_bindings (head_readable k h d)
 
-  pub head_within : i < start.count → Within (length nodes) (meaning (get_or line.elements i unfilled))
-  head_within b = looking_asks k h own_line s (omega (arith, f.same_count))
+  pub filled_few : line.count ≤ max_elements
+  filled_few = omega (arith, f.same_count, head_few k h d)
 
-  module _ (b : i < start.count) (t : Treatment) (y : Treated nodes sizes start.bindings (meaning (get_or line.elements i unfilled)) t) where
+  pub head_within : i < line.count → Within (length nodes) (meaning (get_or line.elements i unfilled))
+  head_within b = looking_asks k h own_line s b
+
+  module _ (b : i < line.count) (t : Treatment) (y : Treated nodes sizes line.bindings (meaning (get_or line.elements i unfilled)) t) where
     pub head_next : t ≡ Reduced → Searching nodes sizes memory (w.top * line_bytes) line (i + 1)
-    head_next z = searching_next s (omega (arith, f.same_count)) t (same_treated t _ y) z
+    head_next z = searching_next s b t y z
 
     pub head_treating : (memory' : List ℕ) → memory' ≡ memory → TreatingLine nodes sizes memory' w line i t
-    head_treating memory' m = subst (λ b. TreatingLine nodes sizes b w line i t) (sym m) (treating k h own_line s (omega (arith, f.same_count)) t (same_treated t _ y))
+    head_treating memory' m = subst (λ b. TreatingLine nodes sizes b w line i t) (sym m) (treating k h own_line s b t y)
 
-  pub head_finishing : start.count ≤ i → (memory' : List ℕ) → memory' ≡ memory → Finishing nodes sizes memory' w
-  head_finishing b memory' m = subst (λ b. Finishing nodes sizes b w) (sym m) (finishing k h own_line s (omega (arith, f.same_count)))
-
--- A number that tells one of the other treatments is not that of the first.
-pub not_first : {n : ℕ} → (n ≡ 1) ⊎ ((n ≡ 2) ⊎ ((n ≡ 3) ⊎ (n ≡ 4))) → n ≡ 0 → ⊥
-not_first (inl e) z = omega arith
-not_first (inr (inl e)) z = omega arith
-not_first (inr (inr (inl e))) z = omega arith
-not_first (inr (inr (inr e))) z = omega arith
+  pub head_finishing : line.count ≤ i → (memory' : List ℕ) → memory' ≡ memory → Finishing nodes sizes memory' w
+  head_finishing b memory' m = subst (λ b. Finishing nodes sizes b w) (sym m) (finishing k h own_line s b)

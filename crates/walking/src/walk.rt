@@ -15,10 +15,8 @@ ghost use Rattle.std.specs.Prelude.{◌≡◌, ◌+◌, ◌<◌};
 ghost use Rattle.format.specs.Limits.{max_lines, max_turns};
 ghost use Rattle.bindings.specs.ForContracts.Sets.{HasVariables};
 ghost use Rattle.treating.specs.declared.treat.Treatment.TheVariants.{DropElement, Reduced, Split, Unify};
-ghost use Rattle.walking.specs.declared.walk.WalkProgress.TheVariants.{Going};
 ghost use Rattle.walking.specs.ForContracts.Walking.{Walking, Finishing, TreatingLine, TreatingCount, GoesOn, Advances};
 
-use format::byte::wide;
 use format::limits::Limits;
 use format::refusal::Refusal;
 use line_bytes::edit::load;
@@ -30,7 +28,6 @@ use lines::line::Line;
 use treating::split::{choices_of, push_choices, too_long};
 use treating::treat::{Sides, Treatment, treatment_of};
 use unifying::unifier::unify_positions;
-use unifying::unify::UnifierAnswer;
 
 // Where the walk stands: the two sides' positions, how many lines are finished, the place of the first unfinished line, and how many turns are taken.
 #[derive(Clone, Copy)]
@@ -42,19 +39,6 @@ pub struct Walk {
     pub turns: u16,
 }
 
-// Whether the walk goes on.
-#[derive(Clone, Copy)]
-pub enum WalkProgress {
-    Going,
-    Refused(Refusal),
-}
-
-#[derive(Clone, Copy)]
-pub struct Advanced {
-    pub progress: WalkProgress,
-    pub walk: Walk,
-}
-
 impl Walk {
     // The first unfinished line is finished, which costs no turn: its record stands behind those of the others.
     fn finish(self, nodes: &[u8], sizes: &[u8], memory: &mut [u8]) -> Walk
@@ -63,11 +47,9 @@ impl Walk {
     {
         write_record(memory, self.top * LINE, self.done * Limits::RECORD);
         Walk {
-            source: self.source,
-            target: self.target,
             done: self.done + 1,
             top: self.top + 1,
-            turns: self.turns,
+            ..self
         }
     }
 
@@ -77,11 +59,9 @@ impl Walk {
         ensures { result ≡ record { source = self.source; target = self.target; done = self.done; top = top; turns = self.turns + 1 } }
     {
         Walk {
-            source: self.source,
-            target: self.target,
-            done: self.done,
-            top: top,
+            top,
             turns: self.turns + 1,
+            ..self
         }
     }
 
@@ -116,19 +96,21 @@ impl Walk {
         ensures { GoesOn nodes.now sizes.now memory.new self result }
     {
         let place = self.top * LINE;
-        let bindings = line.bindings;
-        let unifier = unify_positions(nodes, sizes, variables, &bindings, sides.left, sides.right);
-        let answer = unifier.answer;
-        let UnifierAnswer::Unified = answer else {
+        let Some(others) = unify_positions(
+            nodes,
+            sizes,
+            variables,
+            &line.bindings,
+            sides.left,
+            sides.right,
+        ) else {
             return self.turned(self.top + 1);
         };
         // The bytes at `place` are compared and not `line.bindings`, which they equal: local arrays that are compared the compiler splits into single bytes.
-        let others = unifier.bindings;
         let changed = differ(memory, place, &others);
         line.put_without(memory, place, at);
         if changed {
             rebind(memory, place, &others);
-            return self.turned(self.top);
         }
         self.turned(self.top)
     }
@@ -143,35 +125,28 @@ impl Walk {
         at: usize,
         sides: Sides,
         terms: Sides,
-    ) -> Advanced
+    ) -> Result<Walk, Refusal>
         requires { TreatingCount nodes.now sizes.now memory.old self count at (Split sides terms) }
         ensures { Advances nodes.now sizes.now memory.new self result }
     {
         let choices = choices_of(nodes, sizes, at, sides, terms);
-        let left = choices.left;
-        let right = choices.right;
-        let last = choices.last;
-        if too_long(last, count - 1 + right.count) {
-            return Advanced {
-                progress: WalkProgress::Refused(Refusal::TooManyElements),
-                walk: self,
-            };
+        let left = choices.left.count;
+        let right = choices.right.count;
+        if too_long(choices.last, count - 1 + right) {
+            return Err(Refusal::TooManyElements);
         }
-        let number = left.count + left.count + last;
+        let number = left + left + choices.last;
         if self.top + 1 < self.done + number {
-            return Advanced {
-                progress: WalkProgress::Refused(Refusal::TooManyLines),
-                walk: self,
-            };
+            return Err(Refusal::TooManyLines);
         }
         let first = self.top + 1 - number;
         let mut line = [Limits::NO_POSITION; LINE];
         load(memory, self.top * LINE, &mut line);
         push_choices(sizes, &mut line, memory, choices, first * LINE);
-        going(self.turned(first))
+        Ok(self.turned(first))
     }
 
-    // Does what element number `element` asks for, which is one turn.
+    // Does what element number `at` asks for, which is one turn.
     fn treat(
         self,
         line: Line,
@@ -179,24 +154,20 @@ impl Walk {
         sizes: &[u8],
         variables: &[u16],
         memory: &mut [u8],
-        element: u8,
+        at: usize,
         treatment: Treatment,
-    ) -> Advanced
-        requires { TreatingLine nodes.now sizes.now memory.old self line element treatment × (treatment ≡ Reduced → ⊥) × HasVariables nodes.now sizes.now variables.now }
+    ) -> Result<Walk, Refusal>
+        requires { TreatingLine nodes.now sizes.now memory.old self line at treatment × (treatment ≡ Reduced → ⊥) × HasVariables nodes.now sizes.now variables.now }
         ensures { Advances nodes.now sizes.now memory.new self result }
     {
         if self.turns == Limits::TURNS {
-            return Advanced {
-                progress: WalkProgress::Refused(Refusal::TooManyTurns),
-                walk: self,
-            };
+            return Err(Refusal::TooManyTurns);
         }
-        let at = wide(element);
         match treatment {
-            Treatment::Reduced => going(self),
-            Treatment::DropLine => going(self.turned(self.top + 1)),
-            Treatment::DropElement => going(self.drop_element(line, nodes, sizes, memory, at)),
-            Treatment::Unify(sides) => going(self.unify(
+            Treatment::Reduced => Ok(self),
+            Treatment::DropLine => Ok(self.turned(self.top + 1)),
+            Treatment::DropElement => Ok(self.drop_element(line, nodes, sizes, memory, at)),
+            Treatment::Unify(sides) => Ok(self.unify(
                 line, nodes, sizes, variables, memory, at, sides,
             )),
             Treatment::Split(sides, terms) => self.split(
@@ -207,37 +178,33 @@ impl Walk {
 
     // "Take the first unfinished line and in it the leftmost element that is not fully reduced. Treating it is one turn." A line that has none is finished.
     // The line is filled and searched here, where it is a local: handed to a function it would be copied before each search.
-    pub fn turn(self, nodes: &[u8], sizes: &[u8], variables: &[u16], memory: &mut [u8]) -> Advanced
+    pub fn turn(
+        self,
+        nodes: &[u8],
+        sizes: &[u8],
+        variables: &[u16],
+        memory: &mut [u8],
+    ) -> Result<Walk, Refusal>
         requires { Walking nodes.now sizes.now memory.old self × (self.top < max_lines) × HasVariables nodes.now sizes.now variables.now }
         ensures { Advances nodes.now sizes.now memory.new self result }
     {
         let place = self.top * LINE;
         let mut line = Line::head(memory, place);
-        let bindings = line.bindings;
-        let count = line.count;
-        let mut i = line.reduced;
-        while i < count {
+        for i in line.reduced..line.count {
             line.elements[i] = element_at(memory, place + FIRST_ELEMENT + 2 * i);
-            i = i + 1;
         }
-        i = line.reduced;
-        while i < count {
-            let element = line.elements[i];
-            let treatment = treatment_of(nodes, sizes, variables, &bindings, element);
+        for at in line.reduced..line.count {
+            let treatment = treatment_of(
+                nodes,
+                sizes,
+                variables,
+                &line.bindings,
+                line.elements[at],
+            );
             let Treatment::Reduced = treatment else {
-                return self.treat(line, nodes, sizes, variables, memory, i as u8, treatment);
+                return self.treat(line, nodes, sizes, variables, memory, at, treatment);
             };
-            i = i + 1;
         }
-        going(self.finish(nodes, sizes, memory))
-    }
-}
-
-pub fn going(walk: Walk) -> Advanced
-    ensures { result ≡ record { progress = Going; walk = walk } }
-{
-    Advanced {
-        progress: WalkProgress::Going,
-        walk: walk,
+        Ok(self.finish(nodes, sizes, memory))
     }
 }

@@ -1,5 +1,5 @@
 -- The end of a walk that a line without binding and element may stop.
-use Rattle.std.specs.Prelude.{ℕ, ◌≤◌, ◌<◌, ◌≡◌, Bool, true, false, List, ◌++◌, map}
+use Rattle.std.specs.Prelude.{ℕ, ◌≤◌, ◌<◌, ◌≡◌, Bool, true, false, List, ◌++◌, map, Result, MatchResult}
 use Rattle.std.proofs.Math.Option.{some}
 use Rattle.format.specs.Limits.{variable_count, max_lines, max_turns}
 use Rattle.solving.specs.Line.{Line}
@@ -8,9 +8,7 @@ use Rattle.solving.specs.Always.{has_empty}
 use Rattle.bindings.specs.ForContracts.PrefixForm.{view_of}
 use Rattle.line_bytes.specs.ForContracts.Resting.{line_of}
 use Rattle.walking.specs.declared.walk.Walk.{Walk}
-use Rattle.walking.specs.declared.walk.WalkProgress.{WalkProgress}
-use Rattle.walking.specs.declared.walk.WalkProgress.TheVariants.{Going, Refused}
-use Rattle.walking.specs.declared.walk.Advanced.{Advanced}
+use Rattle.format.specs.declared.refusal.Refusal.{Refusal}
 use Rattle.walking.specs.ForContracts.Walking.{table_reached, Walking}
 
 -- What stops the walk: an empty line, or nothing.
@@ -34,9 +32,6 @@ pub record EndsAt (nodes sizes memory : List ℕ) (stops : Bool) (source target 
   pub stopped : v.top < max_lines → (stops ≡ true) × (has_empty (walking.finished ++ map line_of walking.unfinished) ≡ true)
   pub not_stopped : max_lines ≤ v.top → stops ≡ true → has_empty (walking.finished ++ map line_of walking.unfinished) ≡ false
 
-abbrev pub EndsAs : (nodes sizes memory : List ℕ) (stops : Bool) (source target : ℕ) (v : Walk) → WalkProgress → Type 0
-EndsAs nodes sizes memory stops source target v Going = EndsAt nodes sizes memory stops source target v
-EndsAs nodes sizes memory stops source target v (Refused r) = stopping_walk stops nodes sizes source target ≡ refused r
-
-pub record WalkEnds (nodes sizes memory : List ℕ) (stops : Bool) (source target : ℕ) (a : Advanced) : Type 0 where
-  pub end : EndsAs nodes sizes memory stops source target a.walk a.progress
+-- It has ended so, or it is refused.
+pub record WalkEnds (nodes sizes memory : List ℕ) (stops : Bool) (source target : ℕ) (a : Result Walk Refusal) : Type 0 where
+  pub end : MatchResult a (EndsAt nodes sizes memory stops source target) (λ r. stopping_walk stops nodes sizes source target ≡ refused r)

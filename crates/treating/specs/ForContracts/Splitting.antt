@@ -1,22 +1,18 @@
 -- The choices of an inequality between two terms that are no variables.
-use Rattle.std.specs.Prelude.{ℕ, zero, suc, ◌+◌, ◌*◌, ◌≤◌, ◌<◌, ◌≡◌, Bool, true, false, List, ◌∷◌, ◌++◌, map, length, get_or}
+use Rattle.std.specs.Prelude.{ℕ, ◌+◌, ◌*◌, ◌≤◌, ◌<◌, ◌≡◌, Bool, true, false, List, ◌∷◌, ◌++◌, map, length, get_or}
 use Rattle.format.specs.Limits.{variable_count, max_elements}
 use Rattle.format.specs.Lists.{Every}
 use Rattle.solving.specs.Line.{Element}
 use Rattle.solving.specs.Walk.{argument_choices, choices}
+use Rattle.terms.specs.ForContracts.Arguments.{arguments_at}
 use Rattle.bindings.specs.ForContracts.PrefixForm.{Row, arguments_of}
-use Rattle.treating.specs.declared.choices.CountedArguments.{CountedArguments}
+use Rattle.treating.specs.declared.split.CountedArguments.{CountedArguments}
 use Rattle.treating.specs.declared.treat.Sides.{Sides}
 use Rattle.treating.specs.declared.split.Choices.{Choices}
 use Rattle.line_bytes.specs.ForContracts.Resting.{equality_mark, resting_bytes}
 use Rattle.line_bytes.specs.ForContracts.Layout.{line_bytes, placed}
 use Rattle.line_bytes.specs.ForContracts.Room.{lines_bytes}
 use Rattle.treating.specs.ForContracts.Children.{child}
-
-unfoldable pub lesser : ℕ → ℕ → ℕ
-lesser zero n = 0
-lesser (suc m) zero = 0
-lesser (suc m) (suc n) = suc (lesser m n)
 
 -- Lists of `n` elements.
 abbrev pub AllLong : ℕ → List (List Element) → Type 0
@@ -40,7 +36,7 @@ pub record TooLong (last elements : ℕ) (r : Bool) : Type 0 where
 
 -- The arguments of the term at `p`.
 abbrev pub span_of : (sizes : List ℕ) → ℕ → CountedArguments
-span_of sizes p = record { from = p + 1; end = p + get_or sizes p 0; count = length (arguments_of sizes p) }
+span_of sizes p = record { row = arguments_at sizes p; count = length (arguments_of sizes p) }
 
 pub record HasArguments (sizes : List ℕ) (p : ℕ) : Type 0 where
   pub inside : p < length sizes
@@ -79,10 +75,10 @@ pub record Splitting (sizes line : List ℕ) (d : Choices) (bindings : List ℕ)
   pub slots : length bindings ≡ variable_count
   pub line_is : line ≡ resting_bytes (record { bindings = bindings; elements = pre ++ (element ∷ post); reduced = reduced })
   pub at_is : length pre ≡ d.at
-  pub left_row : Row sizes d.left.from d.left.end ss
-  pub right_row : Row sizes d.right.from d.right.end ts
-  pub left_within : d.left.end ≤ length sizes
-  pub right_within : d.right.end ≤ length sizes
+  pub left_row : Row sizes d.left.row.from d.left.row.end ss
+  pub right_row : Row sizes d.right.row.from d.right.row.end ts
+  pub left_within : d.left.row.end ≤ length sizes
+  pub right_within : d.right.row.end ≤ length sizes
   pub few_sizes : length sizes ≤ equality_mark
   pub count_is : length ts ≡ d.right.count
   pub last_choices : LastChoices d.p d.q d.f d.g ss ts d.last

@@ -1,5 +1,5 @@
 -- The memory of the walk, and what it means.
-use Rattle.std.specs.Prelude.{ℕ, ◌+◌, ◌-◌, ◌*◌, ◌≤◌, ◌<◌, ◌≡◌, Bool, false, List, ◌∷◌, ◌++◌, map, length, take, drop}
+use Rattle.std.specs.Prelude.{ℕ, ◌+◌, ◌-◌, ◌*◌, ◌≤◌, ◌<◌, ◌≡◌, Bool, false, List, ◌∷◌, ◌++◌, map, length, take, drop, Result, MatchResult}
 use Rattle.std.proofs.Math.Option.{Option, none, some}
 use Rattle.format.specs.Limits.{variable_count, max_lines, max_turns, record_bytes}
 use Rattle.format.specs.declared.refusal.Refusal.{Refusal}
@@ -10,9 +10,6 @@ use Rattle.solving.specs.Walk.{enough, treat_line, crowded, refused, over_limit,
 use Rattle.solving.specs.Turns.{table_after}
 use Rattle.treating.specs.declared.treat.Treatment.{Treatment}
 use Rattle.walking.specs.declared.walk.Walk.{Walk}
-use Rattle.walking.specs.declared.walk.WalkProgress.{WalkProgress}
-use Rattle.walking.specs.declared.walk.WalkProgress.TheVariants.{Going, Refused}
-use Rattle.walking.specs.declared.walk.Advanced.{Advanced}
 use Rattle.bindings.specs.ForContracts.PrefixForm.{view_of, InPrefixForm}
 use Rattle.line_bytes.specs.ForContracts.Resting.{RestingLine, line_of}
 use Rattle.lines.specs.declared.line.Line.{Line as LineValue}
@@ -127,9 +124,6 @@ Earns nodes sizes w r =
     (table : List Line) → table_reached nodes sizes w ≡ some table → (stop : List Line → Bool)
     → walk_until enough (view_of nodes sizes) over_limit stop (max_turns - w.turns) w.turns table ≡ refused r
 
-abbrev pub AdvancesAs : (nodes sizes memory : List ℕ) (w v : Walk) → WalkProgress → Type 0
-AdvancesAs nodes sizes memory w v Going = GoesOn nodes sizes memory w v
-AdvancesAs nodes sizes memory w v (Refused r) = Earns nodes sizes w r
-
-pub record Advances (nodes sizes memory : List ℕ) (w : Walk) (a : Advanced) : Type 0 where
-  pub outcome : AdvancesAs nodes sizes memory w a.walk a.progress
+-- What a turn answers.
+pub record Advances (nodes sizes memory : List ℕ) (w : Walk) (a : Result Walk Refusal) : Type 0 where
+  pub outcome : MatchResult a (GoesOn nodes sizes memory w) (Earns nodes sizes w)

@@ -1,19 +1,12 @@
--- Goals of `pad`.
-use native.Mathlib.Omega.{arith}
-use Rattle.lines.proofs.Writing.{padding_start, padding_length, padding_next, padding_done}
+-- `pad` fills the rest of a line.
+use Rattle.std.proofs.Common.{◌-◌, ap, ◌∙◌, drop, replicate, length-take-le, length-drop, sym, arith}
+use Rattle.std.proofs.lemmas.List.{length-replicate}
+use Rattle.format.specs.Limits.{no_position, record_bytes}
+use Rattle.line_bytes.specs.Theory.Placed.{part_placed}
 use Rattle.lines.proofs.line.pad.Goals as goal
 
-pub loop-i-init : goal.loop-i-init
-loop-i-init c = padding_start _ _ c.requires.0 c.requires.1
-
-pub bounds-line-i : goal.bounds-line-i
-bounds-line-i c = let p = c.loop-i.invariant in omega (arith, padding_length p, p.whole)
-
-pub loop-i-preserved : goal.loop-i-preserved
-loop-i-preserved c = padding_next c.loop-i.invariant c.loop-i-test.true
-
-pub shape_of-line : goal.shape_of-line
-shape_of-line c = padding_length c.loop-i.invariant
-
 pub returns : goal.returns
-returns c = padding_done c.loop-i.invariant c.loop-i-test.false
+returns c =
+    let behind = length-drop c.args.from c.args.line.now in
+    let room = length-take-le (record_bytes - c.args.from) (drop c.args.from c.args.line.now) (omega (arith, c.requires.0, c.requires.1)) in
+    part_placed _ _ _ _ _ (c.fill.ensures.after (λ y e. e) ∙ ap (λ n. replicate n no_position) room) (sym (length-replicate (record_bytes - c.args.from) no_position))

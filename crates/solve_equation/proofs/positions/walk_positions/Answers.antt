@@ -1,11 +1,12 @@
 -- `walk_positions` meets its contract.
+use Rattle.std.proofs.lemmas.Result.{err_from_is_err_and}
 use Rattle.solve_equation.proofs.Begin.{solved_leaves, refused_leaves}
 use Rattle.solve_equation.proofs.positions.walk_positions.Goals as goal
 
-pub returns-in-Going : goal.returns-in-Going
-returns-in-Going c =
-    solved_leaves c.args.source c.args.target c.walk_between-last.result c.walk_between-last.ensures c.in-Going.is
+pub returns : goal.returns
+returns c = solved_leaves c.args.source c.args.target c.in_ok-walk.walk c.in_ok-walk.ensures
 
-pub returns-in-Refused : goal.returns-in-Refused
-returns-in-Refused c =
-    refused_leaves c.args.source c.args.target c.walk_between-last.result c.walk_between-last.ensures c.in-Refused.why c.in-Refused.is
+pub returns-in_err-walk : goal.returns-in_err-walk
+returns-in_err-walk c =
+    let p = err_from_is_err_and c.from_residual.result c.from_residual.ensures.1 in
+    rw (p.1, p.2) (refused_leaves c.args.source c.args.target _ c.in_err-walk.ensures)

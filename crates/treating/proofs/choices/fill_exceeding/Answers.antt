@@ -13,11 +13,11 @@ put-requires c = omega (arith, exceeding_place _ c.args.p _ c.loop-t.invariant.f
 pub loop-t-smaller : goal.loop-t-smaller
 loop-t-smaller c =
     let e = exceeding_size _ c.args.p _ c.loop-t.invariant.fits c.loop-t-test.true in
-    omega (arith, c.wide-t.ensures.value, c.loop-t-test.true)
+    omega (arith, c.from-t.ensures, c.loop-t-test.true)
 
 pub loop-t-preserved : goal.loop-t-preserved
 loop-t-preserved c =
-    filling_next _ _ _ c.wide-t.result (c.loop-t.place + 2) c.put.new.line c.loop-t.invariant c.loop-t-test.true c.put.ensures c.wide-t.ensures.value (omega arith)
+    filling_next _ _ _ c.from-t.result (c.loop-t.place + 2) c.put.new.line c.loop-t.invariant c.loop-t-test.true c.put.ensures c.from-t.ensures (omega arith)
 
 pub shape_of-line : goal.shape_of-line
 shape_of-line c = c.loop-t.invariant.kept

@@ -4,7 +4,7 @@ use Rattle.treating.proofs.Exceeding.{FillingExceeding}
 use Rattle.treating.proofs.choices.fill_exceeding.Given as goal
 
 abbrev pub invariant-loop-t : goal.invariant-loop-t
-invariant-loop-t l = FillingExceeding l.sizes l.p l.end l.initial.t l.at l.initial.line l.t l.place l.line
+invariant-loop-t l = FillingExceeding l.sizes l.p l.arguments.end l.initial.t l.at l.initial.line l.t l.place l.line
 
 abbrev pub decreases-loop-t : goal.decreases-loop-t
-decreases-loop-t l = l.end - l.t
+decreases-loop-t l = l.arguments.end - l.t

@@ -13,10 +13,10 @@ bounds-bytes-place c = omega (arith, equal_place _ _ c.loop-s.invariant.fits c.l
 pub loop-s-smaller : goal.loop-s-smaller
 loop-s-smaller c =
     let e = equal_size _ _ c.loop-s.invariant.fits c.loop-s-test.true in
-    omega (arith, c.wide-s.ensures.value, c.loop-s-test.true)
+    omega (arith, c.from-s.ensures, c.loop-s-test.true)
 
 pub loop-s-preserved : goal.loop-s-preserved
-loop-s-preserved c = marking_next _ _ c.wide-s.result (c.loop-s.place + 2) c.loop-s.invariant c.loop-s-test.true c.wide-s.ensures.value (omega arith)
+loop-s-preserved c = marking_next _ _ c.from-s.result (c.loop-s.place + 2) c.loop-s.invariant c.loop-s-test.true c.from-s.ensures (omega arith)
 
 pub shape_of-bytes : goal.shape_of-bytes
 shape_of-bytes c = c.loop-s.invariant.kept

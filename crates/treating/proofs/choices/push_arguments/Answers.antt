@@ -1,5 +1,5 @@
 -- Goals of `push_arguments`.
-use Prim.Native.Nat.{◌+◌}
+use Prim.Native.Nat.{◌+◌, ◌*◌}
 use mathlib.Core.Path.{◌∙◌}
 use native.Mathlib.Omega.{arith}
 use Rattle.line_bytes.specs.ForContracts.Layout.{line_bytes}
@@ -19,12 +19,12 @@ store_with-requires-in-loop-s c =
 pub loop-s-smaller : goal.loop-s-smaller
 loop-s-smaller c =
     let e = arguments_size _ _ _ _ _ c.loop-s.invariant.fits c.loop-s-test.true in
-    omega (arith, c.wide-s.ensures.value, c.loop-s-test.true)
+    omega (arith, c.from-s.ensures, c.loop-s-test.true)
 
 pub loop-s-preserved : goal.loop-s-preserved
 loop-s-preserved c =
-    pushing_next _ _ _ _ _ c.wide-s.result (c.loop-s.next + line_bytes + line_bytes) c.store_with.new.records c.store_with-in-loop-s.new.records c.loop-s.invariant c.loop-s-test.true
-    c.store_with.ensures c.store_with-in-loop-s.ensures (c.store_with-in-loop-s.auto.records ∙ c.store_with.auto.records) c.wide-s.ensures.value (omega arith)
+    pushing_next _ _ _ _ _ c.from-s.result (c.loop-s.next + 2 * line_bytes) c.store_with.new.records c.store_with-in-loop-s.new.records c.loop-s.invariant c.loop-s-test.true
+    c.store_with.ensures c.store_with-in-loop-s.ensures (c.store_with-in-loop-s.auto.records ∙ c.store_with.auto.records) c.from-s.ensures (omega arith)
 
 pub shape_of-records : goal.shape_of-records
 shape_of-records c = c.loop-s.invariant.kept

@@ -4,7 +4,7 @@ use Rattle.treating.proofs.Arguments.{PushingArguments}
 use Rattle.treating.proofs.choices.push_arguments.Given as goal
 
 abbrev pub invariant-loop-s : goal.invariant-loop-s
-invariant-loop-s l = PushingArguments l.sizes l.at l.q l.end l.line l.initial.s l.to l.initial.records l.s l.next l.records
+invariant-loop-s l = PushingArguments l.sizes l.at l.q l.arguments.end l.line l.initial.s l.to l.initial.records l.s l.next l.records
 
 abbrev pub decreases-loop-s : goal.decreases-loop-s
-decreases-loop-s l = l.end - l.s
+decreases-loop-s l = l.arguments.end - l.s

@@ -6,7 +6,7 @@ pub returns-then-g-f : goal.returns-then-g-f
 returns-then-g-f c = last_more c.args.f c.args.g c.args.m c.args.n c.if-g-f.true
 
 pub returns-then-f-g : goal.returns-then-f-g
-returns-then-f-g c = last_same c.args.f c.args.g c.args.m c.args.n c.lesser.result c.if-f-g.true c.lesser.ensures
+returns-then-f-g c = last_same c.args.f c.args.g c.args.m c.args.n c.min.result c.if-f-g.true c.min.ensures
 
 pub returns : goal.returns
 returns c = last_none c.args.f c.args.g c.args.m c.args.n c.if-g-f.false c.if-f-g.false

@@ -2,4 +2,4 @@
 use Rattle.treating.proofs.treat.element_sides.Goals as goal
 
 pub returns : goal.returns
-returns c = rw (c.wide.ensures.value, c.wide-2.ensures.value)
+returns c = rw (c.from.ensures, c.from-2.ensures)

@@ -1,7 +1,6 @@
 -- Goals of `put_elements`.
 use mathlib.Core.Path.{refl}
-use native.Mathlib.Omega.{arith}
-use Rattle.lines.proofs.Writing.{putting_start, putting_length, putting_room, putting_markable, putting_next, putting_done}
+use Rattle.lines.proofs.Writing.{putting_start, putting_room, putting_markable, putting_next, putting_done}
 use Rattle.lines.proofs.Sizes.{elements_places}
 use Rattle.lines.proofs.line.Line.put_elements.Goals as goal
 
@@ -14,14 +13,8 @@ put_element-requires c =
     let h = c.loop-i-test.true in
     (putting_room p h, putting_markable p h _ _ refl)
 
-pub overflow_add-at : goal.overflow_add-at
-overflow_add-at c = omega (arith, putting_room c.loop-i.invariant c.loop-i-test.true, putting_length c.loop-i.invariant)
-
 pub loop-i-preserved : goal.loop-i-preserved
 loop-i-preserved c = putting_next c.loop-i.invariant c.loop-i-test.true _ _ refl _ c.put_element.ensures
-
-pub shape_of-bytes : goal.shape_of-bytes
-shape_of-bytes c = putting_length c.loop-i.invariant
 
 pub returns : goal.returns
 returns c = putting_done c.loop-i.invariant c.loop-i-test.false

@@ -1,10 +1,6 @@
 -- `Line::put_elements` puts a line's elements. The loop's invariant, `Putting`: those passed stand there.
-use Prim.Native.Nat.{◌-◌}
 use Rattle.lines.proofs.Writing.{Putting}
 use Rattle.lines.proofs.line.Line.put_elements.Given as goal
 
 abbrev pub invariant-loop-i : goal.invariant-loop-i
-invariant-loop-i l = Putting l.self l.from l.to l.initial.bytes l.bytes l.i l.at
-
-abbrev pub decreases-loop-i : goal.decreases-loop-i
-decreases-loop-i l = l.count - l.i
+invariant-loop-i l = Putting l.self l.from l.to l.initial.bytes l.bytes l.i

@@ -59,4 +59,4 @@ turned-requires c =
 
 pub returns : goal.returns
 returns c =
-    rw (c.going.ensures, c.turned.ensures) (record { outcome = split_goes_on c.requires c.choices_of-choices.result c.choices_of-choices.ensures (c.too_long.ensures.fits c.if-too_long.false) c.load.new.line c.load.ensures c.if-self-number.false c.push_choices.new.memory _ refl c.push_choices.ensures })
+    rw c.turned.ensures (record { outcome = split_goes_on c.requires c.choices_of-choices.result c.choices_of-choices.ensures (c.too_long.ensures.fits c.if-too_long.false) c.load.new.line c.load.ensures c.if-self-number.false c.push_choices.new.memory _ refl c.push_choices.ensures })

@@ -3,7 +3,7 @@ use mathlib.Core.Path.{ap, ◌∙◌}
 use lib.ListN.{length}
 use mathlib.Core.Path.{refl}
 use native.Mathlib.Omega.{arith}
-use Rattle.walking.proofs.Searching.{filling_start, filling_next, searching_start, place_there, head_few, head_readable, head_within, head_next, head_treating, head_finishing}
+use Rattle.walking.proofs.Searching.{filling_start, filling_next, searching_start, place_there, head_few, filled_readable, filled_few, head_within, head_next, head_treating, head_finishing}
 use Rattle.walking.proofs.walk.Walk.turn.Goals as goal
 
 pub head-line-requires : goal.head-line-requires
@@ -36,53 +36,49 @@ pub loop-i-preserved : goal.loop-i-preserved
 loop-i-preserved c =
     filling_next c.loop-i.invariant (omega (arith, head_few c.requires.0 c.requires.1 c.head-line.ensures)) _ c.element_at.ensures
 
-pub loop-i-2-init : goal.loop-i-2-init
-loop-i-2-init c = (refl, searching_start _ _ _ _ _)
+pub loop-at-init : goal.loop-at-init
+loop-at-init c = (refl, searching_start _ _ _ _ _)
 
-pub offset_bounds-line-i-in-loop-i-2 : goal.offset_bounds-line-i-in-loop-i-2
-offset_bounds-line-i-in-loop-i-2 c =
-    omega (arith, head_few c.requires.0 c.requires.1 c.head-line.ensures)
+pub offset_bounds-line-at : goal.offset_bounds-line-at
+offset_bounds-line-at c =
+    omega (arith, filled_few c.requires.0 c.requires.1 c.head-line.ensures c.loop-i.invariant c.loop-i-test.false c.loop-at.invariant.1, c.loop-at-test.true)
 
-pub bounds-line-i-in-loop-i-2 : goal.bounds-line-i-in-loop-i-2
-bounds-line-i-in-loop-i-2 c =
-    omega (arith, head_few c.requires.0 c.requires.1 c.head-line.ensures)
+pub bounds-line-at : goal.bounds-line-at
+bounds-line-at c =
+    omega (arith, filled_few c.requires.0 c.requires.1 c.head-line.ensures c.loop-i.invariant c.loop-i-test.false c.loop-at.invariant.1, c.loop-at-test.true)
 
 pub treatment_of-treatment-requires : goal.treatment_of-treatment-requires
 treatment_of-treatment-requires c =
     let filled = c.loop-i.invariant in
     let full = c.loop-i-test.false in
-    record { readable = (head_readable c.requires.0 c.requires.1 c.head-line.ensures, c.requires.2); within = head_within c.requires.0 c.requires.1 c.head-line.ensures filled full c.loop-i-2.invariant.1 c.loop-i-2-test.true }
-
-pub overflow_cast-i : goal.overflow_cast-i
-overflow_cast-i c =
-    omega (arith, head_few c.requires.0 c.requires.1 c.head-line.ensures)
+    record { readable = (filled_readable c.requires.0 c.requires.1 c.head-line.ensures filled full c.loop-at.invariant.1, c.requires.2); within = head_within c.requires.0 c.requires.1 c.head-line.ensures filled full c.loop-at.invariant.1 c.loop-at-test.true }
 
 pub treat-requires : goal.treat-requires
 treat-requires c =
     let filled = c.loop-i.invariant in
     let full = c.loop-i-test.false in
-    (head_treating c.requires.0 c.requires.1 c.head-line.ensures filled full c.loop-i-2.invariant.1 c.loop-i-2-test.true c.treatment_of-treatment.result c.treatment_of-treatment.ensures _ c.loop-i-2.invariant.0, c.in_default.not-Reduced, c.requires.2)
+    (head_treating c.requires.0 c.requires.1 c.head-line.ensures filled full c.loop-at.invariant.1 c.loop-at-test.true c.treatment_of-treatment.result c.treatment_of-treatment.ensures _ c.loop-at.invariant.0, c.in_default.not-Reduced, c.requires.2)
 
 pub shape_of-memory-in_default : goal.shape_of-memory-in_default
-shape_of-memory-in_default c = c.treat.auto.memory ∙ ap length c.loop-i-2.invariant.0
+shape_of-memory-in_default c = c.treat.auto.memory ∙ ap length c.loop-at.invariant.0
 
 pub returns-in_default : goal.returns-in_default
 returns-in_default c = c.treat.ensures
 
-pub loop-i-2-preserved : goal.loop-i-2-preserved
-loop-i-2-preserved c =
+pub loop-at-preserved : goal.loop-at-preserved
+loop-at-preserved c =
     let filled = c.loop-i.invariant in
     let full = c.loop-i-test.false in
-    (c.loop-i-2.invariant.0, head_next c.requires.0 c.requires.1 c.head-line.ensures filled full c.loop-i-2.invariant.1 c.loop-i-2-test.true c.treatment_of-treatment.result c.treatment_of-treatment.ensures c.in-Reduced.is)
+    (c.loop-at.invariant.0, head_next c.requires.0 c.requires.1 c.head-line.ensures filled full c.loop-at.invariant.1 c.loop-at-test.true c.treatment_of-treatment.result c.treatment_of-treatment.ensures c.in-Reduced.is)
 
 pub finish-requires : goal.finish-requires
 finish-requires c =
     let filled = c.loop-i.invariant in
     let full = c.loop-i-test.false in
-    head_finishing c.requires.0 c.requires.1 c.head-line.ensures filled full c.loop-i-2.invariant.1 c.loop-i-2-test.false _ c.loop-i-2.invariant.0
+    head_finishing c.requires.0 c.requires.1 c.head-line.ensures filled full c.loop-at.invariant.1 c.loop-at-test.false _ c.loop-at.invariant.0
 
 pub shape_of-memory : goal.shape_of-memory
-shape_of-memory c = c.finish.auto.memory ∙ ap length c.loop-i-2.invariant.0
+shape_of-memory c = c.finish.auto.memory ∙ ap length c.loop-at.invariant.0
 
 pub returns : goal.returns
-returns c = rw c.going.ensures (record { outcome = c.finish.ensures })
+returns c = record { outcome = c.finish.ensures }
