@@ -1,8 +1,6 @@
 // The terms of a row, counted.
 ghost use Rattle.bindings.specs.ForContracts.Count.{HasRow, CountsRow};
 
-use format::byte::wide;
-
 // The number of terms from `k` to `end`.
 pub fn row_count(sizes: &[u8], k: usize, end: usize) -> usize
     requires { HasRow sizes.now k end }
@@ -11,8 +9,8 @@ pub fn row_count(sizes: &[u8], k: usize, end: usize) -> usize
     let mut count = 0;
     let mut t = k;
     while t < end {
-        count = count + 1;
-        t = t + wide(sizes[t]);
+        count += 1;
+        t += usize::from(sizes[t]);
     }
     count
 }

@@ -9,7 +9,6 @@ ghost use Rattle.bindings.specs.ForContracts.Bindings.{bindings_of, Readable};
 ghost use Rattle.bindings.specs.ForContracts.Sets.{HasVariables};
 
 use crate::sets::{joined, lowest_beside, singleton};
-use format::byte::wide;
 use format::limits::Limits;
 
 // Whether the free variable `v` occurs in the term at `p`.
@@ -37,7 +36,7 @@ pub fn occurs_at(
         through = joined(through, singleton(w));
         let next = bindings[w];
         if next < Limits::NO_POSITION {
-            seen = joined(seen, variables[wide(next)]);
+            seen = joined(seen, variables[usize::from(next)]);
         }
     }
     false

@@ -4,7 +4,6 @@ ghost use Rattle.solving.specs.Walk.{enough, reach};
 ghost use Rattle.bindings.specs.ForContracts.PrefixForm.{view_of};
 ghost use Rattle.bindings.specs.ForContracts.Bindings.{bindings_of, Readable};
 
-use format::byte::wide;
 use format::limits::Limits;
 
 // The position reached from `p` through the bindings. A variable is bound to a term or to a higher variable.
@@ -14,18 +13,16 @@ pub fn reached(nodes: &[u8], sizes: &[u8], bindings: &[u8], p: usize) -> usize
     ensures upper_bound { result < length nodes.now }
 {
     let mut at = p;
-    let mut hops = Limits::VARIABLES;
-    while 0 < hops {
+    for _hop in 0..Limits::VARIABLES {
         let byte = nodes[at];
         if byte < Limits::FIRST_VARIABLE {
             return at;
         }
-        let next = bindings[wide(byte - Limits::FIRST_VARIABLE)];
+        let next = bindings[usize::from(byte - Limits::FIRST_VARIABLE)];
         if next == Limits::NO_POSITION {
             return at;
         }
-        at = wide(next);
-        hops = hops - 1;
+        at = usize::from(next);
     }
     at
 }

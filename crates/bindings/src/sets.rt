@@ -23,5 +23,5 @@ pub fn lowest_beside(set: u16, part: u16) -> usize
     requires { Within part set × (set ≡ part → ⊥) }
     ensures { Has set result × (Has part result → ⊥) }
 {
-    u16::trailing_zeros(set ^ part) as usize
+    (set ^ part).trailing_zeros() as usize
 }

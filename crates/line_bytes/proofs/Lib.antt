@@ -1,6 +1,5 @@
 -- Laws that the proofs of the functions share.
 pub mod Rebinding
-pub mod Recording
 pub mod Shifting
 pub mod Widening
 pub mod Elements

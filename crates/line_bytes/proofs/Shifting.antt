@@ -44,23 +44,23 @@ slice_set_behind : (f t i a : ℕ) (l : List ℕ) → t ≤ i → slice f t (set
 slice_set_behind f t i a l h = ap (drop f) (take-set-le t l i a h)
 
 -- The bytes from `i` on are still to be moved to the left.
-pub record ShiftingLeft (from end : ℕ) (before : List ℕ) (i : ℕ) (line : List ℕ) : Type 0 where
-  pub low : 2 ≤ i
+pub record ShiftingLeft (from end by : ℕ) (before : List ℕ) (i : ℕ) (line : List ℕ) : Type 0 where
+  pub low : by ≤ i
   pub within : i ≤ end
   pub inside : end ≤ length line
   pub kept : length line ≡ length before
-  pub rest : placed (i - 2) (slice i end line) line ≡ placed (from - 2) (slice from end before) before
+  pub rest : placed (i - by) (slice i end line) line ≡ placed (from - by) (slice from end before) before
 
-pub left_start : (from end : ℕ) (line : List ℕ) → 2 ≤ from → from ≤ end → end ≤ length line → ShiftingLeft from end line from line
-left_start from end line a b c = record { low = a; within = b; inside = c; kept = refl; rest = refl }
+pub left_start : (from end by : ℕ) (line : List ℕ) → by ≤ from → from ≤ end → end ≤ length line → ShiftingLeft from end by line from line
+left_start from end by line a b c = record { low = a; within = b; inside = c; kept = refl; rest = refl }
 
-pub left_next : {from end i : ℕ} {before line : List ℕ} → ShiftingLeft from end before i line → i < end → ShiftingLeft from end before (i + 1) (set line (i - 2) (get_or line i 0))
-left_next {end = end} {i = i} {line = line} s h =
+pub left_next : {from end by i : ℕ} {before line : List ℕ} → ShiftingLeft from end by before i line → i < end → ShiftingLeft from end by before (i + 1) (set line (i - by) (get_or line i 0))
+left_next {end = end} {by = by} {i = i} {line = line} s h =
     let a = get_or line i 0 in
-    let t = i - 2 in
+    let t = i - by in
     let low = s.low in
     let inside = s.inside in
-    let j : i + 1 - 2 ≡ suc t = omega arith in
+    let j : i + 1 - by ≡ suc t = omega arith in
     let m : i + 1 ≡ suc i = omega arith in
     let l = length-set line t a in
     record {
@@ -76,10 +76,10 @@ left_next {end = end} {i = i} {line = line} s h =
           ∙ (ap (λ r. placed t r line) (sym (slice-cons i end line 0 h inside)) ∙ s.rest))));
     }
 
-pub left_done : {from end i : ℕ} {before line : List ℕ} → ShiftingLeft from end before i line → end ≤ i → line ≡ placed (from - 2) (slice from end before) before
-left_done {end = end} {i = i} {line = line} s h =
+pub left_done : {from end by i : ℕ} {before line : List ℕ} → ShiftingLeft from end by before i line → end ≤ i → line ≡ placed (from - by) (slice from end before) before
+left_done {end = end} {by = by} {i = i} {line = line} s h =
     let e : i ≡ end = omega (arith, s.within) in
-    sym (placed_none (i - 2) line) ∙ (ap (λ r. placed (i - 2) r line) (sym (slice_empty i line)) ∙ (ap (λ n. placed (i - 2) (slice i n line) line) e ∙ s.rest))
+    sym (placed_none (i - by) line) ∙ (ap (λ r. placed (i - by) r line) (sym (slice_empty i line)) ∙ (ap (λ n. placed (i - by) (slice i n line) line) e ∙ s.rest))
 
 -- The bytes up to `i` are still to be moved to the right.
 pub record ShiftingRight (from end by : ℕ) (before : List ℕ) (i : ℕ) (line : List ℕ) : Type 0 where

@@ -5,7 +5,6 @@ ghost use Rattle.line_bytes.specs.ForContracts.Layout.{line_bytes, placed};
 ghost use Rattle.line_bytes.specs.ForContracts.Room.{Shifted, WideningFits, Widened};
 
 use crate::layout::{COUNT, FIRST_ELEMENT, LINE, REDUCED};
-use format::byte::wide;
 use format::limits::Limits;
 
 // Copies the line that stands at `at`.
@@ -13,11 +12,7 @@ pub fn load(records: &[u8], at: usize, line: &mut [u8])
     requires { (at + line_bytes ≤ length records.now) × (length line.old ≡ line_bytes) }
     ensures { line.new ≡ slice at (at + line_bytes) records.now }
 {
-    let mut i = 0;
-    while i < LINE {
-        line[i] = records[at + i];
-        i = i + 1;
-    }
+    line.copy_from_slice(&records[at..at + LINE]);
 }
 
 // Puts the line at `at`.
@@ -25,11 +20,7 @@ pub fn store(line: &[u8], records: &mut [u8], at: usize)
     requires { (at + line_bytes ≤ length records.old) × (length line.now ≡ line_bytes) }
     ensures { records.new ≡ placed at line.now records.old }
 {
-    let mut i = 0;
-    while i < LINE {
-        records[at + i] = line[i];
-        i = i + 1;
-    }
+    records[at..at + LINE].copy_from_slice(line);
 }
 
 // Puts two bytes at `at`.
@@ -50,27 +41,23 @@ pub fn store_with(line: &[u8], at: usize, a: u8, b: u8, records: &mut [u8], to: 
     put(records, to + at, a, b);
 }
 
-// Moves the bytes from `from` to `end` to the left by a pair.
-fn shift_left(line: &mut [u8], from: usize, end: usize)
-    requires { (2 ≤ from) × (from ≤ end) × (end ≤ length line.old) }
-    ensures { line.new ≡ placed (from - 2) (slice from end line.old) line.old }
+// Moves the bytes from `from` to `end` to the left by `by`, the first one first.
+pub fn shift_left(bytes: &mut [u8], from: usize, end: usize, by: usize)
+    requires { (by ≤ from) × (from ≤ end) × (end ≤ length bytes.old) }
+    ensures { bytes.new ≡ placed (from - by) (slice from end bytes.old) bytes.old }
 {
-    let mut i = from;
-    while i < end {
-        line[i - 2] = line[i];
-        i = i + 1;
+    for i in from..end {
+        bytes[i - by] = bytes[i];
     }
 }
 
 // Moves the bytes from `from` to `end` to the right by `by`, the last one first.
-fn shift_right(line: &mut [u8], from: usize, end: usize, by: usize)
-    requires { (from ≤ end) × (end + by ≤ length line.old) }
-    ensures { line.new ≡ placed (from + by) (slice from end line.old) line.old }
+fn shift_right(bytes: &mut [u8], from: usize, end: usize, by: usize)
+    requires { (from ≤ end) × (end + by ≤ length bytes.old) }
+    ensures { bytes.new ≡ placed (from + by) (slice from end bytes.old) bytes.old }
 {
-    let mut i = end;
-    while from < i {
-        i = i - 1;
-        line[i + by] = line[i];
+    for i in (from..end).rev() {
+        bytes[i + by] = bytes[i];
     }
 }
 
@@ -83,7 +70,7 @@ fn shift(line: &mut [u8], from: usize, end: usize, n: usize)
         return;
     }
     if n == 0 {
-        shift_left(line, from, end);
+        shift_left(line, from, end, 2);
         put(line, end - 2, Limits::NO_POSITION, Limits::NO_POSITION);
         return;
     }
@@ -95,10 +82,9 @@ fn put_if_new(line: &mut [u8], at: usize, a: u8)
     requires { at < length line.old }
     ensures { line.new ≡ set line.old at a }
 {
-    if line[at] == a {
-        return;
+    if line[at] != a {
+        line[at] = a;
     }
-    line[at] = a;
 }
 
 // Makes room for `n` elements in the place of element `i`. Those in front of it are known to be fully reduced.
@@ -106,7 +92,7 @@ pub fn make_room(line: &mut [u8], i: usize, n: usize)
     requires { WideningFits i n line.old }
     ensures { Widened i n line.old line.new }
 {
-    let count = wide(line[COUNT]);
+    let count = usize::from(line[COUNT]);
     shift(
         line,
         2 * i + FIRST_ELEMENT + 2,

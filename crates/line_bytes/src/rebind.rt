@@ -13,14 +13,7 @@ pub fn differ(memory: &[u8], place: usize, bindings: &[u8]) -> bool
     requires { (place + variable_count ≤ length memory.now) × (length bindings.now ≡ variable_count) }
     ensures { Differ (slice place (place + variable_count) memory.now) bindings.now result }
 {
-    let mut i = 0;
-    while i < Limits::VARIABLES {
-        if memory[place + i] != bindings[i] {
-            return true;
-        }
-        i = i + 1;
-    }
-    false
+    &memory[place..place + Limits::VARIABLES] != bindings
 }
 
 // Puts the bindings into the line at `place`. No element is then known to be fully reduced.
@@ -28,8 +21,6 @@ pub fn rebind(memory: &mut [u8], place: usize, bindings: &[u8])
     requires { (place + line_bytes ≤ length memory.old) × (length bindings.now ≡ variable_count) }
     ensures { memory.new ≡ set (placed place bindings.now memory.old) (place + reduced_place) 0 }
 {
-    for i in 0..Limits::VARIABLES {
-        memory[place + i] = bindings[i];
-    }
+    memory[place..place + Limits::VARIABLES].copy_from_slice(bindings);
     memory[place + REDUCED] = 0;
 }

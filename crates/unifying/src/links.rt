@@ -3,7 +3,6 @@ ghost use Rattle.std.specs.Prelude.{◌<◌};
 ghost use Rattle.format.specs.Limits.{position_count};
 ghost use Rattle.unifying.specs.ForContracts.Links.{Leads, Followed};
 
-use format::byte::wide;
 use format::limits::Limits;
 
 // The position that the links lead to from `p`.
@@ -12,14 +11,12 @@ pub fn linked(links: &[u8], p: usize) -> usize
     ensures { Leads links.now p result }
 {
     let mut at = p;
-    let mut hops = Limits::POSITIONS;
-    while 0 < hops {
+    for _hop in 0..Limits::POSITIONS {
         let next = links[at];
         if next == Limits::NO_POSITION {
             return at;
         }
-        at = wide(next);
-        hops = hops - 1;
+        at = usize::from(next);
     }
     at
 }

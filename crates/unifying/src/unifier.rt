@@ -4,20 +4,13 @@ ghost use Rattle.bindings.specs.ForContracts.Bindings.{Readable};
 ghost use Rattle.bindings.specs.ForContracts.Sets.{HasVariables};
 ghost use Rattle.unifying.specs.ForContracts.Unifier.{Unifies};
 
-use crate::unify::{UnifierAnswer, unify_terms};
+use crate::unify::unify_terms;
 use format::limits::Limits;
-
-// Whether there is a unifier, and the bindings that give it.
-#[derive(Clone, Copy)]
-pub struct Unifier {
-    pub answer: UnifierAnswer,
-    pub bindings: [u8; Limits::VARIABLES],
-}
 
 // One more than there are positions.
 const DEPTH: usize = Limits::POSITIONS + 1;
 
-// Unifies the terms at two positions. The bindings stay as they are.
+// The bindings that a unifier of the terms at two positions gives, if there is one. Those of the line stay as they are.
 pub fn unify_positions(
     nodes: &[u8],
     sizes: &[u8],
@@ -25,19 +18,14 @@ pub fn unify_positions(
     bindings: &[u8],
     p: usize,
     q: usize,
-) -> Unifier
+) -> Option<[u8; Limits::VARIABLES]>
     requires readable { Readable nodes.now sizes.now bindings.now × HasVariables nodes.now sizes.now variables.now }
     requires p_in_bounds { (p < length nodes.now) × (q < length nodes.now) }
     ensures { Unifies nodes.now sizes.now bindings.now p q result }
 {
     let mut own = [0u8; Limits::VARIABLES];
-    for i in 0..Limits::VARIABLES {
-        own[i] = bindings[i];
-    }
+    own.copy_from_slice(bindings);
     let mut links = [Limits::NO_POSITION; Limits::POSITIONS];
-    let answer = unify_terms(nodes, sizes, variables, &mut own, &mut links, p, q, DEPTH);
-    Unifier {
-        answer: answer,
-        bindings: own,
-    }
+    unify_terms(nodes, sizes, variables, &mut own, &mut links, p, q, DEPTH)?;
+    Some(own)
 }

@@ -1,6 +1,6 @@
-// Unification, left argument first; bindings are changed in place.
-ghost use Rattle.std.specs.Prelude.{◌≡◌, ◌≤◌, ◌<◌, length, get_or};
-ghost use Rattle.std.proofs.Math.Option.{none};
+// Unification, left argument first. Bindings are changed in place: where there is a unifier, they are those that give it at the return.
+ghost use Rattle.std.specs.Prelude.{◌≡◌, ◌≤◌, ◌<◌, length, get_or, IsSome};
+ghost use Rattle.std.proofs.Math.Option.{none, some};
 ghost use Rattle.std.proofs.Math.Decide.{ℕ_discrete, dec_lt};
 ghost use Rattle.format.specs.Limits.{first_variable, variable_count, no_position};
 ghost use Rattle.solving.specs.Line.{lookup};
@@ -9,38 +9,28 @@ ghost use Rattle.bindings.specs.ForContracts.PrefixForm.{view_of};
 ghost use Rattle.bindings.specs.ForContracts.Bindings.{bindings_of, Readable};
 ghost use Rattle.bindings.specs.ForContracts.Sets.{HasVariables};
 ghost use Rattle.unifying.specs.ForContracts.Links.{Linked};
-ghost use Rattle.unifying.specs.declared.unify.UnifierAnswer.TheVariants.{Unified};
 ghost use Rattle.unifying.specs.ForContracts.Unify.{answered, FreeAt, HasRows, BindsTo, UnifiesSymbols, UnifiesTo, UnifiesRows};
 
 use crate::links::linked;
 use bindings::occurs::occurs_at;
 use bindings::reach::reached;
-use format::byte::wide;
 use format::limits::Limits;
 use terms::arguments::{Arguments, arguments_of, other_arguments};
 
-// Whether there is a unifier; the bindings beside it are then those that give it.
-#[derive(Clone, Copy)]
-pub enum UnifierAnswer {
-    Unified,
-    Failed,
-}
-
 // "Two unbound variables: bind the smaller number to the other's position." `v` stands at `p`, `w` at `q`.
 #[tactic(auto, using(crate::specs::Theory::Unify::variables_same, crate::specs::Theory::Unify::variables_less, crate::specs::Theory::Unify::variables_more))]
-fn bind_variables(bindings: &mut [u8], v: usize, w: usize, p: usize, q: usize) -> UnifierAnswer
+fn bind_variables(bindings: &mut [u8], v: usize, w: usize, p: usize, q: usize)
     requires { (v < length bindings.old) × (w < length bindings.old) × (p < no_position) × (q < no_position) }
-    ensures { unify_variables (bindings_of bindings.old) v w p q (ℕ_discrete v w) (dec_lt v w) ≡ answered result (bindings_of bindings.new) }
+    ensures { unify_variables (bindings_of bindings.old) v w p q (ℕ_discrete v w) (dec_lt v w) ≡ some (bindings_of bindings.new) }
 {
     if v == w {
-        return UnifierAnswer::Unified;
+        return;
     }
     if v < w {
         bindings[v] = q as u8;
-        return UnifierAnswer::Unified;
+    } else {
+        bindings[w] = p as u8;
     }
-    bindings[w] = p as u8;
-    UnifierAnswer::Unified
 }
 
 // "Variable and term: bind to the term's position unless it occurs there."
@@ -51,16 +41,16 @@ fn bind_term(
     bindings: &mut [u8],
     v: usize,
     p: usize,
-) -> UnifierAnswer
+) -> Option<()>
     requires readable { Readable nodes.now sizes.now bindings.old × HasVariables nodes.now sizes.now variables.now × (p < length nodes.now) }
     requires v_lt_variable_count { (v < variable_count) × (lookup (bindings_of bindings.old) v ≡ none) }
     ensures { bind_unless (occurs enough (view_of nodes.now sizes.now) enough.occurs_depth (bindings_of bindings.old) v p) (bindings_of bindings.old) v p ≡ answered result (bindings_of bindings.new) }
 {
     if occurs_at(nodes, sizes, variables, bindings, v, p) {
-        return UnifierAnswer::Failed;
+        return None;
     }
     bindings[v] = p as u8;
-    UnifierAnswer::Unified
+    Some(())
 }
 
 // Binds a variable at one of two positions that are reached.
@@ -71,7 +61,7 @@ fn bind_reached(
     bindings: &mut [u8],
     s: usize,
     t: usize,
-) -> UnifierAnswer
+) -> Option<()>
     requires readable { Readable nodes.now sizes.now bindings.old × HasVariables nodes.now sizes.now variables.now }
     requires free_at { FreeAt nodes.now sizes.now bindings.old s × FreeAt nodes.now sizes.now bindings.old t }
     requires first_variable_bound { get_or nodes.now s 0 < first_variable → first_variable ≤ get_or nodes.now t 0 }
@@ -85,7 +75,7 @@ fn bind_reached(
             sizes,
             variables,
             bindings,
-            wide(g - Limits::FIRST_VARIABLE),
+            usize::from(g - Limits::FIRST_VARIABLE),
             s,
         );
     }
@@ -95,17 +85,18 @@ fn bind_reached(
             sizes,
             variables,
             bindings,
-            wide(f - Limits::FIRST_VARIABLE),
+            usize::from(f - Limits::FIRST_VARIABLE),
             t,
         );
     }
     bind_variables(
         bindings,
-        wide(f - Limits::FIRST_VARIABLE),
-        wide(g - Limits::FIRST_VARIABLE),
+        usize::from(f - Limits::FIRST_VARIABLE),
+        usize::from(g - Limits::FIRST_VARIABLE),
         s,
         t,
-    )
+    );
+    Some(())
 }
 
 // Unifies the terms at two positions. No descent is deeper than there are positions, so that `depth` does not run out.
@@ -120,36 +111,31 @@ pub fn unify_terms(
     p: usize,
     q: usize,
     depth: usize,
-) -> UnifierAnswer
+) -> Option<()>
     requires readable { Readable nodes.now sizes.now bindings.old × HasVariables nodes.now sizes.now variables.now }
     requires p_in_bounds { (p < length nodes.now) × (q < length nodes.now) }
     requires linked { Linked nodes.now sizes.now bindings.old links.old }
     ensures unifies_to { UnifiesTo nodes.now sizes.now depth (bindings_of bindings.old) p q result (bindings_of bindings.new) }
-    ensures linked_2 { result ≡ Unified → Linked nodes.now sizes.now bindings.new links.new }
+    ensures linked_2 { IsSome result → Linked nodes.now sizes.now bindings.new links.new }
 {
     if depth == 0 {
-        return UnifierAnswer::Failed;
+        return None;
     }
     let s = reached(nodes, sizes, bindings, p);
     let t = reached(nodes, sizes, bindings, q);
     if s == t {
-        return UnifierAnswer::Unified;
+        return Some(());
     }
-    if nodes[s] < Limits::FIRST_VARIABLE {
-        if nodes[t] < Limits::FIRST_VARIABLE {
-            let a = linked(links, s);
-            let b = linked(links, t);
-            if a == b {
-                return UnifierAnswer::Unified;
-            }
-            let answer = unify_symbols(nodes, sizes, variables, bindings, links, s, t, depth - 1);
-            let UnifierAnswer::Unified = answer else {
-                return UnifierAnswer::Failed;
-            };
-            links[a] = b as u8;
-            links[s] = b as u8;
-            return UnifierAnswer::Unified;
+    if nodes[s] < Limits::FIRST_VARIABLE && nodes[t] < Limits::FIRST_VARIABLE {
+        let a = linked(links, s);
+        let b = linked(links, t);
+        if a == b {
+            return Some(());
         }
+        unify_symbols(nodes, sizes, variables, bindings, links, s, t, depth - 1)?;
+        links[a] = b as u8;
+        links[s] = b as u8;
+        return Some(());
     }
     bind_reached(nodes, sizes, variables, bindings, s, t)
 }
@@ -165,16 +151,16 @@ fn unify_symbols(
     s: usize,
     t: usize,
     depth: usize,
-) -> UnifierAnswer
+) -> Option<()>
     requires readable { Readable nodes.now sizes.now bindings.old × HasVariables nodes.now sizes.now variables.now }
     requires s_in_bounds { (s < length nodes.now) × (get_or nodes.now s 0 < first_variable) }
     requires t_in_bounds { (t < length nodes.now) × (get_or nodes.now t 0 < first_variable) }
     requires linked { Linked nodes.now sizes.now bindings.old links.old }
     ensures unifies_symbols { UnifiesSymbols nodes.now sizes.now depth (bindings_of bindings.old) s t result (bindings_of bindings.new) }
-    ensures linked_2 { result ≡ Unified → Linked nodes.now sizes.now bindings.new links.new }
+    ensures linked_2 { IsSome result → Linked nodes.now sizes.now bindings.new links.new }
 {
     if nodes[s] != nodes[t] {
-        return UnifierAnswer::Failed;
+        return None;
     }
     let left = arguments_of(sizes, s);
     let right = arguments_of(sizes, t);
@@ -192,31 +178,28 @@ fn unify_rows(
     left: Arguments,
     right: Arguments,
     depth: usize,
-) -> UnifierAnswer
+) -> Option<()>
     requires readable { Readable nodes.now sizes.now bindings.old × HasVariables nodes.now sizes.now variables.now }
     requires has_rows { HasRows nodes.now sizes.now left right }
     requires linked { Linked nodes.now sizes.now bindings.old links.old }
     ensures unifies_rows { UnifiesRows nodes.now sizes.now depth (bindings_of bindings.old) left right result (bindings_of bindings.new) }
-    ensures linked_2 { result ≡ Unified → Linked nodes.now sizes.now bindings.new links.new }
+    ensures linked_2 { IsSome result → Linked nodes.now sizes.now bindings.new links.new }
 {
     if left.from < left.end {
         if right.from < right.end {
-            let answer = unify_terms(
+            unify_terms(
                 nodes, sizes, variables, bindings, links, left.from, right.from, depth,
-            );
-            let UnifierAnswer::Unified = answer else {
-                return UnifierAnswer::Failed;
-            };
+            )?;
             let others = other_arguments(sizes, left);
             let opposite = other_arguments(sizes, right);
             return unify_rows(
                 nodes, sizes, variables, bindings, links, others, opposite, depth,
             );
         }
-        return UnifierAnswer::Failed;
+        return None;
     }
     if right.from < right.end {
-        return UnifierAnswer::Failed;
+        return None;
     }
-    UnifierAnswer::Unified
+    Some(())
 }

@@ -1,6 +1,7 @@
 -- The laws of lines' bytes in the memory of the walk: copied from it, and put into it one behind the other.
 use Rattle.std.specs.Prelude.{ℕ, suc, ◌+◌, ◌-◌, ◌*◌, ◌≤◌, ◌<◌, ◌≡◌, refl, List, [], ◌∷◌, ◌++◌, length, get_or, set, take, drop}
 use Rattle.std.proofs.Common.{sym, ap, ◌∙◌, append_assoc, length-drop, length-append, length-set, take-append-drop, length-take-le, take-suc, take-suc-set, take_all, take_at, drop_at, drop-drop, add-zero, zero-add, suc-add, add-one, arith}
+use borrow.Rule.Slice.PartMut.{put_mid}
 use Rattle.std.proofs.Math.Seq.{slice, slice_empty, paste, paste-zero, paste-suc, drop-append-add}
 use Rattle.std.proofs.lemmas.List.Edits.{length-paste}
 use Rattle.std.proofs.lemmas.List.{drop-append-le, set-append_left, set_at}
@@ -22,6 +23,11 @@ placed_length at part buffer h =
 pub placed_none : (at : ℕ) (buffer : List ℕ) → placed at [] buffer ≡ buffer
 unfolding placed
 placed_none at buffer = ap (λ n. take at buffer ++ drop n buffer) (add-zero at) ∙ take-append-drop at buffer
+
+-- A part of the buffer that was written over.
+pub part_placed : (at n : ℕ) (now part buffer : List ℕ) → now ≡ part → n ≡ length part → put_mid at n buffer now ≡ placed at part buffer
+unfolding placed
+part_placed at n now part buffer e h = ap (λ r. take at buffer ++ (r ++ drop n (drop at buffer))) e ∙ ap (λ r. take at buffer ++ (part ++ r)) (drop-drop n at buffer ∙ ap (λ k. drop (at + k) buffer) h)
 
 -- A part, and another one behind it.
 pub placed_behind : (at : ℕ) (a b buffer : List ℕ) → at ≤ length buffer → placed (at + length a) b (placed at a buffer) ≡ placed at (a ++ b) buffer

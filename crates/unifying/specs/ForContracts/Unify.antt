@@ -1,20 +1,19 @@
 -- What the contracts of the unifier's code cite.
-use Rattle.std.specs.Prelude.{ℕ, ◌≤◌, ◌<◌, ◌≡◌, List, length, get_or}
+use Rattle.std.specs.Prelude.{ℕ, ◌≤◌, ◌<◌, ◌≡◌, List, length, get_or, IsSome, IsNone, ⊤}
+use Rattle.std.specs.Prelude.{Option as Answer, Some, None}
 use Rattle.std.proofs.Math.Option.{Option, none, some}
 use Rattle.terms.specs.declared.arguments.Arguments.{Arguments}
 use Rattle.terms.specs.Position.{var_node}
 use Rattle.solving.specs.Line.{Bindings, lookup}
 use Rattle.solving.specs.Walk.{enough, unify_each, unify_nodes, unify}
 use Rattle.solving.specs.ForContracts.Unified.{Unified as Unification, EachUnified}
-use Rattle.unifying.specs.declared.unify.UnifierAnswer.{UnifierAnswer}
-use Rattle.unifying.specs.declared.unify.UnifierAnswer.TheVariants.{Unified, Failed}
 use Rattle.bindings.specs.ForContracts.PrefixForm.{view_of, arguments_of, Row}
 use Rattle.bindings.specs.ForContracts.Bindings.{bindings_of}
 
 -- The answer, with the bindings beside it, as the walk's definition has it.
-unfoldable pub answered : UnifierAnswer → Bindings → Option Bindings
-answered Unified θ = some θ
-answered Failed θ = none
+unfoldable pub answered : Answer ⊤ → Bindings → Option Bindings
+answered (Some u) θ = some θ
+answered None θ = none
 
 -- A position of the equation, and if a variable stands there, it is free.
 pub record FreeAt (nodes sizes bindings : List ℕ) (s : ℕ) : Type 0 where
@@ -31,22 +30,22 @@ pub record HasRows (nodes sizes : List ℕ) (left right : Arguments) : Type 0 wh
   pub right_within : right.end ≤ length nodes
 
 -- Two positions of which one is a variable: whatever unifies arguments, the definition comes to this.
-pub record BindsTo (nodes sizes : List ℕ) (θ : Bindings) (s t : ℕ) (r : UnifierAnswer) (θ' : Bindings) : Type 0 where
+pub record BindsTo (nodes sizes : List ℕ) (θ : Bindings) (s t : ℕ) (r : Answer ⊤) (θ' : Bindings) : Type 0 where
   pub tells : (each : Bindings → ℕ → ℕ → Option Bindings) → unify_nodes enough (view_of nodes sizes) each θ s t (view_of nodes sizes s) (view_of nodes sizes t) ≡ answered r θ'
 
 -- What unification at most `depth` deep tells: the bindings that it comes to, or that the definition finds none so deep.
-pub record UnifiesTo (nodes sizes : List ℕ) (depth : ℕ) (θ : Bindings) (p q : ℕ) (r : UnifierAnswer) (θ' : Bindings) : Type 0 where
-  pub found : r ≡ Unified → Unification (view_of nodes sizes) θ p q θ'
-  pub none_found : r ≡ Failed → unify enough (view_of nodes sizes) depth θ p q ≡ none
+pub record UnifiesTo (nodes sizes : List ℕ) (depth : ℕ) (θ : Bindings) (p q : ℕ) (r : Answer ⊤) (θ' : Bindings) : Type 0 where
+  pub found : IsSome r → Unification (view_of nodes sizes) θ p q θ'
+  pub none_found : IsNone r → unify enough (view_of nodes sizes) depth θ p q ≡ none
 
 -- The same of two terms that are no variables, whose arguments are unified at most `depth` deep.
-pub record UnifiesSymbols (nodes sizes : List ℕ) (depth : ℕ) (θ : Bindings) (s t : ℕ) (r : UnifierAnswer) (θ' : Bindings) : Type 0 where
-  pub found : r ≡ Unified → (get_or nodes s 0 ≡ get_or nodes t 0) × EachUnified (view_of nodes sizes) θ (arguments_of sizes s) (arguments_of sizes t) θ'
-  pub none_found : r ≡ Failed
+pub record UnifiesSymbols (nodes sizes : List ℕ) (depth : ℕ) (θ : Bindings) (s t : ℕ) (r : Answer ⊤) (θ' : Bindings) : Type 0 where
+  pub found : IsSome r → (get_or nodes s 0 ≡ get_or nodes t 0) × EachUnified (view_of nodes sizes) θ (arguments_of sizes s) (arguments_of sizes t) θ'
+  pub none_found : IsNone r
       → unify_nodes enough (view_of nodes sizes) (unify enough (view_of nodes sizes) depth) θ s t (view_of nodes sizes s) (view_of nodes sizes t) ≡ none
 
 -- "left argument first", the bindings handed on.
-pub record UnifiesRows (nodes sizes : List ℕ) (depth : ℕ) (θ : Bindings) (left right : Arguments) (r : UnifierAnswer) (θ' : Bindings) : Type 0 where
-  pub found : (ps qs : List ℕ) → Row sizes left.from left.end ps → Row sizes right.from right.end qs → r ≡ Unified → EachUnified (view_of nodes sizes) θ ps qs θ'
-  pub none_found : (ps qs : List ℕ) → Row sizes left.from left.end ps → Row sizes right.from right.end qs → r ≡ Failed
+pub record UnifiesRows (nodes sizes : List ℕ) (depth : ℕ) (θ : Bindings) (left right : Arguments) (r : Answer ⊤) (θ' : Bindings) : Type 0 where
+  pub found : (ps qs : List ℕ) → Row sizes left.from left.end ps → Row sizes right.from right.end qs → IsSome r → EachUnified (view_of nodes sizes) θ ps qs θ'
+  pub none_found : (ps qs : List ℕ) → Row sizes left.from left.end ps → Row sizes right.from right.end qs → IsNone r
       → unify_each (unify enough (view_of nodes sizes) depth) θ ps qs ≡ none

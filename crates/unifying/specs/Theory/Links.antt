@@ -9,7 +9,7 @@ use Rattle.solving.specs.ForContracts.Seen.{Reaches, stays}
 use Rattle.solving.specs.ForContracts.Unified.{Unified as Unification}
 use Rattle.solving.specs.Theory.Seen.{reaches_unbound}
 use Rattle.solving.proofs.Theory.Unified.{Extends, unified_extends}
-use Rattle.unifying.specs.declared.unify.UnifierAnswer.TheVariants.{Unified}
+use Rattle.std.specs.Prelude.{Some}
 use Rattle.bindings.specs.ForContracts.PrefixForm.{view_of}
 use Rattle.bindings.specs.ForContracts.Bindings.{bindings_of, Readable}
 use Rattle.unifying.specs.ForContracts.Unify.{UnifiesTo}
@@ -45,7 +45,7 @@ module _ {nodes sizes bs : List ℕ} (read : Readable nodes sizes bs) where
   -- Where links meet, nothing is left to unify.
   pub links_meet : {links : List ℕ} {p q s t a b : ℕ} (depth : ℕ) → Linked nodes sizes bs links → s < length nodes → t < length nodes
       → s ≡ reach enough (view_of nodes sizes) (bindings_of bs) p → t ≡ reach enough (view_of nodes sizes) (bindings_of bs) q → Leads links s a → Leads links t b → a ≡ b
-      → UnifiesTo nodes sizes depth (bindings_of bs) p q Unified (bindings_of bs)
+      → UnifiesTo nodes sizes depth (bindings_of bs) p q (Some tt) (bindings_of bs)
   links_meet {p = p} {q = q} {s = s} {t = t} depth k i j x y c d e = record {
     found = λ z. same_unifies read (same_trans (reached_same p s x) (same_trans (leads_same k i c).1 (rw e (same_trans (same_sym (leads_same k j d).1) (same_sym (reached_same q t y))))));
     none_found = λ z. not_failed z;

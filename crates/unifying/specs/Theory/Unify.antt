@@ -1,5 +1,5 @@
 -- Unification by cases, as the code goes through them.
-use Rattle.std.specs.Prelude.{ℕ, zero, suc, ◌-◌, ◌≤◌, ◌<◌, Bool, true, false, List, [], ◌∷◌, length, set}
+use Rattle.std.specs.Prelude.{ℕ, zero, suc, ◌-◌, ◌≤◌, ◌<◌, Bool, true, false, List, [], ◌∷◌, length, set, IsSome, IsNone, ⊤}
 use Rattle.std.proofs.Math.Path.{◌≡◌, refl, sym, ap}
 use Rattle.std.proofs.Common.{subst, ◌∙◌, arith}
 use Rattle.std.proofs.Math.Option.{Option, none, some}
@@ -19,8 +19,7 @@ use Rattle.terms.specs.Theory.View.{In, head, tail}
 use Rattle.solving.proofs.Theory.Reach.{enough_suffices, reach_reaches}
 use Rattle.solving.proofs.Theory.Unified.{unified_proper, unify_gives}
 use Rattle.solving.specs.ForContracts.Unified.{Unified as Unification, EachUnified, equal_variables, symbols, no_more, one_more}
-use Rattle.unifying.specs.declared.unify.UnifierAnswer.{UnifierAnswer}
-use Rattle.unifying.specs.declared.unify.UnifierAnswer.TheVariants.{Unified, Failed}
+use Rattle.std.specs.Prelude.{Option as Answer, Some, None}
 use Rattle.bindings.specs.ForContracts.PrefixForm.{view_of, arguments_of, InPrefixForm}
 use Rattle.bindings.specs.ForContracts.Bindings.{bindings_of, Readable}
 use Rattle.unifying.specs.ForContracts.Unify.{answered, FreeAt, HasRows, BindsTo, UnifiesSymbols, UnifiesTo, UnifiesRows}
@@ -29,16 +28,16 @@ use Rattle.bindings.specs.Theory.Bindings.{bind_byte, length_bindings}
 
 -- 1. Two variables.
 module _ (bs : List ℕ) (v w p q : ℕ) where
-  pub variables_same : v ≡ w → unify_variables (bindings_of bs) v w p q (ℕ_discrete v w) (dec_lt v w) ≡ answered Unified (bindings_of bs)
-  unfolding answered unify_variables
+  pub variables_same : v ≡ w → unify_variables (bindings_of bs) v w p q (ℕ_discrete v w) (dec_lt v w) ≡ some (bindings_of bs)
+  unfolding unify_variables
   variables_same h = go (ℕ_discrete v w)
     where
       go : (d : Dec (v ≡ w)) → unify_variables (bindings_of bs) v w p q d (dec_lt v w) ≡ some (bindings_of bs)
       go (yes e) = refl
       go (no n) = absurd (n h)
 
-  pub variables_less : (v ≡ w → ⊥) → v < w → q < no_position → unify_variables (bindings_of bs) v w p q (ℕ_discrete v w) (dec_lt v w) ≡ answered Unified (bindings_of (set bs v q))
-  unfolding answered unify_variables
+  pub variables_less : (v ≡ w → ⊥) → v < w → q < no_position → unify_variables (bindings_of bs) v w p q (ℕ_discrete v w) (dec_lt v w) ≡ some (bindings_of (set bs v q))
+  unfolding unify_variables
   variables_less h l b = go (ℕ_discrete v w) (dec_lt v w) ∙ ap some (sym (bind_byte bs v q b))
     where
       go : (d : Dec (v ≡ w)) (e : Dec (v < w)) → unify_variables (bindings_of bs) v w p q d e ≡ some (bind (bindings_of bs) v q)
@@ -46,8 +45,8 @@ module _ (bs : List ℕ) (v w p q : ℕ) where
       go (no n) (yes d) = refl
       go (no n) (no d) = absurd (d l)
 
-  pub variables_more : (v ≡ w → ⊥) → w ≤ v → p < no_position → unify_variables (bindings_of bs) v w p q (ℕ_discrete v w) (dec_lt v w) ≡ answered Unified (bindings_of (set bs w p))
-  unfolding answered unify_variables
+  pub variables_more : (v ≡ w → ⊥) → w ≤ v → p < no_position → unify_variables (bindings_of bs) v w p q (ℕ_discrete v w) (dec_lt v w) ≡ some (bindings_of (set bs w p))
+  unfolding unify_variables
   variables_more h l b = go (ℕ_discrete v w) (dec_lt v w) ∙ ap some (sym (bind_byte bs w p b))
     where
       go : (d : Dec (v ≡ w)) (e : Dec (v < w)) → unify_variables (bindings_of bs) v w p q d e ≡ some (bind (bindings_of bs) w p)
@@ -56,12 +55,12 @@ module _ (bs : List ℕ) (v w p q : ℕ) where
       go (no n) (no d) = refl
 
 -- 2. A variable and a term.
-pub term_fails : (bs : List ℕ) (v p : ℕ) (θ : Bindings) (o : Bool) → true ≡ o → bind_unless o (bindings_of bs) v p ≡ answered Failed θ
+pub term_fails : (bs : List ℕ) (v p : ℕ) (θ : Bindings) (o : Bool) → true ≡ o → bind_unless o (bindings_of bs) v p ≡ answered None θ
 unfolding answered bind_unless
 term_fails bs v p θ true e = refl
 term_fails bs v p θ false e = let z : ◌≡◌ {A = ℕ} 0 1 = cc in absurd (omega arith)
 
-pub term_binds : (bs : List ℕ) (v p : ℕ) (o : Bool) → false ≡ o → p < no_position → bind_unless o (bindings_of bs) v p ≡ answered Unified (bindings_of (set bs v p))
+pub term_binds : (bs : List ℕ) (v p : ℕ) (o : Bool) → false ≡ o → p < no_position → bind_unless o (bindings_of bs) v p ≡ answered (Some tt) (bindings_of (set bs v p))
 unfolding answered bind_unless
 term_binds bs v p false e l = ap some (sym (bind_byte bs v p l))
 term_binds bs v p true e l = let z : ◌≡◌ {A = ℕ} 0 1 = cc in absurd (omega arith)
@@ -158,22 +157,30 @@ one_less zero h = absurd (h refl)
 one_less (suc d) h = omega arith
 
 -- What an answer tells.
-pub answered_unified : {o : Option Bindings} (r : UnifierAnswer) (θ : Bindings) → o ≡ answered r θ → r ≡ Unified → o ≡ some θ
+pub not_failed : {A : Type 0} → true ≡ false → A
+not_failed e = cc
+
+pub not_unified : {A : Type 0} → false ≡ true → A
+not_unified e = cc
+
+pub some_told : {r : Answer ⊤} {u : ⊤} → r ≡ Some u → IsSome r
+some_told e = rw e
+
+pub none_told : {r : Answer ⊤} → r ≡ None → IsNone r
+none_told e = rw e
+
+pub answered_unified : {o : Option Bindings} (r : Answer ⊤) (θ : Bindings) → o ≡ answered r θ → IsSome r → o ≡ some θ
 unfolding answered
-answered_unified r θ e x = rw x at e
+answered_unified (Some u) θ e x = e
+answered_unified None θ e x = not_unified x
 
-pub answered_failed : {o : Option Bindings} (r : UnifierAnswer) (θ : Bindings) → o ≡ answered r θ → r ≡ Failed → o ≡ none
+pub answered_failed : {o : Option Bindings} (r : Answer ⊤) (θ : Bindings) → o ≡ answered r θ → IsNone r → o ≡ none
 unfolding answered
-answered_failed r θ e x = rw x at e
-
-pub not_failed : {A : Type 0} → Unified ≡ Failed → A
-not_failed e = let z : ◌≡◌ {A = ℕ} 0 1 = cc in absurd (omega arith)
-
-pub not_unified : {A : Type 0} → Failed ≡ Unified → A
-not_unified e = let z : ◌≡◌ {A = ℕ} 0 1 = cc in absurd (omega arith)
+answered_failed (Some u) θ e x = not_failed x
+answered_failed None θ e x = e
 
 -- What the definition tells, told by the code.
-pub told : {nodes sizes bs : List ℕ} (θ' : Bindings) → Readable nodes sizes bs → (p q depth : ℕ) → p < length nodes → q < length nodes → (r : UnifierAnswer)
+pub told : {nodes sizes bs : List ℕ} (θ' : Bindings) → Readable nodes sizes bs → (p q depth : ℕ) → p < length nodes → q < length nodes → (r : Answer ⊤)
     → unify enough (view_of nodes sizes) depth (bindings_of bs) p q ≡ answered r θ' → UnifiesTo nodes sizes depth (bindings_of bs) p q r θ'
 told {nodes} {sizes} {bs} θ' read p q depth i j r e = record {
   found = λ z. unify_gives (form_layout read.laid) (enough_suffices read.laid.few) depth (bindings_of bs) θ' p q read.proper i j (answered_unified r θ' e z);
@@ -188,11 +195,11 @@ module _ {nodes sizes bs : List ℕ} (read : Readable nodes sizes bs) (p q s t d
   unfolding unify
   unify_by_nodes = ap (λ d. unify enough (view_of nodes sizes) d (bindings_of bs) p q) (one_less depth some_depth) ∙ rw (sym at_p, sym at_q)
 
-  pub terms_bind : (θ' : Bindings) (r : UnifierAnswer) → p < length nodes → q < length nodes → BindsTo nodes sizes (bindings_of bs) s t r θ'
+  pub terms_bind : (θ' : Bindings) (r : Answer ⊤) → p < length nodes → q < length nodes → BindsTo nodes sizes (bindings_of bs) s t r θ'
       → UnifiesTo nodes sizes depth (bindings_of bs) p q r θ'
   terms_bind θ' r i j b = told θ' read p q depth i j r (unify_by_nodes ∙ b.tells (unify enough (view_of nodes sizes) (depth - 1)))
 
-  pub terms_symbols : (θ' : Bindings) (r : UnifierAnswer) → s < length nodes → t < length nodes → get_or nodes s 0 < first_variable → get_or nodes t 0 < first_variable
+  pub terms_symbols : (θ' : Bindings) (r : Answer ⊤) → s < length nodes → t < length nodes → get_or nodes s 0 < first_variable → get_or nodes t 0 < first_variable
       → UnifiesSymbols nodes sizes (depth - 1) (bindings_of bs) s t r θ' → UnifiesTo nodes sizes depth (bindings_of bs) p q r θ'
   terms_symbols θ' r i j h k u =
       let lay = form_layout read.laid in
@@ -209,10 +216,10 @@ module _ {nodes sizes bs : List ℕ} (read : Readable nodes sizes bs) (p q s t d
 -- Two terms that are no variables.
 module _ {nodes sizes : List ℕ} {depth : ℕ} {θ : Bindings} (laid : InPrefixForm nodes sizes) (s t : ℕ)
     (i : s < length nodes) (j : t < length nodes) (h : get_or nodes s 0 < first_variable) (k : get_or nodes t 0 < first_variable) where
-  pub symbols_differ : (θ' : Bindings) → (get_or nodes s 0 ≡ get_or nodes t 0 → ⊥) → UnifiesSymbols nodes sizes depth θ s t Failed θ'
+  pub symbols_differ : (θ' : Bindings) → (get_or nodes s 0 ≡ get_or nodes t 0 → ⊥) → UnifiesSymbols nodes sizes depth θ s t None θ'
   symbols_differ θ' n = record { found = λ z. not_unified z; none_found = λ z. nodes_other nodes sizes θ s t i j (unify enough (view_of nodes sizes) depth) h k n }
 
-  pub symbols_same : {θ' : Bindings} {r : UnifierAnswer} → get_or nodes s 0 ≡ get_or nodes t 0 → UnifiesRows nodes sizes depth θ (arguments_at sizes s) (arguments_at sizes t) r θ'
+  pub symbols_same : {θ' : Bindings} {r : Answer ⊤} → get_or nodes s 0 ≡ get_or nodes t 0 → UnifiesRows nodes sizes depth θ (arguments_at sizes s) (arguments_at sizes t) r θ'
       → UnifiesSymbols nodes sizes depth θ s t r θ'
   symbols_same e u =
       let left = arguments_there laid s i h in
@@ -222,7 +229,7 @@ module _ {nodes sizes : List ℕ} {depth : ℕ} {θ : Bindings} (laid : InPrefix
         none_found = λ z. nodes_symbols nodes sizes θ s t i j (unify enough (view_of nodes sizes) depth) h k e ∙ u.none_found (arguments_of sizes s) (arguments_of sizes t) left right z;
       }
 
-pub terms_none : (nodes sizes bs : List ℕ) (θ : Bindings) (p q depth : ℕ) → depth ≡ 0 → unify enough (view_of nodes sizes) depth (bindings_of bs) p q ≡ answered Failed θ
+pub terms_none : (nodes sizes bs : List ℕ) (θ : Bindings) (p q depth : ℕ) → depth ≡ 0 → unify enough (view_of nodes sizes) depth (bindings_of bs) p q ≡ answered None θ
 unfolding answered unify
 terms_none nodes sizes bs θ p q depth e = rw e
 
@@ -273,33 +280,33 @@ module _ {nodes sizes bs : List ℕ} (read : Readable nodes sizes bs) where
   same_unified p q r a b (app_node f ps) e = symbols a b e e (each_self ps (λ c i. self_unified (suc (length nodes)) c (omega (arith, rank_le (length nodes) read.proper.height c)) (view_of nodes sizes (reach enough (view_of nodes sizes) (bindings_of bs) c)) refl))
 
   pub same_reached : (p q s t depth : ℕ) → s ≡ reach enough (view_of nodes sizes) (bindings_of bs) p → t ≡ reach enough (view_of nodes sizes) (bindings_of bs) q → s ≡ t
-      → UnifiesTo nodes sizes depth (bindings_of bs) p q Unified (bindings_of bs)
+      → UnifiesTo nodes sizes depth (bindings_of bs) p q (Some tt) (bindings_of bs)
   same_reached p q s t depth x y e = record {
     found = λ z. same_unified p q (reach enough (view_of nodes sizes) (bindings_of bs) p) (at_reached p)
         (subst (λ r. Reaches (view_of nodes sizes) (bindings_of bs) q r) (sym y ∙ (sym e ∙ x)) (at_reached q)) (view_of nodes sizes (reach enough (view_of nodes sizes) (bindings_of bs) p)) refl;
     none_found = λ z. not_failed z;
   }
 
-pub told_enough : {nodes sizes bs : List ℕ} (θ' : Bindings) → Readable nodes sizes bs → (p q : ℕ) → p < length nodes → q < length nodes → (r : UnifierAnswer)
+pub told_enough : {nodes sizes bs : List ℕ} (θ' : Bindings) → Readable nodes sizes bs → (p q : ℕ) → p < length nodes → q < length nodes → (r : Answer ⊤)
     → UnifiesTo nodes sizes enough.unify_depth (bindings_of bs) p q r θ' → unify enough (view_of nodes sizes) enough.unify_depth (bindings_of bs) p q ≡ answered r θ'
 unfolding answered
-told_enough θ' read p q i j Unified u = unify_found (form_layout read.laid) (enough_suffices read.laid.few) read.proper i j (u.found refl)
-told_enough θ' read p q i j Failed u = u.none_found refl
+told_enough θ' read p q i j (Some z) u = unify_found (form_layout read.laid) (enough_suffices read.laid.few) read.proper i j (u.found refl)
+told_enough θ' read p q i j None u = u.none_found refl
 
 -- 4. Rows.
 module _ {nodes sizes : List ℕ} {depth : ℕ} {θ : Bindings} {left right : Arguments} where
-  pub rows_end : left.end ≤ left.from → right.end ≤ right.from → UnifiesRows nodes sizes depth θ left right Unified θ
+  pub rows_end : left.end ≤ left.from → right.end ≤ right.from → UnifiesRows nodes sizes depth θ left right (Some tt) θ
   rows_end h i = record { found = λ ps qs a b x. rw (row_empty a h, row_empty b i) (no_more refl); none_found = λ ps qs a b x. not_failed x }
 
-  pub rows_left : (θ' : Bindings) → left.from < left.end → right.end ≤ right.from → UnifiesRows nodes sizes depth θ left right Failed θ'
+  pub rows_left : (θ' : Bindings) → left.from < left.end → right.end ≤ right.from → UnifiesRows nodes sizes depth θ left right None θ'
   unfolding unify_each
   rows_left θ' h i = record { found = λ ps qs a b x. not_unified x; none_found = λ ps qs a b x. let (xs, e, c) = row_next a h in rw (e, row_empty b i, unify_each) }
 
-  pub rows_right : (θ' : Bindings) → left.end ≤ left.from → right.from < right.end → UnifiesRows nodes sizes depth θ left right Failed θ'
+  pub rows_right : (θ' : Bindings) → left.end ≤ left.from → right.from < right.end → UnifiesRows nodes sizes depth θ left right None θ'
   unfolding unify_each
   rows_right θ' h i = record { found = λ ps qs a b x. not_unified x; none_found = λ ps qs a b x. let (ys, e, c) = row_next b i in rw (row_empty a h, e, unify_each) }
 
-  pub rows_fail : (θ' θ'' : Bindings) (r : UnifierAnswer) → left.from < left.end → right.from < right.end → UnifiesTo nodes sizes depth θ left.from right.from r θ' → r ≡ Failed → UnifiesRows nodes sizes depth θ left right Failed θ''
+  pub rows_fail : (θ' θ'' : Bindings) (r : Answer ⊤) → left.from < left.end → right.from < right.end → UnifiesTo nodes sizes depth θ left.from right.from r θ' → IsNone r → UnifiesRows nodes sizes depth θ left right None θ''
   unfolding unify_each
   rows_fail θ' θ'' r h i u z = record {
     found = λ ps qs a b x. not_unified x;
@@ -307,8 +314,8 @@ module _ {nodes sizes : List ℕ} {depth : ℕ} {θ : Bindings} {left right : Ar
   }
 
   pub rows_more : {others opposite : Arguments} {bs : List ℕ} → Readable nodes sizes bs → θ ≡ bindings_of bs → left.from < length nodes → right.from < length nodes
-      → (θ' θ'' : Bindings) (r answer : UnifierAnswer) → left.from < left.end → right.from < right.end
-      → UnifiesTo nodes sizes depth θ left.from right.from r θ' → r ≡ Unified → others ≡ behind_first sizes left → opposite ≡ behind_first sizes right
+      → (θ' θ'' : Bindings) (r answer : Answer ⊤) → left.from < left.end → right.from < right.end
+      → UnifiesTo nodes sizes depth θ left.from right.from r θ' → IsSome r → others ≡ behind_first sizes left → opposite ≡ behind_first sizes right
       → UnifiesRows nodes sizes depth θ' others opposite answer θ''
       → UnifiesRows nodes sizes depth θ left right answer θ''
   rows_more read is i j θ' θ'' r answer h g u z y w rest = record {

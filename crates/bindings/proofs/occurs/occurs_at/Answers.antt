@@ -30,13 +30,13 @@ pub bounds-bindings-w : goal.bounds-bindings-w
 bounds-bindings-w c =
     omega (arith, (c.loop-seen.invariant.0.each _ c.lowest_beside-w.ensures.0).low, slots (sought (goal.at.bounds-bindings-w c).Start))
 
-pub bounds-variables-wide : goal.bounds-variables-wide
-bounds-variables-wide c =
-    omega (arith, bound_within (sought (goal.at.bounds-variables-wide c).Start) c.requires.p_in_bounds.0 c.loop-seen.invariant.0 c.lowest_beside-w.ensures.0 (search rules), c.wide.ensures.value, c.requires.readable.1.same_length)
+pub bounds-variables-from : goal.bounds-variables-from
+bounds-variables-from c =
+    omega (arith, bound_within (sought (goal.at.bounds-variables-from c).Start) c.requires.p_in_bounds.0 c.loop-seen.invariant.0 c.lowest_beside-w.ensures.0 (search rules), c.from.ensures, c.requires.readable.1.same_length)
 
 pub loop-seen-preserved-then-next-lt-NO_POSITION : goal.loop-seen-preserved-then-next-lt-NO_POSITION
 loop-seen-preserved-then-next-lt-NO_POSITION c =
-    (search_bound (sought (goal.at.loop-seen-preserved-then-next-lt-NO_POSITION c).Start) c.requires.p_in_bounds.0 c.loop-seen.invariant.0 c.lowest_beside-w.ensures.0 (search rules) c.singleton.ensures c.joined-through.ensures (search rules) (rw c.wide.ensures.value at c.joined-seen.ensures), c.joined-through.type_inv)
+    (search_bound (sought (goal.at.loop-seen-preserved-then-next-lt-NO_POSITION c).Start) c.requires.p_in_bounds.0 c.loop-seen.invariant.0 c.lowest_beside-w.ensures.0 (search rules) c.singleton.ensures c.joined-through.ensures (search rules) (rw c.from.ensures at c.joined-seen.ensures), c.joined-through.type_inv)
 
 pub loop-seen-preserved : goal.loop-seen-preserved
 loop-seen-preserved c =

@@ -8,8 +8,5 @@ loop-i-init c = right_start _ _ _ _ c.requires.0 c.requires.1
 pub loop-i-preserved : goal.loop-i-preserved
 loop-i-preserved c = right_next c.loop-i.invariant c.loop-i-test.true
 
-pub shape_of-line : goal.shape_of-line
-shape_of-line c = c.loop-i.invariant.kept
-
 pub returns : goal.returns
 returns c = right_done c.loop-i.invariant c.loop-i-test.false

@@ -3,7 +3,4 @@ use Rattle.line_bytes.proofs.Shifting.{ShiftingRight}
 use Rattle.line_bytes.proofs.edit.shift_right.Given as goal
 
 abbrev pub invariant-loop-i : goal.invariant-loop-i
-invariant-loop-i l = ShiftingRight l.from l.end l.by l.initial.line l.i l.line
-
-abbrev pub decreases-loop-i : goal.decreases-loop-i
-decreases-loop-i l = l.i
+invariant-loop-i l = ShiftingRight l.from l.end l.by l.initial.bytes l.i l.bytes

@@ -1,23 +1,11 @@
--- Goals of `write_record`.
-use native.Mathlib.Omega.{arith}
-use Rattle.line_bytes.specs.Theory.Placed.{storing_length, storing_done}
-use Rattle.line_bytes.proofs.Recording.{recording_start, recording_next}
+-- `write_record` is a shift to the left.
+use Rattle.std.proofs.Common.{◌≡◌, ◌-◌, ap, arith, ◌∙◌, ◌+◌}
+use Rattle.std.proofs.Math.Seq.{slice}
+use Rattle.format.specs.Limits.{record_bytes}
+use Rattle.line_bytes.specs.ForContracts.Layout.{placed}
 use Rattle.line_bytes.proofs.record.write_record.Goals as goal
 
-pub loop-i-init : goal.loop-i-init
-loop-i-init c = (c.requires.0, c.requires.1, recording_start _ _ _ c.requires.0 c.requires.1)
-
-pub bounds-memory-from : goal.bounds-memory-from
-bounds-memory-from c = omega (arith, storing_length c.loop-i.invariant.2, c.loop-i.invariant.1)
-
-pub bounds-memory-to : goal.bounds-memory-to
-bounds-memory-to c = omega (arith, storing_length c.loop-i.invariant.2, c.loop-i.invariant.0, c.loop-i.invariant.1)
-
-pub loop-i-preserved : goal.loop-i-preserved
-loop-i-preserved c = let (h, k, s) = c.loop-i.invariant in (h, k, recording_next _ _ _ h k s c.loop-i-test.true)
-
-pub shape_of-memory : goal.shape_of-memory
-shape_of-memory c = storing_length c.loop-i.invariant.2
-
 pub returns : goal.returns
-returns c = storing_done c.loop-i.invariant.2 c.loop-i-test.false
+returns c =
+    let e : c.args.from - (c.args.from - c.args.to) ≡ c.args.to = omega (arith, c.requires.0) in
+    c.shift_left.ensures ∙ ap (λ n. placed n (slice c.args.from (c.args.from + record_bytes) c.args.memory.now) c.args.memory.now) e

@@ -1,19 +1,19 @@
 -- Goals of the cycle `unification`.
 use mathlib.Core.Path.{refl}
 use native.Mathlib.Omega.{arith}
-use Rattle.unifying.specs.Theory.Unify.{unification_readable, arguments_rows, reached_free_at, one_less, terms_bind, terms_symbols, terms_none, symbols_differ, symbols_same, same_reached, told, not_unified, not_failed, rows_end, rows_left, rows_right, rows_fail, rows_more, rows_first, rows_rest, rows_first_some}
+use Rattle.unifying.specs.Theory.Unify.{unification_readable, arguments_rows, reached_free_at, one_less, terms_bind, terms_symbols, terms_none, symbols_differ, symbols_same, same_reached, told, some_told, none_told, not_unified, not_failed, rows_end, rows_left, rows_right, rows_fail, rows_more, rows_first, rows_rest, rows_first_some}
 use Rattle.unifying.specs.Theory.Links.{linked_followed, leads_same, links_meet, linked_later, linked_both}
 use lib.ListN.{length-set}
 use Rattle.unifying.proofs.unify.+unification.Goals as goal
-use Rattle.unifying.proofs.unify.+unification.Goals.{unify_terms-then-nodes-s-lt-FIRST_VARIABLE+else-nodes-t-lt-FIRST_VARIABLE, unify_terms-else-nodes-s-lt-FIRST_VARIABLE}
+use Rattle.unifying.proofs.unify.+unification.Goals.{unify_terms-else-nodes-s-lt-FIRST_VARIABLE-via-then-nodes-s-lt-FIRST_VARIABLE+else-nodes-t-lt-FIRST_VARIABLE, unify_terms-else-nodes-s-lt-FIRST_VARIABLE-via-else-nodes-s-lt-FIRST_VARIABLE}
 
-pub unify_rows-unify_terms-answer-requires : goal.unify_rows-unify_terms-answer-requires
-unify_rows-unify_terms-answer-requires t c =
+pub unify_rows-unify_terms-requires : goal.unify_rows-unify_terms-requires
+unify_rows-unify_terms-requires t c =
     (omega (arith, c.decreases), (c.requires.readable, (rows_first c.requires.has_rows c.if-left.true c.if-right.true, c.requires.linked)))
 
-pub unify_rows-returns-in_default : goal.unify_rows-returns-in_default
-unify_rows-returns-in_default t c =
-    record { unifies_rows = rows_fail _ _ c.unify_terms-answer.result c.if-left.true c.if-right.true c.unify_terms-answer.ensures.unifies_to c.in_default.is; linked_2 = not_unified }
+pub unify_rows-returns-in_err-unify_terms : goal.unify_rows-returns-in_err-unify_terms
+unify_rows-returns-in_err-unify_terms t c =
+    rw c.from_residual.ensures (record { unifies_rows = rows_fail _ _ c.unify_terms.result c.if-left.true c.if-right.true c.unify_terms.ensures.unifies_to (none_told c.in_err-unify_terms.was); linked_2 = not_unified })
 
 pub unify_rows-other_arguments-others-requires : goal.unify_rows-other_arguments-others-requires
 unify_rows-other_arguments-others-requires t c =
@@ -26,15 +26,15 @@ unify_rows-other_arguments-opposite-requires t c =
 pub unify_rows-unify_rows-requires : goal.unify_rows-unify_rows-requires
 unify_rows-unify_rows-requires t c =
     let w = rows_first c.requires.has_rows c.if-left.true c.if-right.true in
-    let read = unification_readable c.unify_terms-answer.new.bindings c.requires.readable.0 c.args.left.from c.args.right.from w.0 w.1 (c.unify_terms-answer.ensures.unifies_to.found c.in-Unified.is) in
+    let read = unification_readable c.unify_terms.new.bindings c.requires.readable.0 c.args.left.from c.args.right.from w.0 w.1 (c.unify_terms.ensures.unifies_to.found (some_told c.in_ok-unify_terms.was)) in
     let some = rows_first_some c.requires.has_rows c.if-left.true c.if-right.true in
     rw (c.other_arguments-others.ensures, c.other_arguments-opposite.ensures)
-    (omega (arith, c.decreases, c.if-left.true, some), ((read, c.requires.readable.1), (rows_rest c.requires.has_rows c.if-left.true c.if-right.true, c.unify_terms-answer.ensures.linked_2 c.in-Unified.is)))
+    (omega (arith, c.decreases, c.if-left.true, some), ((read, c.requires.readable.1), (rows_rest c.requires.has_rows c.if-left.true c.if-right.true, c.unify_terms.ensures.linked_2 (some_told c.in_ok-unify_terms.was))))
 
 pub unify_rows-returns-then-right : goal.unify_rows-returns-then-right
 unify_rows-returns-then-right t c =
     let w = rows_first c.requires.has_rows c.if-left.true c.if-right.true in
-    record { unifies_rows = rows_more c.requires.readable.0 refl w.0 w.1 _ _ c.unify_terms-answer.result c.unify_rows.result c.if-left.true c.if-right.true c.unify_terms-answer.ensures.unifies_to c.in-Unified.is c.other_arguments-others.ensures c.other_arguments-opposite.ensures c.unify_rows.ensures.unifies_rows; linked_2 = c.unify_rows.ensures.linked_2 }
+    record { unifies_rows = rows_more c.requires.readable.0 refl w.0 w.1 _ _ c.unify_terms.result c.unify_rows.result c.if-left.true c.if-right.true c.unify_terms.ensures.unifies_to (some_told c.in_ok-unify_terms.was) c.other_arguments-others.ensures c.other_arguments-opposite.ensures c.unify_rows.ensures.unifies_rows; linked_2 = c.unify_rows.ensures.linked_2 }
 
 pub unify_rows-returns-then-left : goal.unify_rows-returns-then-left
 unify_rows-returns-then-left t c = record { unifies_rows = rows_left _ c.if-left.true c.if-right.false; linked_2 = not_unified }
@@ -98,14 +98,14 @@ pub unify_terms-overflow_sub-depth : goal.unify_terms-overflow_sub-depth
 unify_terms-overflow_sub-depth t c =
     omega (arith, one_less c.args.depth c.if-depth-eq0.false)
 
-pub unify_terms-unify_symbols-answer-requires : goal.unify_terms-unify_symbols-answer-requires
-unify_terms-unify_symbols-answer-requires t c =
+pub unify_terms-unify_symbols-requires : goal.unify_terms-unify_symbols-requires
+unify_terms-unify_symbols-requires t c =
     (omega (arith, c.decreases, one_less c.args.depth c.if-depth-eq0.false), (c.requires.readable, ((c.reached-s.ensures.upper_bound, c.if-nodes-s-lt-FIRST_VARIABLE.true), ((c.reached-t.ensures.upper_bound, c.if-nodes-t-lt-FIRST_VARIABLE.true), c.requires.linked))))
 
-pub unify_terms-returns-in_default : goal.unify_terms-returns-in_default
-unify_terms-returns-in_default t c =
-    let u = terms_symbols c.requires.readable.0 c.args.p c.args.q c.reached-s.result c.reached-t.result c.args.depth c.reached-s.ensures.value c.reached-t.ensures.value c.if-depth-eq0.false _ c.unify_symbols-answer.result c.reached-s.ensures.upper_bound c.reached-t.ensures.upper_bound c.if-nodes-s-lt-FIRST_VARIABLE.true c.if-nodes-t-lt-FIRST_VARIABLE.true c.unify_symbols-answer.ensures.unifies_symbols in
-    record { unifies_to = record { found = λ z. not_unified z; none_found = λ z. u.none_found c.in_default.is }; linked_2 = not_unified }
+pub unify_terms-returns-in_err-unify_symbols : goal.unify_terms-returns-in_err-unify_symbols
+unify_terms-returns-in_err-unify_symbols t c =
+    let u = terms_symbols c.requires.readable.0 c.args.p c.args.q c.reached-s.result c.reached-t.result c.args.depth c.reached-s.ensures.value c.reached-t.ensures.value c.if-depth-eq0.false _ c.unify_symbols.result c.reached-s.ensures.upper_bound c.reached-t.ensures.upper_bound c.if-nodes-s-lt-FIRST_VARIABLE.true c.if-nodes-t-lt-FIRST_VARIABLE.true c.unify_symbols.ensures.unifies_symbols in
+    rw c.from_residual.ensures (record { unifies_to = record { found = λ z. not_unified z; none_found = λ z. u.none_found (none_told c.in_err-unify_symbols.was) }; linked_2 = not_unified })
 
 pub unify_terms-overflow_cast-links : goal.unify_terms-overflow_cast-links
 unify_terms-overflow_cast-links t c =
@@ -113,7 +113,7 @@ unify_terms-overflow_cast-links t c =
 
 pub unify_terms-bounds-links-a : goal.unify_terms-bounds-links-a
 unify_terms-bounds-links-a t c =
-    omega (arith, (leads_same c.requires.readable.0 c.requires.linked c.reached-s.ensures.upper_bound c.linked-a.ensures).0, c.requires.readable.0.laid.few, (c.unify_symbols-answer.ensures.linked_2 c.in-Unified.is).each_position)
+    omega (arith, (leads_same c.requires.readable.0 c.requires.linked c.reached-s.ensures.upper_bound c.linked-a.ensures).0, c.requires.readable.0.laid.few, (c.unify_symbols.ensures.linked_2 (some_told c.in_ok-unify_symbols.was)).each_position)
 
 pub unify_terms-overflow_cast-links-then-nodes-t-lt-FIRST_VARIABLE : goal.unify_terms-overflow_cast-links-then-nodes-t-lt-FIRST_VARIABLE
 unify_terms-overflow_cast-links-then-nodes-t-lt-FIRST_VARIABLE t c =
@@ -121,17 +121,17 @@ unify_terms-overflow_cast-links-then-nodes-t-lt-FIRST_VARIABLE t c =
 
 pub unify_terms-bounds-links-s : goal.unify_terms-bounds-links-s
 unify_terms-bounds-links-s t c =
-    omega (arith, c.reached-s.ensures.upper_bound, c.requires.readable.0.laid.few, (c.unify_symbols-answer.ensures.linked_2 c.in-Unified.is).each_position, length-set c.unify_symbols-answer.new.links c.linked-a.result c.linked-b.result)
+    omega (arith, c.reached-s.ensures.upper_bound, c.requires.readable.0.laid.few, (c.unify_symbols.ensures.linked_2 (some_told c.in_ok-unify_symbols.was)).each_position, length-set c.unify_symbols.new.links c.linked-a.result c.linked-b.result)
 
 pub unify_terms-returns-then-nodes-t-lt-FIRST_VARIABLE : goal.unify_terms-returns-then-nodes-t-lt-FIRST_VARIABLE
 unify_terms-returns-then-nodes-t-lt-FIRST_VARIABLE t c =
-    let u = terms_symbols c.requires.readable.0 c.args.p c.args.q c.reached-s.result c.reached-t.result c.args.depth c.reached-s.ensures.value c.reached-t.ensures.value c.if-depth-eq0.false _ c.unify_symbols-answer.result c.reached-s.ensures.upper_bound c.reached-t.ensures.upper_bound c.if-nodes-s-lt-FIRST_VARIABLE.true c.if-nodes-t-lt-FIRST_VARIABLE.true c.unify_symbols-answer.ensures.unifies_symbols in
-    let unified = u.found c.in-Unified.is in
-    let read = unification_readable c.unify_symbols-answer.new.bindings c.requires.readable.0 c.args.p c.args.q c.requires.p_in_bounds.0 c.requires.p_in_bounds.1 unified in record { unifies_to = record { found = λ z. unified; none_found = λ z. not_failed z }; linked_2 = λ z. linked_both c.requires.readable.0 read c.requires.linked (c.unify_symbols-answer.ensures.linked_2 c.in-Unified.is) c.reached-s.ensures.upper_bound c.reached-t.ensures.upper_bound c.reached-s.ensures.value c.reached-t.ensures.value c.linked-a.ensures c.linked-b.ensures unified }
+    let u = terms_symbols c.requires.readable.0 c.args.p c.args.q c.reached-s.result c.reached-t.result c.args.depth c.reached-s.ensures.value c.reached-t.ensures.value c.if-depth-eq0.false _ c.unify_symbols.result c.reached-s.ensures.upper_bound c.reached-t.ensures.upper_bound c.if-nodes-s-lt-FIRST_VARIABLE.true c.if-nodes-t-lt-FIRST_VARIABLE.true c.unify_symbols.ensures.unifies_symbols in
+    let unified = u.found (some_told c.in_ok-unify_symbols.was) in
+    let read = unification_readable c.unify_symbols.new.bindings c.requires.readable.0 c.args.p c.args.q c.requires.p_in_bounds.0 c.requires.p_in_bounds.1 unified in record { unifies_to = record { found = λ z. unified; none_found = λ z. not_failed z }; linked_2 = λ z. linked_both c.requires.readable.0 read c.requires.linked (c.unify_symbols.ensures.linked_2 (some_told c.in_ok-unify_symbols.was)) c.reached-s.ensures.upper_bound c.reached-t.ensures.upper_bound c.reached-s.ensures.value c.reached-t.ensures.value c.linked-a.ensures c.linked-b.ensures unified }
 
 pub unify_terms-bind_reached-requires : goal.unify_terms-bind_reached-requires
 unify_terms-bind_reached-requires t c =
-    record { readable = c.requires.readable; free_at = (reached_free_at c.requires.readable.0 c.args.p c.reached-s.result c.reached-s.ensures.value c.reached-s.ensures.upper_bound, reached_free_at c.requires.readable.0 c.args.q c.reached-t.result c.reached-t.ensures.value c.reached-t.ensures.upper_bound); first_variable_bound = λ h. elim c.if-nodes-s-lt-FIRST_VARIABLE.branch [ unify_terms-then-nodes-s-lt-FIRST_VARIABLE+else-nodes-t-lt-FIRST_VARIABLE w ↦ w.if-nodes-t-lt-FIRST_VARIABLE.false | unify_terms-else-nodes-s-lt-FIRST_VARIABLE w ↦ absurd (omega (arith, w.if-nodes-s-lt-FIRST_VARIABLE.false, h)) ] }
+    record { readable = c.requires.readable; free_at = (reached_free_at c.requires.readable.0 c.args.p c.reached-s.result c.reached-s.ensures.value c.reached-s.ensures.upper_bound, reached_free_at c.requires.readable.0 c.args.q c.reached-t.result c.reached-t.ensures.value c.reached-t.ensures.upper_bound); first_variable_bound = λ h. elim c.else-nodes-s-lt-FIRST_VARIABLE.branch [ unify_terms-else-nodes-s-lt-FIRST_VARIABLE-via-then-nodes-s-lt-FIRST_VARIABLE+else-nodes-t-lt-FIRST_VARIABLE w ↦ w.if-nodes-t-lt-FIRST_VARIABLE.false | unify_terms-else-nodes-s-lt-FIRST_VARIABLE-via-else-nodes-s-lt-FIRST_VARIABLE w ↦ absurd (omega (arith, w.if-nodes-s-lt-FIRST_VARIABLE.false, h)) ] }
 
 pub unify_terms-returns : goal.unify_terms-returns
 unify_terms-returns t c =
