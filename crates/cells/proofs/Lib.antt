@@ -1,4 +1,3 @@
 -- Laws that the proofs of the functions share.
-pub mod Ready
 pub mod Passed
 pub mod Held

@@ -4,7 +4,6 @@ ghost use Rattle.std.specs.Prelude.{◌≡◌, ◌+◌, ◌<◌, length, get_or}
 ghost use Rattle.format.specs.Limits.{first_variable, variable_count};
 ghost use Rattle.cells.specs.ForContracts.Nodes.{resolved};
 
-use format::byte::wide;
 use format::limits::Limits;
 
 // The node that stands for the same term and is no variable: a variable gives way to its value.
@@ -16,5 +15,5 @@ pub fn resolve(nodes: &[u8], values: &[u8; Limits::VARIABLES], i: usize) -> usiz
     if byte < Limits::FIRST_VARIABLE {
         return i;
     }
-    wide(values[wide(byte - Limits::FIRST_VARIABLE)])
+    usize::from(values[usize::from(byte - Limits::FIRST_VARIABLE)])
 }

@@ -11,10 +11,8 @@ fn all_smaller(nodes: &[u8], from: usize, end: usize, symbol: u8) -> bool
     ensures { (result ≡ true) ↔ AllSmaller nodes.now symbol from end }
 {
     let mut all = true;
-    let mut at = from;
-    while at < end {
-        all = all & (nodes[at] < symbol);
-        at = at + 1;
+    for at in from..end {
+        all &= nodes[at] < symbol;
     }
     all
 }
@@ -29,7 +27,7 @@ fn behind_blocks(nodes: &[u8], from: usize, end: usize, symbol: u8) -> usize
         if !all_smaller(nodes, at, at + BLOCK, symbol) {
             return at;
         }
-        at = at + BLOCK;
+        at += BLOCK;
     }
     at
 }
@@ -39,10 +37,9 @@ fn behind_half(nodes: &[u8], from: usize, end: usize, symbol: u8) -> usize
     requires { (from ≤ end) × (end ≤ length nodes.now) }
     ensures { BehindSmaller nodes.now symbol from end result }
 {
-    if from + BLOCK / 2 <= end {
-        if all_smaller(nodes, from, from + BLOCK / 2, symbol) {
-            return from + BLOCK / 2;
-        }
+    let half = from + BLOCK / 2;
+    if half <= end && all_smaller(nodes, from, half, symbol) {
+        return half;
     }
     from
 }
@@ -53,12 +50,11 @@ pub fn behind_smaller(nodes: &[u8], from: usize, end: usize, symbol: u8) -> usiz
     ensures { FirstNotSmaller nodes.now symbol from end result }
 {
     let blocks = behind_blocks(nodes, from, end, symbol);
-    let mut at = behind_half(nodes, blocks, end, symbol);
-    while at < end {
+    let behind = behind_half(nodes, blocks, end, symbol);
+    for at in behind..end {
         if symbol <= nodes[at] {
             return at;
         }
-        at = at + 1;
     }
-    at
+    end
 }

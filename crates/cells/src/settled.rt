@@ -14,11 +14,7 @@ pub fn clear(bytes: &mut [u8], from: usize, end: usize)
     requires { (from ≤ end) × (end ≤ length bytes.old) }
     ensures { Cleared bytes.old from end bytes.new }
 {
-    let mut at = from;
-    while at < end {
-        bytes[at] = 0;
-        at = at + 1;
-    }
+    bytes[from..end].fill(0);
 }
 
 // Makes the row of `s` ready: its cells are cleared at the first use, those with a second node of the subject's.

@@ -3,8 +3,6 @@ ghost use Rattle.std.specs.Prelude.{◌≡◌, length};
 ghost use Rattle.format.specs.Limits.{node_count};
 ghost use Rattle.clauses.specs.ForContracts.Among.{HasTwoTerms, HasRowAndTerm, TellsEqual, TellsAmong};
 
-use format::byte::wide;
-use format::same::same_bytes;
 use terms::arguments::Arguments;
 
 // The same nodes with the same sizes stand for the same term. Other nodes may do so too, where they are variables: then nothing is told.
@@ -12,14 +10,14 @@ fn same_nodes(nodes: &[u8], sizes: &[u8], i: usize, j: usize) -> bool
     requires { (length nodes.now ≡ node_count) × (length sizes.now ≡ node_count) × HasTwoTerms nodes.now sizes.now i j }
     ensures { TellsEqual nodes.now sizes.now i j result }
 {
-    let n = wide(sizes[i]);
-    if n != wide(sizes[j]) {
+    let n = usize::from(sizes[i]);
+    if n != usize::from(sizes[j]) {
         return false;
     }
-    if !same_bytes(nodes, i, j, n) {
+    if nodes[i..i + n] != nodes[j..j + n] {
         return false;
     }
-    same_bytes(sizes, i, j, n)
+    sizes[i..i + n] == sizes[j..j + n]
 }
 
 // Yes: the term at j is one of those in the row, whose bytes it has. No tells nothing.
@@ -33,7 +31,7 @@ pub fn among(nodes: &[u8], sizes: &[u8], row: Arguments, j: usize) -> bool
         if same_nodes(nodes, sizes, at, j) {
             return true;
         }
-        at = at + wide(sizes[at]);
+        at += usize::from(sizes[at]);
     }
     false
 }

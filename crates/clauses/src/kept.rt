@@ -20,9 +20,8 @@ fn clause_of_number(number: u8) -> Clause
 pub fn held_decision(cell: u8) -> Decision
     ensures { DecisionHeld cell result }
 {
-    let verdict = held(cell);
     let clause = clause_of_number(cell / CLAUSE_UNIT);
-    match verdict {
+    match held(cell) {
         Verdict::Smaller => Decision::Smaller(clause),
         Verdict::Equal => Decision::Equal,
         Verdict::Greater => Decision::Greater(clause),

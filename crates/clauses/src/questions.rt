@@ -5,50 +5,46 @@ ghost use Rattle.cells.specs.ForContracts.Cells.{SettledCells};
 ghost use Rattle.comparing.specs.ForContracts.Comparing.{HasTerm, HasTerms, FindsReaching, ComparesWithAll};
 
 use crate::among::among;
-use comparing::comparison::{argument_reaches, exceeds_arguments};
+use comparing::comparison::Compared;
 use format::limits::Limits;
 use terms::arguments::Arguments;
 
 // L1: whether one of the terms in the row equals or exceeds the term at j.
 pub fn some_reaches(
-    nodes: &[u8],
-    sizes: &[u8],
-    values: &[u8; Limits::VARIABLES],
+    compared: &Compared,
     ready: &mut [u8; Limits::NODES],
     cells: &mut [u8],
     row: Arguments,
     j: usize,
 ) -> bool
-    requires settled_cells { SettledCells nodes.now sizes.now values.now ready.old cells.old }
-    requires has_terms { HasTerms nodes.now sizes.now values.now row }
-    requires has_term { HasTerm nodes.now sizes.now values.now j × (position_count ≤ j) }
-    ensures finds_reaching { FindsReaching nodes.now sizes.now values.now row j result }
-    ensures settled_cells_2 { SettledCells nodes.now sizes.now values.now ready.new cells.new }
+    requires settled_cells { SettledCells compared.now.nodes.now compared.now.sizes.now compared.now.values.now ready.old cells.old }
+    requires has_terms { HasTerms compared.now.nodes.now compared.now.sizes.now compared.now.values.now row }
+    requires has_term { HasTerm compared.now.nodes.now compared.now.sizes.now compared.now.values.now j × (position_count ≤ j) }
+    ensures finds_reaching { FindsReaching compared.now.nodes.now compared.now.sizes.now compared.now.values.now row j result }
+    ensures settled_cells_2 { SettledCells compared.now.nodes.now compared.now.sizes.now compared.now.values.now ready.new cells.new }
 {
-    if among(nodes, sizes, row, j) {
+    if among(compared.nodes, compared.sizes, row, j) {
         return true;
     }
-    argument_reaches(nodes, sizes, values, ready, cells, row, j)
+    compared.argument_reaches(ready, cells, row, j)
 }
 
 // L2: whether the term at i exceeds every term in the row.
 pub fn exceeds_all(
-    nodes: &[u8],
-    sizes: &[u8],
-    values: &[u8; Limits::VARIABLES],
+    compared: &Compared,
     ready: &mut [u8; Limits::NODES],
     cells: &mut [u8],
     i: usize,
     row: Arguments,
 ) -> bool
-    requires settled_cells { SettledCells nodes.now sizes.now values.now ready.old cells.old }
-    requires has_term { HasTerm nodes.now sizes.now values.now i × (get_or nodes.now i 0 < first_variable) }
-    requires has_terms { HasTerms nodes.now sizes.now values.now row × (position_count ≤ row.from) }
-    ensures compares_with_all { ComparesWithAll nodes.now sizes.now values.now i row result }
-    ensures settled_cells_2 { SettledCells nodes.now sizes.now values.now ready.new cells.new }
+    requires settled_cells { SettledCells compared.now.nodes.now compared.now.sizes.now compared.now.values.now ready.old cells.old }
+    requires has_term { HasTerm compared.now.nodes.now compared.now.sizes.now compared.now.values.now i × (get_or compared.now.nodes.now i 0 < first_variable) }
+    requires has_terms { HasTerms compared.now.nodes.now compared.now.sizes.now compared.now.values.now row × (position_count ≤ row.from) }
+    ensures compares_with_all { ComparesWithAll compared.now.nodes.now compared.now.sizes.now compared.now.values.now i row result }
+    ensures settled_cells_2 { SettledCells compared.now.nodes.now compared.now.sizes.now compared.now.values.now ready.new cells.new }
 {
-    if among(nodes, sizes, row, i) {
+    if among(compared.nodes, compared.sizes, row, i) {
         return false;
     }
-    exceeds_arguments(nodes, sizes, values, ready, cells, i, row)
+    compared.exceeds_arguments(ready, cells, i, row)
 }

@@ -5,16 +5,9 @@ ghost use Rattle.comparing.specs.ForContracts.Comparing.{TellsConstants};
 
 use ordering::verdict::Verdict;
 
-// The verdict, or that it has to be asked for.
-#[derive(Clone, Copy)]
-pub enum Told {
-    Verdict(Verdict),
-    Nothing,
-}
-
 // The verdict of the terms at two symbol nodes, where there is nothing to ask of arguments: a term exceeds a constant with a smaller symbol, and two constants with the same
 // symbol are equal. Such a pair needs no cell.
-pub fn tell_constants(nodes: &[u8], sizes: &[u8], i: usize, j: usize) -> Told
+pub fn tell_constants(nodes: &[u8], sizes: &[u8], i: usize, j: usize) -> Option<Verdict>
     requires i_in_bounds { (i < length nodes.now) × (i < length sizes.now) × (get_or nodes.now i 0 < first_variable) }
     requires j_in_bounds { (j < length nodes.now) × (j < length sizes.now) × (get_or nodes.now j 0 < first_variable) }
     ensures { TellsConstants nodes.now sizes.now i j result }
@@ -23,17 +16,17 @@ pub fn tell_constants(nodes: &[u8], sizes: &[u8], i: usize, j: usize) -> Told
     let g = nodes[j];
     if f < g {
         if sizes[i] == 1 {
-            return Told::Verdict(Verdict::Smaller);
+            return Some(Verdict::Smaller);
         }
-        return Told::Nothing;
+        return None;
     }
     if sizes[j] == 1 {
         if g < f {
-            return Told::Verdict(Verdict::Greater);
+            return Some(Verdict::Greater);
         }
         if sizes[i] == 1 {
-            return Told::Verdict(Verdict::Equal);
+            return Some(Verdict::Equal);
         }
     }
-    Told::Nothing
+    None
 }

@@ -13,7 +13,7 @@ use Rattle.solving.specs.ForContracts.Written.{WrittenLines}
 use Rattle.solving.specs.Theory.Records.{length_record}
 use Rattle.line_bytes.specs.ForContracts.Layout.{count_place, placed}
 use Rattle.line_bytes.specs.Theory.Placed.{placed_length, placed_none, placed_behind}
-use Rattle.kept_lines.specs.declared.trimmed.Kept.TheVariants.{Full, End}
+use Rattle.std.specs.Prelude.{None, Some}
 use Rattle.kept_lines.specs.ForContracts.Trimmed.{trimmed, trimmed_lines, RecordsAre, HasRecords, KeptAs}
 use Rattle.kept_lines.proofs.Lengths.{counted_length}
 use Rattle.kept_lines.proofs.Parts.{length_part, part_room, part_rest, part_byte}
@@ -158,19 +158,19 @@ module _ {bytes before : List ℕ} {start : ℕ} (low : start ≤ length before)
         }
 
     -- The table has no room for line `i`.
-    pub keeping_full : {n : ℕ} → i < lines → n ≡ counted_length bytes (i * record_bytes) → table_bytes < to + n → (ls : List Line) → RecordsAre bytes lines ls → KeptAs ls start before table Full
+    pub keeping_full : {n : ℕ} → i < lines → n ≡ counted_length bytes (i * record_bytes) → table_bytes < to + n → (ls : List Line) → RecordsAre bytes lines ls → KeptAs ls start before table None
     keeping_full l e f ls r =
         let s = k.so_far ls r in
         (omega (arith, (next ls r l).needs_room), ap (drop table_bytes) s.stands ∙ drop_placed table_bytes start s.done before (omega (arith, k.fits, s.reached)) low)
 
-    pub keeping_done : lines ≤ i → (ls : List Line) → RecordsAre bytes lines ls → KeptAs ls start before table (End to)
+    pub keeping_done : lines ≤ i → (ls : List Line) → RecordsAre bytes lines ls → KeptAs ls start before table (Some to)
     unfolding trimmed_lines
     keeping_done l ls r = go s.left s.counted s.split
       where
         s : KeptSoFar bytes before start ls table to i
         s = k.so_far ls r
 
-        go : (left : List Line) → i + length left ≡ length ls → trimmed_lines ls ≡ s.done ++ trimmed_lines left → KeptAs ls start before table (End to)
+        go : (left : List Line) → i + length left ≡ length ls → trimmed_lines ls ≡ s.done ++ trimmed_lines left → KeptAs ls start before table (Some to)
         go [] c e =
             let all : trimmed_lines ls ≡ s.done = e ∙ append-nil s.done in
             (omega (arith, s.reached, ap length all), k.fits, s.stands ∙ ap (λ d. placed start d before) (sym all))

@@ -95,6 +95,7 @@ module _ (nodes sizes values table : List ℕ) (lines : KeptLines) where
   -- A line has bytes, so that there are no more lines before `at` than bytes.
   pub record NoneHolds (at count : ℕ) (ready cells : List ℕ) : Type 0 where
     pub settled : SettledCells nodes sizes values ready cells
+    pub some : 0 < count
     pub few : count ≤ at + 1
     pub left : (ρ : Values) (value : ℕ → Term) (ls : List Line) → LinesAre nodes sizes values ρ value table lines ls → LinesLeft ρ value ls at count
 
@@ -130,6 +131,7 @@ module _ {nodes sizes values table : List ℕ} {lines : KeptLines} where
   pub lines_start : {ready cells : List ℕ} → SettledCells nodes sizes values ready cells → NoneHolds nodes sizes values table lines lines.from 1 ready cells
   lines_start m = record {
     settled = m;
+    some = omega arith;
     few = omega arith;
     left = λ ρ value ls a. record {
       left = ls;
@@ -153,18 +155,19 @@ module _ {nodes sizes values table : List ℕ} {lines : KeptLines} where
         line_there b = let l = here b.assigned b.value b.these b.are in record { assigned = b.assigned; value = b.value; this = l.this; is = l.is }
 
         module _ {r : Bool} (tells : (ρ : Values) (value : ℕ → Term) (l : Line) → LineIs nodes sizes values ρ value table at (at + n) l → Tells r (LineHolds ρ value l)) where
-          pub first_found : r ≡ true → (ρ : Values) (value : ℕ → Term) (ls : List Line) → LinesAre nodes sizes values ρ value table lines ls → count ≡ first_holding ρ value ls
-          first_found d ρ value ls a = let l = here ρ value ls a in l.here ((tells ρ value l.this l.is).0 d)
+          pub first_found : r ≡ true → (ρ : Values) (value : ℕ → Term) (ls : List Line) → LinesAre nodes sizes values ρ value table lines ls → (0 < count) × (first_holding ρ value ls ≡ count)
+          first_found d ρ value ls a = let l = here ρ value ls a in (s.some, sym (l.here ((tells ρ value l.this l.is).0 d)))
 
           pub lines_again : {ready_after cells_after : List ℕ} → r ≡ false → SettledCells nodes sizes values ready_after cells_after
               → NoneHolds nodes sizes values table lines (at + n) (count + 1) ready_after cells_after
           lines_again d m = record {
             settled = m;
+            some = omega arith;
             few = omega (arith, s.few);
             left = λ ρ value ls a. let l = here ρ value ls a in l.others (told_not d (tells ρ value l.this l.is));
           }
 
-    pub lines_done : lines.end ≤ at → (ρ : Values) (value : ℕ → Term) (ls : List Line) → LinesAre nodes sizes values ρ value table lines ls → 0 ≡ first_holding ρ value ls
+    pub lines_done : lines.end ≤ at → (ρ : Values) (value : ℕ → Term) (ls : List Line) → LinesAre nodes sizes values ρ value table lines ls → first_holding ρ value ls ≡ 0
     unfolding trimmed_lines first_holding
     lines_done h ρ value ls a = go x.left x.are.ends x.are.testable x.none
       where
@@ -172,6 +175,6 @@ module _ {nodes sizes values table : List ℕ} {lines : KeptLines} where
         x = s.left ρ value ls a
 
         go : (left : List Line) → lines.end ≡ at + length (trimmed_lines left) → LinesTestable nodes sizes values ρ value left → (first_holding ρ value left ≡ 0 → first_holding ρ value ls ≡ 0)
-            → 0 ≡ first_holding ρ value ls
-        go [] e t z = sym (z refl)
+            → first_holding ρ value ls ≡ 0
+        go [] e t z = z refl
         go (line θ es ∷ rest) e t z = absurd (omega (arith, length-append (trimmed (line θ es)) (trimmed_lines rest), length_trimmed θ es t.0.0))

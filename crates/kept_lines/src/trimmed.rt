@@ -6,7 +6,6 @@ ghost use Rattle.solving.specs.Line.{Line};
 ghost use Rattle.line_bytes.specs.ForContracts.Layout.{count_place, first_element, placed};
 ghost use Rattle.kept_lines.specs.ForContracts.Trimmed.{HasRecords, RecordsAre, KeptAs};
 
-use format::byte::wide;
 use format::limits::Limits;
 use line_bytes::layout::{COUNT, FIRST_ELEMENT};
 
@@ -22,7 +21,7 @@ pub fn trimmed_length(bytes: &[u8], at: usize) -> usize
     requires { at + count_place < length bytes.now }
     ensures { result ≡ first_element + 2 * get_or bytes.now (at + count_place) 0 }
 {
-    FIRST_ELEMENT + 2 * wide(bytes[at + COUNT])
+    FIRST_ELEMENT + 2 * usize::from(bytes[at + COUNT])
 }
 
 // Copies the `n` bytes at `from` to `to`.
@@ -30,36 +29,23 @@ fn copy_line(records: &[u8], from: usize, n: usize, table: &mut [u8], to: usize)
     requires { (from + n ≤ length records.now) × (to + n ≤ length table.old) }
     ensures { table.new ≡ placed to (slice from (from + n) records.now) table.old }
 {
-    let mut i = 0;
-    while i < n {
-        table[to + i] = records[from + i];
-        i = i + 1;
-    }
+    table[to..to + n].copy_from_slice(&records[from..from + n]);
 }
 
-// There is no room for the lines, or where they end.
-#[derive(Clone, Copy)]
-pub enum Kept {
-    Full,
-    End(usize),
-}
-
-// Keeps lines whose records stand first in `records`, from `start` on.
-pub fn keep_lines(records: &[u8], lines: usize, table: &mut [u8], start: usize) -> Kept
+// Keeps lines whose records stand first in `records`, from `start` on, and tells where they end; none where there is no room for them.
+pub fn keep_lines(records: &[u8], lines: usize, table: &mut [u8], start: usize) -> Option<usize>
     requires { HasRecords records.now lines × (start ≤ table_bytes) × (table_bytes ≤ length table.old) }
     ensures { (ls : List Line) → RecordsAre records.now lines ls → KeptAs ls start table.old table.new result }
 {
     let mut to = start;
-    let mut i = 0;
-    while i < lines {
+    for i in 0..lines {
         let at = i * Limits::RECORD;
         let n = trimmed_length(records, at);
         if Limits::TABLE < to + n {
-            return Kept::Full;
+            return None;
         }
         copy_line(records, at, n, table, to);
-        to = to + n;
-        i = i + 1;
+        to += n;
     }
-    Kept::End(to)
+    Some(to)
 }

@@ -5,14 +5,17 @@ use mathlib.Core.Bool.{Bool, true, false}
 use mathlib.Core.List.{List}
 use mathlib.Core.Option.{Option, none, some}
 use native.Mathlib.Omega.{arith}
-use lib.ListN.{get_or, replicate, get_or-replicate}
+use lib.ListN.{length, get_or, take, drop, replicate, get_or-replicate}
+use Rattle.std.proofs.lemmas.List.{get_or-take, get_or-drop}
+use Rattle.std.proofs.Common.{length-take}
 use Rattle.format.specs.Limits.{first_variable, variable_count, filling_node}
 use Rattle.terms.specs.Term.{Term, Terms, var, app, nil, cons, size, count, arity}
 use Rattle.terms.specs.declared.arguments.Arguments.{Arguments}
 use Rattle.terms.specs.ForContracts.Stored.{GroundStored}
 use Rattle.terms.specs.Theory.Position.{size_pos}
 use Rattle.terms.specs.Theory.Append.{append, nil_cons, count_append}
-use Rattle.terms.specs.Theory.Stored.{ground_size}
+use Rattle.terms.specs.Theory.Prefix.{length_prefix}
+use Rattle.terms.specs.Theory.Stored.{ground_size, stored_room}
 use Rattle.terms.specs.Theory.Spelled.{Spelled, First, variable_first, symbol_first, spelled_one, first_spelled, spelled_none, spelled_some}
 use Rattle.reducing.specs.Match.{Match, no_match, meet, match, match_each}
 use Rattle.step_match.specs.ForContracts.Matching.{HasGround, MatchIs, HasMatch, Matched, SidePart, HasSidePart}
@@ -52,6 +55,16 @@ pub of_some : {bytes nodes sizes values : List ℕ} {side : Arguments} {node i a
     → ((arities : List ℕ) (s t : Term) → SidePart bytes side nodes sizes node arities s t → MatchProgress bytes side.end nodes sizes arities s t values i at)
     → MatchProgress bytes side.end nodes sizes h.arities h.pattern h.part values i at
 of_some h each = each h.arities h.pattern h.part h.is
+
+-- The side's bytes stand among the equation's.
+pub side_room : {bytes nodes sizes arities : List ℕ} {side : Arguments} {node : ℕ} {s t : Term} → SidePart bytes side nodes sizes node arities s t → side.end ≤ length bytes
+side_room {s = s} p = omega (arith, p.ends, length_prefix s, size_pos s, stored_room p.spelled (omega (arith, length_prefix s, size_pos s)))
+
+-- A byte of a part, as the loop over the part reads it.
+pub byte_read : (bytes : List ℕ) (from end k : ℕ) → k < length (take (end - from) (drop from bytes)) → (get_or (take (end - from) (drop from bytes)) k 0 ≡ get_or bytes (from + k) 0) × (from + k < end)
+byte_read bytes from end k h =
+    let l : k < end - from = omega (arith, length-take (end - from) (drop from bytes)) in
+    (get_or-take (end - from) (drop from bytes) k 0 l ∙ get_or-drop from bytes k 0, omega arith)
 
 module _ {bytes : List ℕ} {end : ℕ} {nodes sizes arities : List ℕ} {s t : Term} {values : List ℕ} {i at : ℕ} (p : MatchProgress bytes end nodes sizes arities s t values i at) where
   -- As long as the side is not read to its end, a term of the subject is to be met.

@@ -1,31 +1,21 @@
 -- The nodes of the terms that the variables met: none at first, and one more where a variable meets a term.
-use Prim.Native.Nat.{ℕ, ◌+◌, ◌<◌}
-use mathlib.Core.Path.{◌≡◌, refl, sym, ap, ◌∙◌}
+use Prim.Native.Nat.{ℕ, ◌<◌}
+use mathlib.Core.Path.{◌≡◌, refl, ◌∙◌}
 use mathlib.Core.Bool.{Bool, true, false}
 use mathlib.Core.Logic.{◌↔◌}
 use mathlib.Core.List.{List}
 use mathlib.Core.Option.{Option, none, some}
 use native.Mathlib.Omega.{arith}
 use native.Mathlib.Decide.{ℕ_discrete}
-use lib.ListN.{length, get_or, set, replicate, length-set, get_or-replicate}
-use lib.Seq.{get_or-set_same, get_or-set_other, ext_get_or}
+use lib.ListN.{get_or, set, length-set}
+use lib.Seq.{get_or-set_same, get_or-set_other}
 use Rattle.format.specs.Limits.{variable_count, filling_node}
 use Rattle.terms.specs.Term.{Term, identical?}
 use Rattle.terms.specs.ForContracts.Stored.{GroundStored}
 use Rattle.reducing.specs.Match.{Match, meet}
 use Rattle.step_match.specs.ForContracts.Matching.{HasGround, SlotIs, MatchIs, HasMatch, Matched}
 
--- 1. The first `v` variables met no term.
-pub forgets : (values : List ℕ) (v : ℕ) → v < length values → ((k : ℕ) → k < v → get_or values k 0 ≡ filling_node) → (k : ℕ) → k < v + 1 → get_or (set values v filling_node) k 0 ≡ filling_node
-forgets values v h before k l = elim (ℕ_discrete k v) [
-  | yes e ↦ ap (λ j. get_or (set values v filling_node) j 0) e ∙ get_or-set_same values v filling_node 0 h
-  | no n ↦ get_or-set_other values v k filling_node 0 n ∙ before k (omega arith)
-]
-
-pub forgotten : (values : List ℕ) → length values ≡ variable_count → ((k : ℕ) → k < variable_count → get_or values k 0 ≡ filling_node) → values ≡ replicate variable_count filling_node
-forgotten values e none_met = ext_get_or 0 values (replicate variable_count filling_node) e (λ k l. none_met k (omega arith) ∙ sym (get_or-replicate variable_count k filling_node 0 (omega arith)))
-
--- 2. A variable meets a term.
+-- A variable meets a term.
 pub met_before : {nodes sizes values : List ℕ} → HasMatch nodes sizes values → (v : ℕ) → v < variable_count → (get_or values v 0 ≡ filling_node → ⊥) → HasGround nodes sizes (get_or values v 0)
 met_before {nodes} {sizes} {values} m v l n = go (get_or m.found v none) (m.is.each v l)
   where

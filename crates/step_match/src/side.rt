@@ -8,7 +8,6 @@ ghost use Rattle.reducing.specs.Match.{Match, no_match, meet, match};
 ghost use Rattle.step_match.specs.ForContracts.Matching.{HasGround, HasMatch, MatchIs, Matched, SidePart, HasSidePart};
 
 use crate::same::same_terms;
-use format::byte::wide;
 use format::limits::Limits;
 use terms::arguments::Arguments;
 
@@ -17,11 +16,7 @@ fn forget(values: &mut [u8])
     requires { length values.old ≡ variable_count }
     ensures { values.new ≡ replicate variable_count filling_node }
 {
-    let mut v = 0;
-    while v < Limits::VARIABLES {
-        values[v] = Limits::FILLING_NODE as u8;
-        v = v + 1;
-    }
+    values.fill(Limits::FILLING_NODE as u8);
 }
 
 // Variable `v` meets the term at `node`: "a repeated variable meets identical terms".
@@ -29,7 +24,7 @@ fn meet(nodes: &[u8], sizes: &[u8], v: usize, node: usize, values: &mut [u8]) ->
     requires { HasGround nodes.now sizes.now node × HasMatch nodes.now sizes.now values.old × (v < variable_count) }
     ensures { (arities : List ℕ) (t : Term) (m : Match) → GroundStored nodes.now sizes.now arities node t → MatchIs nodes.now sizes.now arities m values.old → Matched nodes.now sizes.now arities (meet m v t (get_or m v none)) values.new result }
 {
-    let met = wide(values[v]);
+    let met = usize::from(values[v]);
     if met == Limits::FILLING_NODE {
         values[v] = node as u8;
         return true;
@@ -50,23 +45,20 @@ pub fn match_side(
     ensures { (arities : List ℕ) (s t : Term) → SidePart bytes.now side nodes.now sizes.now node arities s t → Matched nodes.now sizes.now arities (match s t no_match) values.new result }
 {
     forget(values);
-    let mut i = side.from;
     let mut at = node;
-    while i < side.end {
-        let byte = bytes[i];
+    for &byte in &bytes[side.from..side.end] {
         if byte < Limits::FIRST_VARIABLE {
             if byte != nodes[at] {
                 return false;
             }
-            at = at + 1;
+            at += 1;
         } else {
-            let v = wide(byte - Limits::FIRST_VARIABLE);
+            let v = usize::from(byte - Limits::FIRST_VARIABLE);
             if !meet(nodes, sizes, v, at, values) {
                 return false;
             }
-            at = at + wide(sizes[at]);
+            at += usize::from(sizes[at]);
         }
-        i = i + 1;
     }
     true
 }

@@ -1,5 +1,5 @@
 -- What the functions of the comparison ask and answer, each in terms of the terms that its nodes stand for.
-use Rattle.std.specs.Prelude.{ℕ, ◌≤◌, ◌<◌, ◌≡◌, ◌↔◌, Bool, true, false, List}
+use Rattle.std.specs.Prelude.{ℕ, ◌≤◌, ◌<◌, ◌≡◌, ◌↔◌, Bool, true, false, List, Option, IfSome}
 use Rattle.format.specs.Limits.{position_count}
 use Rattle.terms.specs.Term.{Term, Terms, size, sizes}
 use Rattle.terms.specs.declared.arguments.Arguments.{Arguments}
@@ -8,8 +8,6 @@ use Rattle.ordering.specs.declared.verdict.Verdict.{Verdict}
 use Rattle.ordering.specs.declared.verdict.Verdict.TheVariants.{Smaller as smaller, Equal as equal, Greater as greater}
 use Rattle.ordering.specs.Verdict.{verdict}
 use Rattle.comparing.specs.declared.comparison.Difference.{Difference}
-use Rattle.comparing.specs.declared.constants.Told.{Told}
-use Rattle.comparing.specs.declared.constants.Told.TheVariants.{Verdict as told_verdict}
 use Rattle.cells.specs.ForContracts.Nodes.{TermAt, TermsAt}
 
 -- The verdict of two terms that are not equal, by whether the first is greater.
@@ -58,5 +56,5 @@ module _ (nodes stored_sizes values : List ℕ) where
     pub left : LeftToAsk d.verdict first.here.term second.here.term first.those.terms second.those.terms
 
 -- What is told of the terms at two nodes is their verdict, whatever the values of the variables are.
-pub record TellsConstants (nodes sizes : List ℕ) (i j : ℕ) (r : Told) : Type 0 where
-  pub is : (v : Verdict) → r ≡ told_verdict v → (values : List ℕ) → Compares nodes sizes values i j v
+abbrev pub TellsConstants : (nodes sizes : List ℕ) (i j : ℕ) → Option Verdict → Type 0
+TellsConstants nodes sizes i j r = IfSome r (λ v. (values : List ℕ) → Compares nodes sizes values i j v)

@@ -1,12 +1,10 @@
 -- Lines that are kept without the filler of their records.
-use Rattle.std.specs.Prelude.{ℕ, ◌+◌, ◌≤◌, ◌<◌, ◌≡◌, List, [], ◌∷◌, ◌++◌, map, length, drop}
+use Rattle.std.specs.Prelude.{ℕ, ◌+◌, ◌≤◌, ◌<◌, ◌≡◌, List, [], ◌∷◌, ◌++◌, map, length, drop, Option, Some, None}
 use Rattle.format.specs.Limits.{table_bytes}
 use Rattle.terms.specs.ForContracts.Stored.{PartAt}
 use Rattle.solving.specs.Line.{Line, line, binding_byte, element_bytes, records}
 use Rattle.solving.specs.ForContracts.Written.{WrittenLines}
 use Rattle.line_bytes.specs.ForContracts.Layout.{placed}
-use Rattle.kept_lines.specs.declared.trimmed.Kept.{Kept}
-use Rattle.kept_lines.specs.declared.trimmed.Kept.TheVariants.{Full, End}
 
 -- A line's record without "ff after the last".
 unfoldable pub trimmed : Line → List ℕ
@@ -30,6 +28,6 @@ pub record HasRecords (bytes : List ℕ) (lines : ℕ) : Type 0 where
   pub are : RecordsAre bytes lines kept
 
 -- The lines are kept from `start` on; or the table has no room for them, and then only bytes of its stated length change.
-abbrev pub KeptAs : (ls : List Line) (start : ℕ) (before after : List ℕ) → Kept → Type 0
-KeptAs ls start before after Full = (table_bytes < start + length (trimmed_lines ls)) × (drop table_bytes after ≡ drop table_bytes before)
-KeptAs ls start before after (End end) = (end ≡ start + length (trimmed_lines ls)) × (end ≤ table_bytes) × (after ≡ placed start (trimmed_lines ls) before)
+abbrev pub KeptAs : (ls : List Line) (start : ℕ) (before after : List ℕ) → Option ℕ → Type 0
+KeptAs ls start before after None = (table_bytes < start + length (trimmed_lines ls)) × (drop table_bytes after ≡ drop table_bytes before)
+KeptAs ls start before after (Some end) = (end ≡ start + length (trimmed_lines ls)) × (end ≤ table_bytes) × (after ≡ placed start (trimmed_lines ls) before)

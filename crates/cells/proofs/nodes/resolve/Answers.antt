@@ -1,6 +1,5 @@
 -- `resolve` meets its contract, for a symbol and for a variable.
-use mathlib.Core.Path.{sym, ap, ◌∙◌}
-use lib.ListN.{get_or}
+use mathlib.Core.Path.{sym}
 use Rattle.cells.specs.Theory.Resolved.{resolved_symbol, resolved_variable}
 use Rattle.cells.proofs.nodes.resolve.Goals as goal
 
@@ -8,5 +7,4 @@ pub returns-then-byte-lt-FIRST_VARIABLE : goal.returns-then-byte-lt-FIRST_VARIAB
 returns-then-byte-lt-FIRST_VARIABLE c = sym (resolved_symbol c.args.nodes.now c.args.values.now c.args.i c.if-byte-lt-FIRST_VARIABLE.true)
 
 pub returns : goal.returns
-returns c =
-    c.wide-2.ensures.value ∙ (ap (λ v. get_or c.args.values.now v 0) c.wide.ensures.value ∙ sym (resolved_variable c.args.nodes.now c.args.values.now c.args.i c.if-byte-lt-FIRST_VARIABLE.false))
+returns c = let e = resolved_variable c.args.nodes.now c.args.values.now c.args.i c.if-byte-lt-FIRST_VARIABLE.false in cc

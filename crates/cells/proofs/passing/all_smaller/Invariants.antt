@@ -1,5 +1,4 @@
 -- `all_smaller` meets its contract. The invariant: `all` tells of the nodes before `at`.
-use Prim.Native.Nat.{◌-◌, ◌≤◌}
 use mathlib.Core.Path.{◌≡◌}
 use mathlib.Core.Logic.{◌↔◌}
 use mathlib.Core.Bool.{true}
@@ -7,7 +6,4 @@ use Rattle.cells.specs.ForContracts.Passing.{AllSmaller}
 use Rattle.cells.proofs.passing.all_smaller.Given as goal
 
 abbrev pub invariant-loop-at : goal.invariant-loop-at
-invariant-loop-at l = (l.initial.at ≤ l.at) × (l.at ≤ l.end) × ((l.all ≡ true) ↔ AllSmaller l.nodes l.symbol l.initial.at l.at)
-
-abbrev pub decreases-loop-at : goal.decreases-loop-at
-decreases-loop-at l = l.end - l.at
+invariant-loop-at l = (l.all ≡ true) ↔ AllSmaller l.nodes l.symbol l.from l.at

@@ -1,4 +1,5 @@
 -- `held` meets its contract.
+use Rattle.std.proofs.Common.{rules}
 use Rattle.ordering.specs.Verdict.{verdict_number}
 use Rattle.cells.proofs.Held.{holds, holds_greater}
 use Rattle.cells.proofs.settled.held.Goals as goal
@@ -12,4 +13,4 @@ unfolding verdict_number
 returns-in-2 c = holds c.in-2.is
 
 pub returns-in_default : goal.returns-in_default
-returns-in_default c = holds_greater c.in_default.in_default-own.rest.0.1 c.in_default.in_default-own.rest.1
+returns-in_default c = holds_greater (search rules) (search rules)

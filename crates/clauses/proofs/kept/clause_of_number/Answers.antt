@@ -1,4 +1,5 @@
 -- `clause_of_number` gives the clause with a number.
+use Rattle.std.proofs.Common.{rules}
 use Rattle.ordering.specs.Decision.{clause_number}
 use Rattle.clauses.proofs.Keeping.{numbered, numbered_L3}
 use Rattle.clauses.proofs.kept.clause_of_number.Goals as goal
@@ -12,4 +13,4 @@ unfolding clause_number
 returns-in-2 c = numbered c.in-2.is
 
 pub returns-in_default : goal.returns-in_default
-returns-in_default c = numbered_L3 c.in_default.in_default-own.rest.0.1 c.in_default.in_default-own.rest.1
+returns-in_default c = numbered_L3 (search rules) (search rules)

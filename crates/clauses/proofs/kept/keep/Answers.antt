@@ -1,6 +1,6 @@
 -- `keep` puts the cell of a decision.
 use Prim.Native.Nat.{◌+◌, ◌*◌}
-use mathlib.Core.Path.{refl, ap, ◌∙◌}
+use mathlib.Core.Path.{ap, ◌∙◌}
 use lib.ListN.{set}
 use native.Mathlib.Omega.{arith}
 use Rattle.ordering.specs.Verdict.{verdict_number}
@@ -21,8 +21,8 @@ pub overflow_add-cells-2 : goal.overflow_add-cells-2
 overflow_add-cells-2 c =
     omega (arith, c.clause_number_of.ensures, clause_few c.args.decision, c.number_of_verdict-verdict.ensures, number_few c.verdict_of.result)
 
-pub returns : goal.returns
+pub returns-clause-cells_after : goal.returns-clause-cells_after
 unfolding cell_of
-returns c =
+returns-clause-cells_after c =
     let told = ap (λ n. n + 1 + clause_unit * c.clause_number_of.result) (c.number_of_verdict-verdict.ensures ∙ ap verdict_number c.verdict_of.ensures) ∙ ap (λ n. verdict_number (verdict_of c.args.decision) + 1 + clause_unit * n) c.clause_number_of.ensures in
-    record { value = refl; cells_after = ap (set c.args.cells.now c.args.cell) told }
+    ap (set c.args.cells.now c.args.cell) told

@@ -10,60 +10,48 @@ resolve-s-requires c = resolvable c.requires.settled_cells c.requires.has_inequa
 pub resolve-t-requires : goal.resolve-t-requires
 resolve-t-requires c = resolvable c.requires.settled_cells c.requires.has_inequality.testable.1.stands
 
-pub bounds-sizes-s : goal.bounds-sizes-s
-bounds-sizes-s c =
+pub bounds-compared-s : goal.bounds-compared-s
+bounds-compared-s c =
     measurable c.requires.settled_cells (instance_node c.requires.has_inequality.testable.0 c.resolve-s.ensures).denotes
 
-pub bounds-nodes-s : goal.bounds-nodes-s
-bounds-nodes-s c =
-    readable c.requires.settled_cells (instance_node c.requires.has_inequality.testable.0 c.resolve-s.ensures).denotes
-
-pub bounds-nodes-t : goal.bounds-nodes-t
-bounds-nodes-t c =
+pub bounds-compared-t : goal.bounds-compared-t
+bounds-compared-t c =
     readable c.requires.settled_cells (instance_node c.requires.has_inequality.testable.1 c.resolve-t.ensures).denotes
 
-pub returns-then-nodes-s : goal.returns-then-nodes-s
-returns-then-nodes-s c =
-    record { variant = λ ρ value x. not_so (inequality_fails x c.resolve-s.ensures c.resolve-t.ensures c.if-sizes-s-eq1.true c.if-nodes-s.true); settled_cells_2 = c.requires.settled_cells }
+pub returns-then-compared-s-clause-variant : goal.returns-then-compared-s-clause-variant
+returns-then-compared-s-clause-variant c = λ ρ value x. not_so (inequality_fails x c.resolve-s.ensures c.resolve-t.ensures c.if-compared-s-eq1.true c.if-compared-s.true)
 
-pub bounds-sizes-t : goal.bounds-sizes-t
-bounds-sizes-t c =
+pub bounds-compared-t-2 : goal.bounds-compared-t-2
+bounds-compared-t-2 c =
     measurable c.requires.settled_cells (instance_node c.requires.has_inequality.testable.1 c.resolve-t.ensures).denotes
 
-pub bounds-nodes-t-then-sizes-t-eq1 : goal.bounds-nodes-t-then-sizes-t-eq1
-bounds-nodes-t-then-sizes-t-eq1 c =
-    readable c.requires.settled_cells (instance_node c.requires.has_inequality.testable.1 c.resolve-t.ensures).denotes
-
-pub bounds-nodes-s-then-sizes-t-eq1 : goal.bounds-nodes-s-then-sizes-t-eq1
-bounds-nodes-s-then-sizes-t-eq1 c =
+pub bounds-compared-s-then-compared-t-eq1 : goal.bounds-compared-s-then-compared-t-eq1
+bounds-compared-s-then-compared-t-eq1 c =
     readable c.requires.settled_cells (instance_node c.requires.has_inequality.testable.0 c.resolve-s.ensures).denotes
 
-pub returns-then-nodes-t : goal.returns-then-nodes-t
-returns-then-nodes-t c =
-    record { variant = λ ρ value x. so (inequality_told x c.resolve-s.ensures c.resolve-t.ensures c.if-sizes-t-eq1.true c.if-nodes-t.true); settled_cells_2 = c.requires.settled_cells }
+pub returns-then-compared-t-clause-variant : goal.returns-then-compared-t-clause-variant
+returns-then-compared-t-clause-variant c = λ ρ value x. so (inequality_told x c.resolve-s.ensures c.resolve-t.ensures c.if-compared-t-eq1.true c.if-compared-t.true)
 
-pub compare-decision-requires : goal.compare-decision-requires
-compare-decision-requires c =
+pub compare-requires : goal.compare-requires
+compare-requires c =
     let x = c.requires.has_inequality.testable in
     record { settled_cells = c.requires.settled_cells; has_term = (has_instance x.1 c.resolve-t.ensures, (instance_node x.1 c.resolve-t.ensures).symbol); has_term_2 = (has_instance x.0 c.resolve-s.ensures, one_low x c.resolve-s.ensures c.resolve-t.ensures c.if-t-lt-SUBJECT.true) }
 
 pub returns-in_default : goal.returns-in_default
 returns-in_default c =
-    record { variant = λ ρ value x. not_so (inequality_not_smaller x c.resolve-s.ensures c.resolve-t.ensures c.compare-decision.ensures.decision_of.verdict_is (λ e. let (b, d) = is_smaller c.compare-decision.result e in c.in_default.not-Smaller b d)); settled_cells_2 = c.compare-decision.ensures.settled_cells_2 }
+    record { variant = λ ρ value x. not_so (inequality_not_smaller x c.resolve-s.ensures c.resolve-t.ensures c.compare.ensures.decision_of.verdict_is (λ e. let (b, d) = is_smaller c.compare.result e in c.in_default.not-Smaller b d)); settled_cells_2 = c.compare.ensures.settled_cells_2 }
 
-pub returns-then-t-lt-SUBJECT : goal.returns-then-t-lt-SUBJECT
-returns-then-t-lt-SUBJECT c =
-    record { variant = λ ρ value x. so (inequality_smaller x c.resolve-s.ensures c.resolve-t.ensures c.compare-decision.ensures.decision_of.verdict_is (verdict_of_smaller c.in-Smaller.is)); settled_cells_2 = c.compare-decision.ensures.settled_cells_2 }
+pub returns-in-Smaller-clause-variant : goal.returns-in-Smaller-clause-variant
+returns-in-Smaller-clause-variant c = λ ρ value x. so (inequality_smaller x c.resolve-s.ensures c.resolve-t.ensures c.compare.ensures.decision_of.verdict_is (verdict_of_smaller c.in-Smaller.is))
 
-pub compare-decision-requires-2 : goal.compare-decision-requires-2
-compare-decision-requires-2 c =
+pub compare-requires-2 : goal.compare-requires-2
+compare-requires-2 c =
     let x = c.requires.has_inequality.testable in
     record { settled_cells = c.requires.settled_cells; has_term = (has_instance x.0 c.resolve-s.ensures, (instance_node x.0 c.resolve-s.ensures).symbol); has_term_2 = (has_instance x.1 c.resolve-t.ensures, c.if-t-lt-SUBJECT.false) }
 
-pub returns-in_default-decision : goal.returns-in_default-decision
-returns-in_default-decision c =
-    record { variant = λ ρ value x. not_so (inequality_not_greater x c.resolve-s.ensures c.resolve-t.ensures c.compare-decision-2.ensures.decision_of.verdict_is (λ e. let (b, d) = is_greater c.compare-decision-2.result e in c.in_default-decision.not-Greater b d)); settled_cells_2 = c.compare-decision-2.ensures.settled_cells_2 }
+pub returns-in_default-matches : goal.returns-in_default-matches
+returns-in_default-matches c =
+    record { variant = λ ρ value x. not_so (inequality_not_greater x c.resolve-s.ensures c.resolve-t.ensures c.compare-2.ensures.decision_of.verdict_is (λ e. let (b, d) = is_greater c.compare-2.result e in c.in_default-matches.not-Greater b d)); settled_cells_2 = c.compare-2.ensures.settled_cells_2 }
 
-pub returns : goal.returns
-returns c =
-    record { variant = λ ρ value x. so (inequality_greater x c.resolve-s.ensures c.resolve-t.ensures c.compare-decision-2.ensures.decision_of.verdict_is (verdict_of_greater c.in-Greater.is)); settled_cells_2 = c.compare-decision-2.ensures.settled_cells_2 }
+pub returns-in-Greater-clause-variant : goal.returns-in-Greater-clause-variant
+returns-in-Greater-clause-variant c = λ ρ value x. so (inequality_greater x c.resolve-s.ensures c.resolve-t.ensures c.compare-2.ensures.decision_of.verdict_is (verdict_of_greater c.in-Greater.is))

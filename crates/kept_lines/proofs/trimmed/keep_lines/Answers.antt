@@ -8,34 +8,24 @@ loop-i-init c = keeping_start (omega (arith, c.requires)) c.requires.1
 
 pub overflow_mul-at : goal.overflow_mul-at
 overflow_mul-at c =
-    omega (arith, record_there (omega (arith, c.requires)) c.loop-i.invariant c.requires.0 c.loop-i-test.true)
+    omega (arith, record_there (omega (arith, c.requires)) c.loop-i.invariant c.requires.0 (omega arith))
 
 pub trimmed_length-n-requires : goal.trimmed_length-n-requires
 trimmed_length-n-requires c =
-    omega (arith, record_there (omega (arith, c.requires)) c.loop-i.invariant c.requires.0 c.loop-i-test.true)
-
-pub overflow_add-to : goal.overflow_add-to
-overflow_add-to c =
-    omega (arith, record_there (omega (arith, c.requires)) c.loop-i.invariant c.requires.0 c.loop-i-test.true, c.loop-i.invariant.fits, c.trimmed_length-n.ensures)
-
-pub shape_of-table-then-to-n-gt-TABLE : goal.shape_of-table-then-to-n-gt-TABLE
-shape_of-table-then-to-n-gt-TABLE c = c.loop-i.invariant.same_length
+    omega (arith, record_there (omega (arith, c.requires)) c.loop-i.invariant c.requires.0 (omega arith))
 
 pub returns-then-to-n-gt-TABLE : goal.returns-then-to-n-gt-TABLE
 returns-then-to-n-gt-TABLE c =
-    keeping_full (omega (arith, c.requires)) c.loop-i.invariant c.loop-i-test.true c.trimmed_length-n.ensures c.if-to-n-gt-TABLE.true
+    keeping_full (omega (arith, c.requires)) c.loop-i.invariant (omega arith) c.trimmed_length-n.ensures c.if-to-n-gt-TABLE.true
 
 pub copy_line-requires : goal.copy_line-requires
 copy_line-requires c =
-    let there = record_there (omega (arith, c.requires)) c.loop-i.invariant c.requires.0 c.loop-i-test.true in
+    let there = record_there (omega (arith, c.requires)) c.loop-i.invariant c.requires.0 (omega arith) in
     (omega (arith, there, c.trimmed_length-n.ensures), omega (arith, c.if-to-n-gt-TABLE.false, c.loop-i.invariant.same_length, c.requires))
 
 pub loop-i-preserved : goal.loop-i-preserved
 loop-i-preserved c =
-    keeping_again (omega (arith, c.requires)) c.loop-i.invariant c.requires.2 c.requires.0 c.loop-i-test.true c.trimmed_length-n.ensures c.if-to-n-gt-TABLE.false c.copy_line.ensures
-
-pub shape_of-table : goal.shape_of-table
-shape_of-table c = c.loop-i.invariant.same_length
+    keeping_again (omega (arith, c.requires)) c.loop-i.invariant c.requires.2 c.requires.0 (omega arith) c.trimmed_length-n.ensures c.if-to-n-gt-TABLE.false c.copy_line.ensures
 
 pub returns : goal.returns
-returns c = keeping_done (omega (arith, c.requires)) c.loop-i.invariant c.loop-i-test.false
+returns c = keeping_done (omega (arith, c.requires)) c.loop-i.invariant (omega arith)

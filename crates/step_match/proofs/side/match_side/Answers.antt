@@ -1,85 +1,73 @@
 -- Goals of `match_side`.
-use mathlib.Core.Path.{refl, sym, ◌∙◌}
+use Prim.Native.Nat.{ℕ, ◌+◌}
+use mathlib.Core.Path.{◌≡◌, refl}
 use native.Mathlib.Omega.{arith}
-use borrow.Author.Tests.{not-true, not-false}
+use Rattle.std.proofs.Common.{rules, length-take, length-drop}
 use Rattle.step_match.proofs.Ground.{standing}
-use Rattle.terms.specs.Theory.Spelled.{spelled_room, variable_low}
-use Rattle.step_match.proofs.MatchProgress.{start, of_some, part_there, match_there, symbol_differs, symbol_same, variable_found, variable_refused, all_met}
+use Rattle.terms.specs.Theory.Spelled.{variable_low}
+use Rattle.step_match.proofs.MatchProgress.{start, of_some, side_room, byte_read, part_there, match_there, symbol_differs, symbol_same, variable_found, variable_refused, all_met}
 use Rattle.step_match.proofs.side.match_side.Goals as goal
 use Rattle.step_match.proofs.side.match_side.Goals.{then-byte-lt-FIRST_VARIABLE+else-byte-nodes, else-byte-lt-FIRST_VARIABLE+else-not-meet}
 
-pub loop-i-init : goal.loop-i-init
-loop-i-init c = λ arities s t p. rw c.forget.ensures (start p)
+pub slice_bounds-byte-items-end : goal.slice_bounds-byte-items-end
+slice_bounds-byte-items-end c = side_room c.requires.0.is
 
-pub bounds-bytes-i : goal.bounds-bytes-i
-bounds-bytes-i c =
-    let p = of_some c.requires.0 c.loop-i.invariant in
-    let h = c.loop-i-test.true in
-    omega (arith, spelled_room p.spelled h)
+pub loop-byte-init : goal.loop-byte-init
+loop-byte-init c = λ arities s t p. let e : c.args.side.from + 0 ≡ c.args.side.from = omega arith in rw (c.forget.ensures, e) (start p)
 
 pub bounds-nodes-at : goal.bounds-nodes-at
 bounds-nodes-at c =
-    let p = of_some c.requires.0 c.loop-i.invariant in
-    let g = standing (part_there p c.loop-i-test.true) in
+    let (b, h) = byte_read c.args.bytes.now c.args.side.from c.args.side.end c.loop-byte.byte-index c.loop-byte-test.true in
+    let g = standing (part_there (of_some c.requires.0 c.loop-byte.invariant) h) in
     omega (arith, g.some, g.in_nodes)
 
-pub shape_of-values-then-byte-nodes : goal.shape_of-values-then-byte-nodes
-shape_of-values-then-byte-nodes c =
-    (of_some c.requires.0 c.loop-i.invariant).is.values_length ∙ sym c.requires.1
-
 pub returns-then-byte-nodes : goal.returns-then-byte-nodes
-returns-then-byte-nodes c = λ arities s t p. rw (symbol_differs (c.loop-i.invariant arities s t p) c.loop-i-test.true c.if-byte-lt-FIRST_VARIABLE.true c.if-byte-nodes.true)
+returns-then-byte-nodes c = λ arities s t p.
+    let (b, h) = byte_read c.args.bytes.now c.args.side.from c.args.side.end c.loop-byte.byte-index c.loop-byte-test.true in
+    rw (symbol_differs (c.loop-byte.invariant arities s t p) h (rw b at c.if-byte-lt-FIRST_VARIABLE.true) (rw b at c.if-byte-nodes.true)) refl
 
 pub overflow_add-at : goal.overflow_add-at
 overflow_add-at c =
-    let p = of_some c.requires.0 c.loop-i.invariant in
-    let g = standing (part_there p c.loop-i-test.true) in
+    let (b, h) = byte_read c.args.bytes.now c.args.side.from c.args.side.end c.loop-byte.byte-index c.loop-byte-test.true in
+    let g = standing (part_there (of_some c.requires.0 c.loop-byte.invariant) h) in
     omega (arith, g.some, g.within)
 
 pub meet-requires : goal.meet-requires
 meet-requires c =
-    let p = of_some c.requires.0 c.loop-i.invariant in
-    let h = c.loop-i-test.true in
-    (part_there p h, match_there p, omega (arith, c.wide-v.ensures.value, variable_low p.spelled h c.if-byte-lt-FIRST_VARIABLE.false))
-
-pub shape_of-values-then-not-meet : goal.shape_of-values-then-not-meet
-shape_of-values-then-not-meet c =
-    c.values-else-byte-lt-FIRST_VARIABLE-1.given ∙ ((of_some c.requires.0 c.loop-i.invariant).is.values_length ∙ sym c.requires.1)
+    let (b, h) = byte_read c.args.bytes.now c.args.side.from c.args.side.end c.loop-byte.byte-index c.loop-byte-test.true in
+    let p = of_some c.requires.0 c.loop-byte.invariant in
+    (part_there p h, match_there p, omega (arith, c.from-v.ensures, variable_low p.spelled h (rw b at c.if-byte-lt-FIRST_VARIABLE.false), b))
 
 pub returns-then-not-meet : goal.returns-then-not-meet
 returns-then-not-meet c =
     λ arities s t p.
-    let q = c.loop-i.invariant arities s t p in
-    rw (variable_refused q c.meet.new.values c.wide-v.result c.meet.result c.loop-i-test.true c.if-byte-lt-FIRST_VARIABLE.false c.wide-v.ensures.value
-    (λ u g. c.meet.ensures arities u q.found g q.is) (not-true c.meet.result c.if-not-meet.true-raw))
+    let (b, h) = byte_read c.args.bytes.now c.args.side.from c.args.side.end c.loop-byte.byte-index c.loop-byte-test.true in
+    let q = c.loop-byte.invariant arities s t p in
+    rw (variable_refused q c.meet.new.values c.from-v.result c.meet.result h (rw b at c.if-byte-lt-FIRST_VARIABLE.false) (rw b at c.from-v.ensures)
+    (λ u g. c.meet.ensures arities u q.found g q.is) (search rules)) refl
 
 pub bounds-sizes-at : goal.bounds-sizes-at
 bounds-sizes-at c =
-    let p = of_some c.requires.0 c.loop-i.invariant in
-    (standing (part_there p c.loop-i-test.true)).in_lengths
+    let (b, h) = byte_read c.args.bytes.now c.args.side.from c.args.side.end c.loop-byte.byte-index c.loop-byte-test.true in
+    (standing (part_there (of_some c.requires.0 c.loop-byte.invariant) h)).in_lengths
 
 pub overflow_add-at-else-byte-lt-FIRST_VARIABLE : goal.overflow_add-at-else-byte-lt-FIRST_VARIABLE
 overflow_add-at-else-byte-lt-FIRST_VARIABLE c =
-    let p = of_some c.requires.0 c.loop-i.invariant in
-    omega (arith, c.wide-at.ensures.value, (standing (part_there p c.loop-i-test.true)).within)
+    let (b, h) = byte_read c.args.bytes.now c.args.side.from c.args.side.end c.loop-byte.byte-index c.loop-byte-test.true in
+    omega (arith, c.from-at.ensures, (standing (part_there (of_some c.requires.0 c.loop-byte.invariant) h)).within)
 
-pub loop-i-smaller : goal.loop-i-smaller
-loop-i-smaller c = let h = c.loop-i-test.true in omega arith
-
-pub loop-i-preserved : goal.loop-i-preserved
-loop-i-preserved c =
+pub loop-byte-preserved : goal.loop-byte-preserved
+loop-byte-preserved c =
     λ arities s t p.
-    let q = c.loop-i.invariant arities s t p in
+    let (b, h) = byte_read c.args.bytes.now c.args.side.from c.args.side.end c.loop-byte.byte-index c.loop-byte-test.true in
+    let q = c.loop-byte.invariant arities s t p in
+    let e : c.args.side.from + (c.loop-byte.byte-index + 1) ≡ c.args.side.from + c.loop-byte.byte-index + 1 = omega arith in
     elim c.if-byte-lt-FIRST_VARIABLE.branch [
-      | then-byte-lt-FIRST_VARIABLE+else-byte-nodes w ↦ rw (w.values-is, w.at-is) (symbol_same q c.loop-i-test.true w.if-byte-lt-FIRST_VARIABLE.true w.if-byte-nodes.false)
+      | then-byte-lt-FIRST_VARIABLE+else-byte-nodes w ↦ rw (w.values-is, w.at-is, e) (symbol_same q h (rw b at w.if-byte-lt-FIRST_VARIABLE.true) (rw b at w.if-byte-nodes.false))
       | else-byte-lt-FIRST_VARIABLE+else-not-meet w ↦
-          rw (w.values-is, w.at-is, w.wide-at.ensures.value)
-          (variable_found q w.meet.new.values w.wide-v.result w.meet.result c.loop-i-test.true w.if-byte-lt-FIRST_VARIABLE.false w.wide-v.ensures.value (λ u g. w.meet.ensures arities u q.found g q.is) (not-false w.meet.result w.if-not-meet.false-raw))
+          rw (w.values-is, w.at-is, w.from-at.ensures, e)
+          (variable_found q w.meet.new.values w.from-v.result w.meet.result h (rw b at w.if-byte-lt-FIRST_VARIABLE.false) (rw b at w.from-v.ensures) (λ u g. w.meet.ensures arities u q.found g q.is) w.if-not-meet.false)
     ]
 
-pub shape_of-values : goal.shape_of-values
-shape_of-values c =
-    (of_some c.requires.0 c.loop-i.invariant).is.values_length ∙ sym c.requires.1
-
 pub returns : goal.returns
-returns c = λ arities s t p. let q = c.loop-i.invariant arities s t p in rw (all_met q c.loop-i-test.false) (refl, q.is)
+returns c = λ arities s t p. let q = c.loop-byte.invariant arities s t p in rw (all_met q (omega (arith, side_room p, c.loop-byte-test.false, length-take {A = ℕ}, length-drop {A = ℕ}))) (refl, q.is)

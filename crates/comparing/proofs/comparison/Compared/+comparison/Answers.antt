@@ -5,7 +5,7 @@ use native.Mathlib.Omega.{arith}
 use Rattle.cells.specs.Theory.Nodes.{within}
 use Rattle.cells.specs.Theory.Passed.{behind_first_too}
 use Rattle.comparing.proofs.Rows.{reaching_none, reaching_first, all_none, all_not}
-use Rattle.comparing.proofs.Loops.{reaching_start, reaching_again, reaching_passed, row_inside, exceeding_start, exceeding_again, exceeding_passed}
+use Rattle.comparing.proofs.Loops.{reaching_again, reaching_passed, row_inside, exceeding_again, exceeding_passed}
 use Rattle.comparing.specs.Theory.Rows.{first_argument}
 use Rattle.comparing.proofs.Arguments.{arguments_weight, left_arguments, right_arguments, balanced, both_end, first_ends, second_ends, other_lists, difference}
 use Rattle.comparing.proofs.Rules.{equal_arguments, smaller_arguments, greater_arguments}
@@ -14,68 +14,45 @@ use Rattle.comparing.specs.Theory.Resolves.{symbol_resolves, subject_resolves, r
 use Rattle.comparing.proofs.Pair.{told, known, settled, comparing_start}
 use Rattle.cells.specs.Theory.Cells.{made_ready_settled}
 use Rattle.cells.specs.Theory.Resolved.{byte_low}
-use Rattle.comparing.proofs.comparison.+comparison.Goals as goal
+use Rattle.comparing.proofs.comparison.Compared.+comparison.Goals as goal
 
-pub argument_reaches-bounds-nodes-j : goal.argument_reaches-bounds-nodes-j
-argument_reaches-bounds-nodes-j t c =
-    omega (arith, within c.requires.has_term.0.denotes, c.requires.settled_cells.nodes_length)
-
-pub argument_reaches-loop-at-init : goal.argument_reaches-loop-at-init
-argument_reaches-loop-at-init t c =
-    reaching_start c.requires.settled_cells c.args.j c.requires.has_terms
-
-pub argument_reaches-bounds-nodes-at : goal.argument_reaches-bounds-nodes-at
-argument_reaches-bounds-nodes-at t c =
+pub argument_reaches-bounds-self-at : goal.argument_reaches-bounds-self-at
+argument_reaches-bounds-self-at t c =
     omega (arith, (first_argument c.loop-at.invariant.terms c.loop-at-test.true).below, c.loop-at.invariant.settled.nodes_length)
-
-pub argument_reaches-overflow_add-at : goal.argument_reaches-overflow_add-at
-argument_reaches-overflow_add-at t c =
-    omega (arith, (first_argument c.loop-at.invariant.terms c.loop-at-test.true).below)
 
 pub argument_reaches-behind_smaller-at-requires : goal.argument_reaches-behind_smaller-at-requires
 argument_reaches-behind_smaller-at-requires t c =
     let more = c.loop-at-test.true in
     (omega (arith, more), row_inside c.loop-at.invariant.settled c.loop-at.invariant.terms more)
 
-pub argument_reaches-loop-at-smaller-then-nodes-at : goal.argument_reaches-loop-at-smaller-then-nodes-at
-argument_reaches-loop-at-smaller-then-nodes-at t c = omega (arith, c.behind_smaller-at.ensures.behind.forward, c.behind_smaller-at.ensures.behind.inside, c.loop-at-test.true)
+pub argument_reaches-loop-at-preserved-then-self-at : goal.argument_reaches-loop-at-preserved-then-self-at
+argument_reaches-loop-at-preserved-then-self-at t c =
+    reaching_passed (c.requires.settled_cells.symbols c.args.j c.requires.has_term.1) c.loop-at.invariant (behind_first_too c.loop-at-test.true c.if-self-at.true c.behind_smaller-at.ensures.behind)
 
-pub argument_reaches-loop-at-preserved-then-nodes-at : goal.argument_reaches-loop-at-preserved-then-nodes-at
-argument_reaches-loop-at-preserved-then-nodes-at t c =
-    reaching_passed (c.requires.settled_cells.symbols c.args.j c.requires.has_term.1) c.loop-at.invariant (behind_first_too c.loop-at-test.true c.if-nodes-at.true c.behind_smaller-at.ensures.behind)
-
-pub argument_reaches-exceeds-verdict-requires : goal.argument_reaches-exceeds-verdict-requires
-argument_reaches-exceeds-verdict-requires t c =
+pub argument_reaches-exceeds-requires : goal.argument_reaches-exceeds-requires
+argument_reaches-exceeds-requires t c =
     let h = first_argument c.loop-at.invariant.terms c.loop-at-test.true in
     (omega (arith, c.decreases, h.first_weight, c.loop-at.invariant.light), (c.loop-at.invariant.settled, (h.term, c.requires.has_term)))
 
 pub argument_reaches-returns-in_default : goal.argument_reaches-returns-in_default
 argument_reaches-returns-in_default t c =
-    let told = reaching_first c.loop-at-test.true c.exceeds-verdict.ensures.compares c.in_default.not-Smaller in
-    record { finds_reaching = c.loop-at.invariant.back true told; settled_cells_2 = c.exceeds-verdict.ensures.settled_cells_2 }
+    let told = reaching_first c.loop-at-test.true c.exceeds.ensures.compares c.in_default.not-Smaller in
+    record { finds_reaching = c.loop-at.invariant.back true told; settled_cells_2 = c.exceeds.ensures.settled_cells_2 }
 
-pub argument_reaches-bounds-sizes-at : goal.argument_reaches-bounds-sizes-at
-argument_reaches-bounds-sizes-at t c =
+pub argument_reaches-bounds-self-at-in-loop-at : goal.argument_reaches-bounds-self-at-in-loop-at
+argument_reaches-bounds-self-at-in-loop-at t c =
     omega (arith, (first_argument c.loop-at.invariant.terms c.loop-at-test.true).below, c.loop-at.invariant.settled.sizes_length)
-
-pub argument_reaches-overflow_add-at-in-loop-at : goal.argument_reaches-overflow_add-at-in-loop-at
-argument_reaches-overflow_add-at-in-loop-at t c =
-    omega (arith, c.wide-at.ensures.value, (first_argument c.loop-at.invariant.terms c.loop-at-test.true).end_below)
 
 pub argument_reaches-loop-at-smaller : goal.argument_reaches-loop-at-smaller
 argument_reaches-loop-at-smaller t c =
-    omega (arith, c.wide-at.ensures.value, c.loop-at-test.true, (first_argument c.loop-at.invariant.terms c.loop-at-test.true).some)
+    omega (arith, c.from-at.ensures, c.loop-at-test.true, (first_argument c.loop-at.invariant.terms c.loop-at-test.true).some)
 
 pub argument_reaches-loop-at-preserved : goal.argument_reaches-loop-at-preserved
 argument_reaches-loop-at-preserved t c =
-    reaching_again c.loop-at.invariant c.loop-at-test.true c.exceeds-verdict.ensures.compares c.in-Smaller.is c.exceeds-verdict.ensures.settled_cells_2 c.wide-at.ensures.value
+    reaching_again c.loop-at.invariant c.loop-at-test.true c.exceeds.ensures.compares c.in-Smaller.is c.exceeds.ensures.settled_cells_2 c.from-at.ensures
 
 pub argument_reaches-returns : goal.argument_reaches-returns
 argument_reaches-returns t c = record { finds_reaching = c.loop-at.invariant.back false (reaching_none c.loop-at-test.false); settled_cells_2 = c.loop-at.invariant.settled }
-
-pub compare_arguments-first_difference-difference-requires : goal.compare_arguments-first_difference-difference-requires
-compare_arguments-first_difference-difference-requires t c =
-    (omega (arith, c.decreases), (c.requires.settled_cells, (c.requires.has_term, c.requires.has_term_2)))
 
 pub compare_arguments-argument_reaches-requires : goal.compare_arguments-argument_reaches-requires
 compare_arguments-argument_reaches-requires t c =
@@ -97,18 +74,6 @@ pub compare_arguments-returns-in-Greater : goal.compare_arguments-returns-in-Gre
 compare_arguments-returns-in-Greater t c =
     record { compares = greater_arguments c.first_difference-difference.ensures.finds_difference c.in-Greater.is c.exceeds_arguments.ensures.compares_with_all c.greater_if-in-Greater.ensures; settled_cells_2 = c.exceeds_arguments.ensures.settled_cells_2 }
 
-pub compare_symbols-bounds-nodes-i : goal.compare_symbols-bounds-nodes-i
-compare_symbols-bounds-nodes-i t c =
-    let x = symbol_resolves c.requires.has_term.0 c.requires.has_term.1 in omega (arith, x.below, c.requires.settled_cells.nodes_length)
-
-pub compare_symbols-bounds-nodes-j : goal.compare_symbols-bounds-nodes-j
-compare_symbols-bounds-nodes-j t c =
-    let y = subject_resolves c.requires.settled_cells c.requires.has_term_2.0 c.requires.has_term_2.1 in omega (arith, y.below, c.requires.settled_cells.nodes_length)
-
-pub compare_symbols-arguments_of-row-requires : goal.compare_symbols-arguments_of-row-requires
-compare_symbols-arguments_of-row-requires t c =
-    let x = symbol_resolves c.requires.has_term.0 c.requires.has_term.1 in omega (arith, x.below, c.requires.settled_cells.sizes_length)
-
 pub compare_symbols-argument_reaches-requires : goal.compare_symbols-argument_reaches-requires
 compare_symbols-argument_reaches-requires t c =
     let x = symbol_resolves c.requires.has_term.0 c.requires.has_term.1 in
@@ -119,10 +84,6 @@ compare_symbols-returns-then-f-g t c =
     let x = symbol_resolves c.requires.has_term.0 c.requires.has_term.1 in
     let y = subject_resolves c.requires.settled_cells c.requires.has_term_2.0 c.requires.has_term_2.1 in
     record { compares = smaller_symbols x.symbol y.symbol c.if-f-g.true (rw c.arguments_of-row.ensures at c.argument_reaches.ensures.finds_reaching) c.greater_if.ensures; settled_cells_2 = c.argument_reaches.ensures.settled_cells_2 }
-
-pub compare_symbols-arguments_of-row-requires-then-g-f : goal.compare_symbols-arguments_of-row-requires-then-g-f
-compare_symbols-arguments_of-row-requires-then-g-f t c =
-    let y = subject_resolves c.requires.settled_cells c.requires.has_term_2.0 c.requires.has_term_2.1 in omega (arith, y.below, c.requires.settled_cells.sizes_length)
 
 pub compare_symbols-exceeds_arguments-requires : goal.compare_symbols-exceeds_arguments-requires
 compare_symbols-exceeds_arguments-requires t c =
@@ -135,33 +96,25 @@ compare_symbols-returns-then-g-f t c =
     let y = subject_resolves c.requires.settled_cells c.requires.has_term_2.0 c.requires.has_term_2.1 in
     record { compares = greater_symbols x.symbol y.symbol c.if-g-f.true (rw c.arguments_of-row-then-g-f.ensures at c.exceeds_arguments.ensures.compares_with_all) c.greater_if-then-g-f.ensures; settled_cells_2 = c.exceeds_arguments.ensures.settled_cells_2 }
 
-pub compare_symbols-compare_arguments-requires : goal.compare_symbols-compare_arguments-requires
-compare_symbols-compare_arguments-requires t c =
-    (omega (arith, c.decreases), (c.requires.settled_cells, (c.requires.has_term, (c.requires.has_term_2.0, omega (arith, c.if-g-f.false, c.if-f-g.false), c.requires.has_term_2.1))))
-
 pub exceeds-resolve-s-requires : goal.exceeds-resolve-s-requires
 exceeds-resolve-s-requires t c =
     let h = c.requires.has_term.denotes in
     omega (arith, within h, byte_low h, c.requires.settled_cells.nodes_length)
 
-pub exceeds-tell_constants-told-requires : goal.exceeds-tell_constants-told-requires
-exceeds-tell_constants-told-requires t c =
+pub exceeds-tell_constants-requires : goal.exceeds-tell_constants-requires
+exceeds-tell_constants-requires t c =
     let x = resolves c.requires.has_term c.resolve-s.ensures in
     let y = subject_resolves c.requires.settled_cells c.requires.has_term_2.0 c.requires.has_term_2.1 in
     record { i_in_bounds = (omega (arith, x.below, c.requires.settled_cells.nodes_length), omega (arith, x.below, c.requires.settled_cells.sizes_length), x.symbol); j_in_bounds = (omega (arith, y.below, c.requires.settled_cells.nodes_length), omega (arith, y.below, c.requires.settled_cells.sizes_length), y.symbol) }
 
-pub exceeds-returns-in-Verdict : goal.exceeds-returns-in-Verdict
-exceeds-returns-in-Verdict t c =
+pub exceeds-returns-in-Some : goal.exceeds-returns-in-Some
+exceeds-returns-in-Some t c =
     let x = resolves c.requires.has_term c.resolve-s.ensures in
-    let clauses = told x c.requires.settled_cells (c.tell_constants-told.ensures.is _ c.in-Verdict.is _) in record { compares = clauses.0; settled_cells_2 = clauses.1 }
+    let clauses = told x c.requires.settled_cells (c.in-Some.ensures _) in record { compares = clauses.0; settled_cells_2 = clauses.1 }
 
 pub exceeds-make_ready-requires : goal.exceeds-make_ready-requires
 exceeds-make_ready-requires t c =
     let x = resolves c.requires.has_term c.resolve-s.ensures in (x.below, c.requires.settled_cells.ready_length, c.requires.settled_cells.cells_length)
-
-pub exceeds-overflow_mul-cell : goal.exceeds-overflow_mul-cell
-exceeds-overflow_mul-cell t c =
-    let x = resolves c.requires.has_term c.resolve-s.ensures in omega (arith, x.below)
 
 pub exceeds-overflow_add-cell : goal.exceeds-overflow_add-cell
 exceeds-overflow_add-cell t c =
@@ -199,70 +152,43 @@ exceeds-returns t c =
     let y = subject_resolves c.requires.settled_cells c.requires.has_term_2.0 c.requires.has_term_2.1 in
     let clauses = settled x y c.compare_symbols-verdict.ensures.settled_cells_2 c.compare_symbols-verdict.ensures.compares c.settle.ensures.value c.settle.ensures.cells_after in record { compares = clauses.0; settled_cells_2 = clauses.1 }
 
-pub exceeds_arguments-bounds-nodes-i : goal.exceeds_arguments-bounds-nodes-i
-exceeds_arguments-bounds-nodes-i t c =
-    omega (arith, within c.requires.has_term.0.denotes, c.requires.settled_cells.nodes_length)
-
-pub exceeds_arguments-loop-at-init : goal.exceeds_arguments-loop-at-init
-exceeds_arguments-loop-at-init t c =
-    exceeding_start c.requires.settled_cells c.args.i c.requires.has_terms.0 c.requires.has_terms.1
-
-pub exceeds_arguments-bounds-nodes-at : goal.exceeds_arguments-bounds-nodes-at
-exceeds_arguments-bounds-nodes-at t c =
+pub exceeds_arguments-bounds-self-at : goal.exceeds_arguments-bounds-self-at
+exceeds_arguments-bounds-self-at t c =
     omega (arith, (first_argument c.loop-at.invariant.terms c.loop-at-test.true).below, c.loop-at.invariant.settled.nodes_length)
-
-pub exceeds_arguments-overflow_add-at : goal.exceeds_arguments-overflow_add-at
-exceeds_arguments-overflow_add-at t c =
-    omega (arith, (first_argument c.loop-at.invariant.terms c.loop-at-test.true).below)
 
 pub exceeds_arguments-behind_smaller-at-requires : goal.exceeds_arguments-behind_smaller-at-requires
 exceeds_arguments-behind_smaller-at-requires t c =
     let more = c.loop-at-test.true in
     (omega (arith, more), row_inside c.loop-at.invariant.settled c.loop-at.invariant.terms more)
 
-pub exceeds_arguments-loop-at-smaller-then-nodes-at : goal.exceeds_arguments-loop-at-smaller-then-nodes-at
-exceeds_arguments-loop-at-smaller-then-nodes-at t c = omega (arith, c.behind_smaller-at.ensures.behind.forward, c.behind_smaller-at.ensures.behind.inside, c.loop-at-test.true)
+pub exceeds_arguments-loop-at-preserved-then-self-at : goal.exceeds_arguments-loop-at-preserved-then-self-at
+exceeds_arguments-loop-at-preserved-then-self-at t c =
+    exceeding_passed c.requires.has_term.1 c.loop-at.invariant (behind_first_too c.loop-at-test.true c.if-self-at.true c.behind_smaller-at.ensures.behind)
 
-pub exceeds_arguments-loop-at-preserved-then-nodes-at : goal.exceeds_arguments-loop-at-preserved-then-nodes-at
-exceeds_arguments-loop-at-preserved-then-nodes-at t c =
-    exceeding_passed c.requires.has_term.1 c.loop-at.invariant (behind_first_too c.loop-at-test.true c.if-nodes-at.true c.behind_smaller-at.ensures.behind)
-
-pub exceeds_arguments-exceeds-verdict-requires : goal.exceeds_arguments-exceeds-verdict-requires
-exceeds_arguments-exceeds-verdict-requires t c =
+pub exceeds_arguments-exceeds-requires : goal.exceeds_arguments-exceeds-requires
+exceeds_arguments-exceeds-requires t c =
     let h = first_argument c.loop-at.invariant.terms c.loop-at-test.true in
     (omega (arith, c.decreases, h.first_weight, c.loop-at.invariant.light), (c.loop-at.invariant.settled, (c.requires.has_term.0, (h.term, c.loop-at.invariant.low))))
 
 pub exceeds_arguments-returns-in_default : goal.exceeds_arguments-returns-in_default
 exceeds_arguments-returns-in_default t c =
-    let told = all_not c.loop-at-test.true c.exceeds-verdict.ensures.compares c.in_default.not-Greater in
-    record { compares_with_all = c.loop-at.invariant.back false told; settled_cells_2 = c.exceeds-verdict.ensures.settled_cells_2 }
+    let told = all_not c.loop-at-test.true c.exceeds.ensures.compares c.in_default.not-Greater in
+    record { compares_with_all = c.loop-at.invariant.back false told; settled_cells_2 = c.exceeds.ensures.settled_cells_2 }
 
-pub exceeds_arguments-bounds-sizes-at : goal.exceeds_arguments-bounds-sizes-at
-exceeds_arguments-bounds-sizes-at t c =
+pub exceeds_arguments-bounds-self-at-in-loop-at : goal.exceeds_arguments-bounds-self-at-in-loop-at
+exceeds_arguments-bounds-self-at-in-loop-at t c =
     omega (arith, (first_argument c.loop-at.invariant.terms c.loop-at-test.true).below, c.loop-at.invariant.settled.sizes_length)
-
-pub exceeds_arguments-overflow_add-at-in-loop-at : goal.exceeds_arguments-overflow_add-at-in-loop-at
-exceeds_arguments-overflow_add-at-in-loop-at t c =
-    omega (arith, c.wide-at.ensures.value, (first_argument c.loop-at.invariant.terms c.loop-at-test.true).end_below)
 
 pub exceeds_arguments-loop-at-smaller : goal.exceeds_arguments-loop-at-smaller
 exceeds_arguments-loop-at-smaller t c =
-    omega (arith, c.wide-at.ensures.value, c.loop-at-test.true, (first_argument c.loop-at.invariant.terms c.loop-at-test.true).some)
+    omega (arith, c.from-at.ensures, c.loop-at-test.true, (first_argument c.loop-at.invariant.terms c.loop-at-test.true).some)
 
 pub exceeds_arguments-loop-at-preserved : goal.exceeds_arguments-loop-at-preserved
 exceeds_arguments-loop-at-preserved t c =
-    exceeding_again c.loop-at.invariant c.loop-at-test.true c.exceeds-verdict.ensures.compares c.in-Greater.is c.exceeds-verdict.ensures.settled_cells_2 c.wide-at.ensures.value
+    exceeding_again c.loop-at.invariant c.loop-at-test.true c.exceeds.ensures.compares c.in-Greater.is c.exceeds.ensures.settled_cells_2 c.from-at.ensures
 
 pub exceeds_arguments-returns : goal.exceeds_arguments-returns
 exceeds_arguments-returns t c = record { compares_with_all = c.loop-at.invariant.back true (all_none c.loop-at-test.false); settled_cells_2 = c.loop-at.invariant.settled }
-
-pub first_difference-arguments_of-first-requires : goal.first_difference-arguments_of-first-requires
-first_difference-arguments_of-first-requires t c =
-    let x = symbol_resolves c.requires.has_term.0 c.requires.has_term.1 in omega (arith, x.below, c.requires.settled_cells.sizes_length)
-
-pub first_difference-arguments_of-second-requires : goal.first_difference-arguments_of-second-requires
-first_difference-arguments_of-second-requires t c =
-    let y = subject_resolves c.requires.settled_cells c.requires.has_term_2.0 c.requires.has_term_2.2 in omega (arith, y.below, c.requires.settled_cells.sizes_length)
 
 pub first_difference-loop-first-init : goal.first_difference-loop-first-init
 first_difference-loop-first-init t c =
