@@ -10,7 +10,7 @@ ghost use Rattle.format.specs.declared.refusal.Refusal.TheVariants.{Digits};
 ghost use Rattle.reading.specs.ForContracts.Read.{Knows, FrameRead, SheetRead};
 
 use crate::symbols::symbols_body;
-use format::kind::{FrameKind, kind_of};
+use format::kind::FrameKind;
 use format::limits::Limits;
 use format::refusal::Refusal;
 use reader::line::{BrokenLine, FrameLine};
@@ -81,7 +81,7 @@ pub fn read_frame(known: Known, s: &[u8], span: Span) -> Result<Known, Refusal>
     requires { SpanReady s.now span × (span.from < span.end) × ((state : State) × Knows known state) }
     ensures { (state : State) → Knows known state → FrameRead (read_frame state (span_bytes s.now span)) result }
 {
-    let kind = kind_of(byte_at(s, span.from) as u8);
+    let kind = FrameKind::from(byte_at(s, span.from) as u8);
     let body = Span {
         from: span.from + 2,
         ..span

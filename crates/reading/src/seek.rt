@@ -7,7 +7,7 @@ ghost use Rattle.sheet.specs.Sheet.{Task};
 ghost use Rattle.sheet.specs.ForContracts.Frames.{task_frame};
 ghost use Rattle.reading.specs.ForContracts.Seek.{Accepts, AllFrames, FrameIn, EquationIn, TaskIn, Spans, Decoded, TaskAt};
 
-use format::kind::{FrameKind, kind_of};
+use format::kind::FrameKind;
 use reader::reader::Reader;
 use scanning::known::Known;
 use scanning::text::{Span, byte_at};
@@ -77,7 +77,7 @@ fn task_head(s: &[u8], span: Span) -> TaskFound
     ensures { (t : Task) → Spans s.now span.from span.end (task_frame t) → TaskAt s.now t result }
 {
     let from = span.from;
-    let kind = kind_of(byte_at(s, from) as u8);
+    let kind = FrameKind::from(byte_at(s, from) as u8);
     match kind {
         FrameKind::Run => TaskFound {
             head: TaskHead::Run {

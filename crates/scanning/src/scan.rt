@@ -4,14 +4,14 @@ ghost use Rattle.scanning.specs.ForContracts.Scan.{known_arities, OtherRead, Sca
 
 use crate::known::Known;
 use crate::text::{Span, byte_at};
-use format::byte::{Class, classify};
+use format::byte::Class;
 use format::refusal::Refusal;
 
 // A node that is no declared symbol: how many variables there are up to it, if it is one.
 fn other_node(b: u8, is_ground: bool) -> Result<usize, Refusal>
     ensures { (arities : List ℕ) (need : ℕ) → length arities ≤ b → OtherRead arities is_ground b need result }
 {
-    match classify(b) {
+    match Class::from(b) {
         Class::Symbol(_) => Err(Refusal::FrameBytes),
         Class::Variable(_) if is_ground => Err(Refusal::NotGround),
         Class::Variable(v) => Ok(usize::from(v) + 1),

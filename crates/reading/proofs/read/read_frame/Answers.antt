@@ -19,7 +19,7 @@ first_frame-requires c = line_behind _ _ c.requires.0 c.requires.1
 
 pub returns-then-known-eq0 : goal.returns-then-known-eq0
 returns-then-known-eq0 c =
-    read_first _ _ c.requires.0 c.requires.1 _ (c.kind_of-kind.ensures ∙ ap kind_of c.byte_at.ensures) c.if-known-eq0.true
+    read_first _ _ c.requires.0 c.requires.1 _ (c.from-kind.ensures ∙ ap kind_of c.byte_at.ensures) c.if-known-eq0.true
     c.first_frame.result c.first_frame.ensures
 
 pub equation_frame-requires : goal.equation_frame-requires
@@ -34,11 +34,11 @@ task_frame-requires c =
 
 pub returns-in-Equation : goal.returns-in-Equation
 returns-in-Equation c =
-    read_later _ _ c.requires.0 c.requires.1 _ (c.kind_of-kind.ensures ∙ ap kind_of c.byte_at.ensures) c.if-known-eq0.false
+    read_later _ _ c.requires.0 c.requires.1 _ (c.from-kind.ensures ∙ ap kind_of c.byte_at.ensures) c.if-known-eq0.false
     c.in-Equation.is
     c.equation_frame.result c.equation_frame.ensures
 
 pub returns-in_default : goal.returns-in_default
 returns-in_default c =
-    read_later _ _ c.requires.0 c.requires.1 _ (c.kind_of-kind.ensures ∙ ap kind_of c.byte_at.ensures) c.if-known-eq0.false refl
+    read_later _ _ c.requires.0 c.requires.1 _ (c.from-kind.ensures ∙ ap kind_of c.byte_at.ensures) c.if-known-eq0.false refl
     c.task_frame.result c.task_frame.ensures

@@ -14,27 +14,27 @@ overflow_cast-byte_at c = let (t, h) = c.requires in omega (arith, c.byte_at.ens
 pub byte_at-requires-in-Run : goal.byte_at-requires-in-Run
 byte_at-requires-in-Run c =
     let (t, h) = c.requires in
-    omega (arith, run_inside _ _ _ (c.kind_of-kind.ensures ∙ ap kind_of c.byte_at.ensures) c.in-Run.is t h)
+    omega (arith, run_inside _ _ _ (c.from-kind.ensures ∙ ap kind_of c.byte_at.ensures) c.in-Run.is t h)
 
 pub byte_at-requires-in-Judgement : goal.byte_at-requires-in-Judgement
 byte_at-requires-in-Judgement c =
     let (t, h) = c.requires in
-    omega (arith, judgement_inside _ _ _ (c.kind_of-kind.ensures ∙ ap kind_of c.byte_at.ensures) c.in-Judgement.is t h)
+    omega (arith, judgement_inside _ _ _ (c.from-kind.ensures ∙ ap kind_of c.byte_at.ensures) c.in-Judgement.is t h)
 
 pub byte_at-requires-in-Judgement-2 : goal.byte_at-requires-in-Judgement-2
 byte_at-requires-in-Judgement-2 c =
     let (t, h) = c.requires in
-    omega (arith, judgement_inside _ _ _ (c.kind_of-kind.ensures ∙ ap kind_of c.byte_at.ensures) c.in-Judgement.is t h)
+    omega (arith, judgement_inside _ _ _ (c.from-kind.ensures ∙ ap kind_of c.byte_at.ensures) c.in-Judgement.is t h)
 
 pub returns-in-Run : goal.returns-in-Run
 returns-in-Run c =
-    run_found _ _ _ (c.kind_of-kind.ensures ∙ ap kind_of c.byte_at.ensures) c.in-Run.is c.byte_at-in-Run.ensures
+    run_found _ _ _ (c.from-kind.ensures ∙ ap kind_of c.byte_at.ensures) c.in-Run.is c.byte_at-in-Run.ensures
 
 pub returns-in-Judgement : goal.returns-in-Judgement
 returns-in-Judgement c =
-    judgement_found _ _ _ (c.kind_of-kind.ensures ∙ ap kind_of c.byte_at.ensures) c.in-Judgement.is c.byte_at-in-Judgement.ensures
+    judgement_found _ _ _ (c.from-kind.ensures ∙ ap kind_of c.byte_at.ensures) c.in-Judgement.is c.byte_at-in-Judgement.ensures
     c.byte_at-in-Judgement-2.ensures
 
 pub returns-in_default : goal.returns-in_default
 returns-in_default c =
-    comparison_found _ _ _ (c.kind_of-kind.ensures ∙ ap kind_of c.byte_at.ensures) c.in_default.not-Run c.in_default.not-Judgement
+    comparison_found _ _ _ (c.from-kind.ensures ∙ ap kind_of c.byte_at.ensures) c.in_default.not-Run c.in_default.not-Judgement
