@@ -17,19 +17,21 @@ pub fn wide(x: u8) -> usize
 }
 
 // A symbol or a variable, each with its number, or a byte that stands for neither.
-#[derive(Clone, Copy)]
+#[derive(Clone, Copy, Debug, PartialEq, Eq)]
 pub enum Class {
     Symbol(u8),
     Variable(u8),
     Foreign,
 }
 
-pub fn classify(b: u8) -> Class
-    ensures { result ≡ class_of b }
-{
-    match b {
-        0..=15 => Class::Symbol(b),
-        128..=139 => Class::Variable(b - Limits::FIRST_VARIABLE),
-        _ => Class::Foreign,
+impl From<u8> for Class {
+    ghost from_gives = { λ byte class. class ≡ class_of byte };
+
+    fn from(byte: u8) -> Class {
+        match byte {
+            0..=15 => Class::Symbol(byte),
+            128..=139 => Class::Variable(byte - Limits::FIRST_VARIABLE),
+            _ => Class::Foreign,
+        }
     }
 }

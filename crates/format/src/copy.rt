@@ -7,9 +7,5 @@ pub fn copy_front(from: &[u8], to: &mut [u8], n: usize)
     requires { (n ≤ length from.now) × (n ≤ length to.old) }
     ensures { to.new ≡ written (take n from.now) to.old }
 {
-    let mut i = 0;
-    while i < n {
-        to[i] = from[i];
-        i = i + 1;
-    }
+    to[..n].copy_from_slice(&from[..n]);
 }

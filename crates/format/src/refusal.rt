@@ -2,37 +2,27 @@
 ghost use Rattle.std.specs.Prelude.{◌≡◌};
 ghost use Rattle.format.specs.Refusal.{number};
 
-#[derive(Clone, Copy)]
+#[derive(Clone, Copy, Debug, PartialEq, Eq)]
 pub enum Refusal {
-    TextLength,
-    Digits,
-    FrameOrder,
-    SymbolFrame,
-    FrameBytes,
-    NotGround,
-    AbsentDirection,
-    TooManyTurns,
-    TooManyElements,
-    TooManyLines,
-    ShortBuffer,
-    AbsentArgument,
+    TextLength = 1,
+    Digits = 2,
+    FrameOrder = 3,
+    SymbolFrame = 4,
+    FrameBytes = 5,
+    NotGround = 6,
+    AbsentDirection = 7,
+    TooManyTurns = 8,
+    TooManyElements = 9,
+    TooManyLines = 10,
+    ShortBuffer = 11,
+    AbsentArgument = 12,
 }
 
-pub fn number_of(r: Refusal) -> u64
-    ensures { result ≡ number r }
-{
-    match r {
-        Refusal::TextLength => 1,
-        Refusal::Digits => 2,
-        Refusal::FrameOrder => 3,
-        Refusal::SymbolFrame => 4,
-        Refusal::FrameBytes => 5,
-        Refusal::NotGround => 6,
-        Refusal::AbsentDirection => 7,
-        Refusal::TooManyTurns => 8,
-        Refusal::TooManyElements => 9,
-        Refusal::TooManyLines => 10,
-        Refusal::ShortBuffer => 11,
-        Refusal::AbsentArgument => 12,
+// The number by which a call and a frame tell the refusal.
+impl From<Refusal> for u8 {
+    ghost from_gives = { λ refusal byte. byte ≡ number refusal };
+
+    fn from(refusal: Refusal) -> u8 {
+        refusal as u8
     }
 }

@@ -7,12 +7,5 @@ pub fn same_bytes(bytes: &[u8], a: usize, b: usize, n: usize) -> bool
     requires { (a + n ≤ length bytes.now) × (b + n ≤ length bytes.now) }
     ensures { (result ≡ true) ↔ SameBytes bytes.now a b n }
 {
-    let mut i = 0;
-    while i < n {
-        if bytes[a + i] != bytes[b + i] {
-            return false;
-        }
-        i = i + 1;
-    }
-    true
+    bytes[a..a + n] == bytes[b..b + n]
 }

@@ -5,11 +5,10 @@ ghost use Rattle.listing.specs.Listing.{printed, two_bytes, refusal_frame, table
 ghost use Rattle.listing.specs.ForContracts.Appended.{Appended};
 ghost use Rattle.frames.specs.ForContracts.Room.{refusal_room, table_room, judgement_room, comparison_room, total_room};
 
-use format::refusal::{Refusal, number_of};
+use format::refusal::Refusal;
 use listing::digits::put_frame;
 use listing::kinds::PrintedKind;
-use ordering::decision::{Decision, clause_number_of, verdict_of};
-use ordering::verdict::number_of_verdict;
+use ordering::decision::Decision;
 
 // How many values a byte has.
 const BYTE: u16 = 256;
@@ -27,7 +26,7 @@ pub fn put_refusal(why: Refusal, line: usize, out: &mut [u8], at: usize) -> usiz
     ensures { Appended out.old at (printed (refusal_frame why line ∷ [])) out.new result }
 {
     let line = two_bytes(line as u16);
-    let frame = [PrintedKind::REFUSAL, number_of(why) as u8, line[0], line[1]];
+    let frame = [PrintedKind::Refusal as u8, u8::from(why), line[0], line[1]];
     put_frame(&frame, out, at)
 }
 
@@ -38,7 +37,7 @@ pub fn put_table(rule: usize, lines: usize, turns: u16, out: &mut [u8], at: usiz
 {
     let turns = two_bytes(turns);
     let frame = [
-        PrintedKind::TABLE,
+        PrintedKind::Table as u8,
         (rule / 2) as u8,
         (rule % 2) as u8,
         lines as u8,
@@ -54,10 +53,10 @@ pub fn put_judgement(holding: usize, out: &mut [u8], at: usize) -> usize
     ensures { Appended out.old at (printed (judgement_frame holding ∷ [])) out.new result }
 {
     if holding == 0 {
-        let no = [PrintedKind::JUDGEMENT, 0, 0];
+        let no = [PrintedKind::Judgement as u8, 0, 0];
         return put_frame(&no, out, at);
     }
-    let yes = [PrintedKind::JUDGEMENT, 1, holding as u8];
+    let yes = [PrintedKind::Judgement as u8, 1, holding as u8];
     put_frame(&yes, out, at)
 }
 
@@ -66,8 +65,8 @@ pub fn put_comparison(decision: Decision, out: &mut [u8], at: usize) -> usize
     requires { at + comparison_room ≤ length out.old }
     ensures { Appended out.old at (printed (comparison_frame decision ∷ [])) out.new result }
 {
-    let verdict = number_of_verdict(verdict_of(decision));
-    let frame = [PrintedKind::COMPARISON, verdict, clause_number_of(decision)];
+    let verdict = u8::from(decision.verdict());
+    let frame = [PrintedKind::Comparison as u8, verdict, decision.clause_number()];
     put_frame(&frame, out, at)
 }
 
@@ -77,6 +76,6 @@ pub fn put_total(steps: usize, out: &mut [u8], at: usize) -> usize
     ensures { Appended out.old at (printed ((total_kind ∷ two_bytes steps) ∷ [])) out.new result }
 {
     let steps = two_bytes(steps as u16);
-    let frame = [PrintedKind::TOTAL, steps[0], steps[1]];
+    let frame = [PrintedKind::Total as u8, steps[0], steps[1]];
     put_frame(&frame, out, at)
 }

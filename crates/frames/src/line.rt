@@ -12,7 +12,6 @@ ghost use Rattle.listing.specs.ForContracts.Appended.{Appended};
 ghost use Rattle.frames.specs.ForContracts.Room.{term_room, bindings_room, elements_room, line_room};
 ghost use Rattle.frames.specs.ForContracts.Line.{HasTerm, LineRecord, HasLineRecord};
 
-use format::byte::wide;
 use format::limits::Limits;
 use line_bytes::layout::{COUNT, FIRST_ELEMENT};
 use listing::digits::{put_byte, put_bytes, put_line_feed};
@@ -34,7 +33,7 @@ fn put_term(nodes: &[u8], sizes: &[u8], p: usize, out: &mut [u8], at: usize) -> 
     ensures appended { (e : Equation) → SidesAre nodes.now sizes.now e → p < positions e → Appended out.old at (digits (prefix (term_at e p))) out.new result }
     ensures upper_bound { result ≤ at + term_room }
 {
-    let end = p + wide(sizes[p]);
+    let end = p + usize::from(sizes[p]);
     put_bytes(&nodes[p..end], out, at)
 }
 
@@ -45,12 +44,10 @@ fn count_bindings(bytes: &[u8]) -> usize
     ensures upper_bound { result ≤ variable_count }
 {
     let mut n = 0;
-    let mut v = 0;
-    while v < Limits::VARIABLES {
+    for v in 0..Limits::VARIABLES {
         if bytes[v] < Limits::NO_POSITION {
-            n = n + 1;
+            n += 1;
         }
-        v = v + 1;
     }
     n
 }
@@ -62,14 +59,12 @@ fn put_bindings(bytes: &[u8], nodes: &[u8], sizes: &[u8], out: &mut [u8], at: us
     ensures upper_bound { result ≤ at + bindings_room }
 {
     let mut to = at;
-    let mut v = 0;
-    while v < Limits::VARIABLES {
+    for v in 0..Limits::VARIABLES {
         let p = bytes[v];
         if p < Limits::NO_POSITION {
             let behind = put_byte(Limits::FIRST_VARIABLE + v as u8, out, to);
-            to = put_term(nodes, sizes, wide(p), out, behind);
+            to = put_term(nodes, sizes, usize::from(p), out, behind);
         }
-        v = v + 1;
     }
     to
 }
@@ -80,14 +75,12 @@ fn put_elements(bytes: &[u8], nodes: &[u8], sizes: &[u8], out: &mut [u8], at: us
     ensures appended { (e : Equation) (θ : Bindings) (es : List Element) → LineRecord bytes.now nodes.now sizes.now e θ es → Appended out.old at (digits (flat_map (element_terms e) es)) out.new result }
     ensures upper_bound { result ≤ at + elements_room }
 {
-    let count = wide(bytes[COUNT]);
+    let count = usize::from(bytes[COUNT]);
     let mut to = at;
-    let mut i = 0;
-    while i < count {
+    for i in 0..count {
         let pair = FIRST_ELEMENT + 2 * i;
-        let behind = put_term(nodes, sizes, wide(bytes[pair]), out, to);
-        to = put_term(nodes, sizes, wide(bytes[pair + 1]), out, behind);
-        i = i + 1;
+        let behind = put_term(nodes, sizes, usize::from(bytes[pair]), out, to);
+        to = put_term(nodes, sizes, usize::from(bytes[pair + 1]), out, behind);
     }
     to
 }
@@ -98,7 +91,7 @@ pub fn put_line(bytes: &[u8], nodes: &[u8], sizes: &[u8], out: &mut [u8], at: us
     ensures appended { (e : Equation) (θ : Bindings) (es : List Element) → LineRecord bytes.now nodes.now sizes.now e θ es → Appended out.old at (printed (line_frame e (line θ es) ∷ [])) out.new result }
     ensures upper_bound { result ≤ at + line_room }
 {
-    let head = [PrintedKind::LINE, count_bindings(bytes) as u8];
+    let head = [PrintedKind::Line as u8, count_bindings(bytes) as u8];
     let at_bindings = put_bytes(&head, out, at);
     let at_count = put_bindings(bytes, nodes, sizes, out, at_bindings);
     let at_elements = put_byte(bytes[COUNT], out, at_count);

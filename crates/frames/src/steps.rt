@@ -9,7 +9,7 @@ ghost use Rattle.frames.specs.ForContracts.Room.{step_room, run_room};
 
 use listing::digits::{put_bytes, put_frame};
 use listing::kinds::PrintedKind;
-use reducing::ending::{Ending, number_of_ending};
+use reducing::ending::Ending;
 
 // "each step '14', equation, direction, position": the first `steps` of the log.
 pub fn put_steps(log: &[u8], steps: usize, out: &mut [u8], at: usize) -> usize
@@ -18,17 +18,15 @@ pub fn put_steps(log: &[u8], steps: usize, out: &mut [u8], at: usize) -> usize
     ensures value { result ≡ at + step_room * steps }
 {
     let mut to = at;
-    let mut i = 0;
-    while i < steps {
+    for i in 0..steps {
         let entry = 3 * i;
         let frame = [
-            PrintedKind::STEP,
+            PrintedKind::Step as u8,
             log[entry],
             log[entry + 1],
             log[entry + 2],
         ];
         to = put_frame(&frame, out, to);
-        i = i + 1;
     }
     to
 }
@@ -39,8 +37,8 @@ pub fn put_run(ending: Ending, steps: usize, term: &[u8], out: &mut [u8], at: us
     ensures { Appended out.old at (printed ((run_kind ∷ ending_number ending ∷ steps ∷ term.now) ∷ [])) out.new result }
 {
     let head = [
-        PrintedKind::RUN,
-        number_of_ending(ending) as u8,
+        PrintedKind::Run as u8,
+        u8::from(ending),
         steps as u8,
     ];
     let to = put_bytes(&head, out, at);

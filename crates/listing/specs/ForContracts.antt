@@ -1,2 +1,3 @@
 -- What the contracts of the code cite.
 pub mod Appended
+pub mod Kinds

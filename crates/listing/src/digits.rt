@@ -32,10 +32,8 @@ pub fn put_bytes(bytes: &[u8], out: &mut [u8], at: usize) -> usize
     ensures { Appended out.old at (digits bytes.now) out.new result }
 {
     let mut to = at;
-    let mut i = 0;
-    while i < bytes.len() {
-        to = put_byte(bytes[i], out, to);
-        i = i + 1;
+    for byte in bytes {
+        to = put_byte(*byte, out, to);
     }
     to
 }

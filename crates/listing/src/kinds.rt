@@ -1,38 +1,23 @@
 // The first byte of each frame that is printed.
 ghost use Rattle.std.specs.Prelude.{◌≡◌};
-ghost use Rattle.listing.specs.Listing.{table_kind, line_kind, run_kind, step_kind, judgement_kind, comparison_kind, total_kind, refusal_kind};
+ghost use Rattle.listing.specs.ForContracts.Kinds.{printed_kind};
 
-#[derive(Clone, Copy)]
-pub struct PrintedKind {
-    pub nothing: (),
+#[derive(Clone, Copy, Debug, PartialEq, Eq)]
+pub enum PrintedKind {
+    Table = 0x11,
+    Line = 0x12,
+    Run = 0x13,
+    Step = 0x14,
+    Judgement = 0x15,
+    Comparison = 0x16,
+    Total = 0x1f,
+    Refusal = 0xff,
 }
 
-impl PrintedKind {
-    pub const TABLE: u8 = 0x11;
+impl From<PrintedKind> for u8 {
+    ghost from_gives = { λ kind byte. byte ≡ printed_kind kind };
 
-    pub const LINE: u8 = 0x12;
-
-    pub const RUN: u8 = 0x13;
-
-    pub const STEP: u8 = 0x14;
-
-    pub const JUDGEMENT: u8 = 0x15;
-
-    pub const COMPARISON: u8 = 0x16;
-
-    pub const TOTAL: u8 = 0x1f;
-
-    pub const REFUSAL: u8 = 0xff;
-
-    // Each is the one of the definitions.
-    pub fn stated()
-        ensures table { Self.TABLE ≡ table_kind }
-        ensures line { Self.LINE ≡ line_kind }
-        ensures run { Self.RUN ≡ run_kind }
-        ensures step { Self.STEP ≡ step_kind }
-        ensures judgement { Self.JUDGEMENT ≡ judgement_kind }
-        ensures comparison { Self.COMPARISON ≡ comparison_kind }
-        ensures total { Self.TOTAL ≡ total_kind }
-        ensures refusal { Self.REFUSAL ≡ refusal_kind }
-    {}
+    fn from(kind: PrintedKind) -> u8 {
+        kind as u8
+    }
 }

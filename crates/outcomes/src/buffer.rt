@@ -7,9 +7,5 @@ pub fn fill(buffer: &mut [u8], n: usize, b: u8)
     requires { n ≤ length buffer.old }
     ensures { buffer.new ≡ filled n b buffer.old }
 {
-    let mut i = 0;
-    while i < n {
-        buffer[i] = b;
-        i = i + 1;
-    }
+    buffer[..n].fill(b);
 }

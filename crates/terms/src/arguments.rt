@@ -3,8 +3,6 @@ ghost use Rattle.std.specs.Prelude.{◌≡◌, ◌≤◌, ◌<◌, length};
 ghost use Rattle.format.specs.Limits.{node_count};
 ghost use Rattle.terms.specs.ForContracts.Arguments.{arguments_at, behind_first};
 
-use format::byte::wide;
-
 // The terms from node `from` to node `end`, the last one not among them.
 #[derive(Clone, Copy)]
 pub struct Arguments {
@@ -19,7 +17,7 @@ pub fn arguments_of(sizes: &[u8], p: usize) -> Arguments
 {
     Arguments {
         from: p + 1,
-        end: p + wide(sizes[p]),
+        end: p + usize::from(sizes[p]),
     }
 }
 
@@ -30,7 +28,7 @@ pub fn other_arguments(sizes: &[u8], row: Arguments) -> Arguments
 {
     let from = row.from;
     Arguments {
-        from: from + wide(sizes[from]),
+        from: from + usize::from(sizes[from]),
         end: row.end,
     }
 }

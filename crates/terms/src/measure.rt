@@ -4,7 +4,6 @@ ghost use Rattle.std.proofs.Math.Seq.{slice};
 ghost use Rattle.format.specs.Limits.{node_count};
 ghost use Rattle.terms.specs.ForContracts.Sizes.{Whole, Measurable, node_sizes};
 
-use format::byte::wide;
 use format::limits::Limits;
 
 // The number of nodes of the first of whole terms, where `sizes` has those of the terms that start at each node behind the first. The first of these, `last`, was found
@@ -19,15 +18,13 @@ fn first_size(nodes: &[u8], arities: &[u8], sizes: &[u8], last: u8) -> u8
     if Limits::FIRST_VARIABLE <= byte {
         return 1;
     }
-    let count = arities[wide(byte)];
+    let count = arities[usize::from(byte)];
     if count == 0 {
         return 1;
     }
-    let mut next = wide(last);
-    let mut k = 1;
-    while k < count {
-        next = next + wide(sizes[next]);
-        k = k + 1;
+    let mut next = usize::from(last);
+    for k in 1..count {
+        next += usize::from(sizes[next]);
     }
     (next + 1) as u8
 }
@@ -37,12 +34,9 @@ pub fn measure(nodes: &[u8], arities: &[u8], sizes: &mut [u8], from: usize, end:
     requires { Measurable arities.now nodes.now sizes.old from end }
     ensures { sizes.new ≡ take from sizes.old ++ (node_sizes arities.now (slice from end nodes.now) ++ drop end sizes.old) }
 {
-    let mut i = end;
     let mut size = 0;
-    while from < i {
-        let behind = i;
-        i = i - 1;
-        size = first_size(&nodes[i..end], arities, &sizes[behind..end], size);
+    for i in (from..end).rev() {
+        size = first_size(&nodes[i..end], arities, &sizes[i + 1..end], size);
         sizes[i] = size;
     }
 }

@@ -11,5 +11,5 @@ pub returns : goal.returns
 unfolding comparison_frame
 returns c =
     let decision = c.args.decision in
-    let told = ap (λ n. comparison_kind ∷ n ∷ c.clause_number_of.result ∷ []) (c.number_of_verdict-verdict.ensures ∙ ap verdict_number c.verdict_of.ensures) ∙ ap (λ n. comparison_kind ∷ verdict_number (verdict_of decision) ∷ n ∷ []) c.clause_number_of.ensures in
+    let told = ap (λ n. comparison_kind ∷ n ∷ c.clause_number.result ∷ []) (c.from-verdict.ensures ∙ ap verdict_number c.verdict.ensures) ∙ ap (λ n. comparison_kind ∷ verdict_number (verdict_of decision) ∷ n ∷ []) c.clause_number.ensures in
     appended_text (ap (λ f. printed (f ∷ [])) told) c.put_frame.ensures

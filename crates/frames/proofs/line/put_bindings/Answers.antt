@@ -19,13 +19,13 @@ pub put_term-to-requires : goal.put_term-to-requires
 unfolding digits
 put_term-to-requires c =
     let h = c.loop-v-test.true in
-    (bound_there c.loop-v.invariant h c.if-p-lt-NO_POSITION.true c.wide.ensures.value c.requires.0, omega (arith, c.loop-v.invariant.reached, c.loop-v.invariant.same_length, h, c.put_byte-behind.ensures.ends, c.put_byte-behind.ensures.same_length, c.requires.1))
+    (bound_there c.loop-v.invariant h c.if-p-lt-NO_POSITION.true c.from.ensures c.requires.0, omega (arith, c.loop-v.invariant.reached, c.loop-v.invariant.same_length, h, c.put_byte-behind.ensures.ends, c.put_byte-behind.ensures.same_length, c.requires.1))
 
 pub loop-v-preserved : goal.loop-v-preserved
 loop-v-preserved c =
     let h = c.loop-v-test.true in
     elim c.if-p-lt-NO_POSITION.branch [
-      | then-p-lt-NO_POSITION w ↦ passed_moved w.out-is w.to-is (bound_passed c.loop-v.invariant h w.if-p-lt-NO_POSITION.true w.wide.ensures.value w.put_byte-behind.ensures w.put_term-to.ensures.appended w.put_term-to.ensures.upper_bound w.put_term-to.auto.out)
+      | then-p-lt-NO_POSITION w ↦ passed_moved w.out-is w.to-is (bound_passed c.loop-v.invariant h w.if-p-lt-NO_POSITION.true w.from.ensures w.put_byte-behind.ensures w.put_term-to.ensures.appended w.put_term-to.ensures.upper_bound w.put_term-to.auto.out)
       | else-p-lt-NO_POSITION w ↦ passed_moved w.out-is w.to-is (free_passed c.loop-v.invariant h w.if-p-lt-NO_POSITION.false)
     ]
 

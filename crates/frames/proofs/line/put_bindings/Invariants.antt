@@ -1,11 +1,6 @@
 -- `put_bindings` prints the variables that are bound, each with its term. The invariant: those before `v` are printed.
-use Prim.Native.Nat.{◌-◌}
-use Rattle.format.specs.Limits.{variable_count}
 use Rattle.frames.proofs.BindingLaws.{BindingsPassed}
 use Rattle.frames.proofs.line.put_bindings.Given as goal
 
 abbrev pub invariant-loop-v : goal.invariant-loop-v
 invariant-loop-v l = BindingsPassed l.bytes l.nodes l.sizes l.initial.out l.at l.out l.to l.v
-
-abbrev pub decreases-loop-v : goal.decreases-loop-v
-decreases-loop-v l = variable_count - l.v

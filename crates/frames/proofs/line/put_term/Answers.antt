@@ -13,10 +13,10 @@ pub bounds-sizes-p : goal.bounds-sizes-p
 bounds-sizes-p c = let t = c.requires.0 in position_there t.are t.inside
 
 pub slice_bounds-put_bytes-end : goal.slice_bounds-put_bytes-end
-slice_bounds-put_bytes-end c = let t = c.requires.0 in omega (arith, c.wide.ensures.value, term_ends t.are t.inside)
+slice_bounds-put_bytes-end c = let t = c.requires.0 in omega (arith, c.from.ensures, term_ends t.are t.inside)
 
 pub put_bytes-requires : goal.put_bytes-requires
-put_bytes-requires c = let t = c.requires.0 in omega (arith, term_length t.are t.inside c.wide.ensures.value, term_small t.are t.inside, c.requires.1)
+put_bytes-requires c = let t = c.requires.0 in omega (arith, term_length t.are t.inside c.from.ensures, term_small t.are t.inside, c.requires.1)
 
 pub shape_of-out : goal.shape_of-out
 shape_of-out c = c.put_bytes.ensures.same_length
@@ -25,5 +25,5 @@ pub returns : goal.returns
 returns c =
     let t = c.requires.0 in
     let p = c.args.p in
-    let size = length_digits (take (p + c.wide.result - p) (drop p c.args.nodes.now)) in
-    record { appended = λ e s h. appended_text (ap digits (term_part s h c.wide.ensures.value)) c.put_bytes.ensures; upper_bound = omega (arith, c.put_bytes.ensures.ends, size, term_length t.are t.inside c.wide.ensures.value, term_small t.are t.inside) }
+    let size = length_digits (take (p + c.from.result - p) (drop p c.args.nodes.now)) in
+    record { appended = λ e s h. appended_text (ap digits (term_part s h c.from.ensures)) c.put_bytes.ensures; upper_bound = omega (arith, c.put_bytes.ensures.ends, size, term_length t.are t.inside c.from.ensures, term_small t.are t.inside) }

@@ -5,18 +5,14 @@ use native.Mathlib.Omega.{arith}
 use Rattle.listing.specs.Listing.{run_kind, digits, printed}
 use Rattle.listing.specs.Theory.Printed.{length_digits}
 use Rattle.listing.specs.Theory.Appended.{appended_join, appended_text}
-use Rattle.reducing.proofs.Theory.Runs.{ending_low}
 use Rattle.frames.proofs.steps.put_run.Goals as goal
 
-pub overflow_cast-head : goal.overflow_cast-head
-overflow_cast-head c = omega (arith, ending_low c.args.ending, c.number_of_ending.ensures)
-
 pub put_frame-requires : goal.put_frame-requires
-put_frame-requires c = omega (arith, c.put_bytes-to.ensures.ends, c.put_bytes-to.ensures.same_length, length_digits (run_kind ∷ c.number_of_ending.result ∷ c.args.steps ∷ []), c.requires)
+put_frame-requires c = omega (arith, c.put_bytes-to.ensures.ends, c.put_bytes-to.ensures.same_length, length_digits (run_kind ∷ c.from.result ∷ c.args.steps ∷ []), c.requires)
 
 pub returns : goal.returns
 unfolding digits printed
 returns c =
     let rest = c.args.steps ∷ c.args.term.now in
-    appended_text (ap (λ k. printed ((run_kind ∷ k ∷ rest) ∷ [])) c.number_of_ending.ensures)
-    (appended_join (digits (run_kind ∷ c.number_of_ending.result ∷ c.args.steps ∷ [])) (printed (c.args.term.now ∷ [])) c.put_bytes-to.ensures c.put_frame.ensures)
+    appended_text (ap (λ k. printed ((run_kind ∷ k ∷ rest) ∷ [])) c.from.ensures)
+    (appended_join (digits (run_kind ∷ c.from.result ∷ c.args.steps ∷ [])) (printed (c.args.term.now ∷ [])) c.put_bytes-to.ensures c.put_frame.ensures)

@@ -5,8 +5,8 @@ use Rattle.outcomes.specs.Theory.Number.{number_range}
 use Rattle.outcomes.proofs.number.refusal_number.Goals as goal
 
 pub overflow_add-result : goal.overflow_add-result
-overflow_add-result c = omega (arith, c.number_of.ensures, number_range c.args.why, c.requires)
+overflow_add-result c = omega (arith, c.from.ensures, c.from-2.ensures, number_range c.args.why, c.requires)
 
 pub returns : goal.returns
 unfolding refusal_number fields
-returns c = omega (arith, c.number_of.ensures)
+returns c = omega (arith, c.from.ensures, c.from-2.ensures)

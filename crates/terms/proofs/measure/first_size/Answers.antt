@@ -9,20 +9,20 @@ pub returns-then-byte-ge-FIRST_VARIABLE : goal.returns-then-byte-ge-FIRST_VARIAB
 returns-then-byte-ge-FIRST_VARIABLE c =
     rw c.requires.sizes_value.0 (variable_sizes c.args.arities.now c.args.nodes.now c.requires.whole c.requires.nodes_nonzero.0 c.if-byte-ge-FIRST_VARIABLE.true)
 
-pub bounds-arities-wide : goal.bounds-arities-wide
-bounds-arities-wide c =
+pub bounds-arities-from : goal.bounds-arities-from
+bounds-arities-from c =
     let x = symbol_sizes c.args.arities.now c.args.nodes.now c.requires.whole c.requires.nodes_nonzero.0 c.if-byte-ge-FIRST_VARIABLE.false in
-    omega (arith, x.known, c.wide.ensures.value)
+    omega (arith, x.known, c.from.ensures)
 
 pub returns-then-count-eq0 : goal.returns-then-count-eq0
 returns-then-count-eq0 c =
-    added_zero (added_none c.requires.whole c.requires.nodes_nonzero.0 c.requires.nodes_nonzero.1 c.requires.sizes_value.0 c.if-byte-ge-FIRST_VARIABLE.false) (rw c.wide.ensures.value at c.if-count-eq0.true)
+    added_zero (added_none c.requires.whole c.requires.nodes_nonzero.0 c.requires.nodes_nonzero.1 c.requires.sizes_value.0 c.if-byte-ge-FIRST_VARIABLE.false) (rw c.from.ensures at c.if-count-eq0.true)
 
 pub loop-k-init : goal.loop-k-init
 loop-k-init c =
     let none = added_none c.requires.whole c.requires.nodes_nonzero.0 c.requires.nodes_nonzero.1 c.requires.sizes_value.0 c.if-byte-ge-FIRST_VARIABLE.false in
-    let some = rw c.wide.ensures.value at c.if-count-eq0.false in
-    rw c.wide.ensures.value (added_first none (omega (arith, some)) (c.wide-next.ensures.value ∙ c.requires.sizes_value.1))
+    let some = rw c.from.ensures at c.if-count-eq0.false in
+    rw c.from.ensures (added_first none (omega (arith, some)) (c.from-next.ensures ∙ c.requires.sizes_value.1))
 
 pub bounds-sizes-next : goal.bounds-sizes-next
 bounds-sizes-next c = added_below c.loop-k.invariant c.loop-k-test.true
@@ -30,13 +30,10 @@ bounds-sizes-next c = added_below c.loop-k.invariant c.loop-k-test.true
 pub overflow_add-next : goal.overflow_add-next
 overflow_add-next c =
     let a = added_more c.loop-k.invariant c.loop-k-test.true in
-    omega (arith, added_few a, c.wide-next-in-loop-k.ensures.value)
-
-pub overflow_add-k : goal.overflow_add-k
-overflow_add-k c = omega (arith, c.shared_slice_known-5-1.given c.wide.result)
+    omega (arith, added_few a, c.from-next-in-loop-k.ensures)
 
 pub loop-k-preserved : goal.loop-k-preserved
-loop-k-preserved c = rw c.wide-next-in-loop-k.ensures.value (added_more c.loop-k.invariant c.loop-k-test.true)
+loop-k-preserved c = rw c.from-next-in-loop-k.ensures (added_more c.loop-k.invariant c.loop-k-test.true)
 
 pub overflow_add-result : goal.overflow_add-result
 overflow_add-result c = omega (arith, added_few c.loop-k.invariant)

@@ -1,10 +1,6 @@
 -- `first_size` meets its contract. The invariant: the sizes of the first `k` arguments are added up.
-use Prim.Native.Nat.{◌-◌}
 use Rattle.terms.proofs.Added.{Added}
 use Rattle.terms.proofs.measure.first_size.Given as goal
 
 abbrev pub invariant-loop-k : goal.invariant-loop-k
 invariant-loop-k l = Added l.nodes l.arities l.sizes l.count l.next l.k
-
-abbrev pub decreases-loop-k : goal.decreases-loop-k
-decreases-loop-k l = l.count - l.k

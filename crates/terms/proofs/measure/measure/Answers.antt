@@ -1,4 +1,5 @@
 -- Goals of `measure`.
+use Prim.Native.Nat.{◌+◌, ◌-◌}
 use mathlib.Core.Path.{◌≡◌}
 use native.Mathlib.Omega.{arith}
 use lib.Seq.{slice_empty}
@@ -17,7 +18,8 @@ pub first_size-size-requires : goal.first_size-size-requires
 first_size-size-requires c =
     let loop = c.loop-i in
     let q = first_asks c.requires loop.invariant.0 c.loop-i-test.true in
-    record { whole = q.0; nodes_nonzero = q.1; sizes_value = (q.2, filled_asks c.requires loop.invariant.0 loop.invariant.1) }
+    let behind : (loop.i - 1) + 1 ≡ loop.i = omega (arith, c.loop-i-test.true) in
+    rw behind (record { whole = q.0; nodes_nonzero = q.1; sizes_value = (q.2, filled_asks c.requires loop.invariant.0 loop.invariant.1) })
 
 pub bounds-sizes-i : goal.bounds-sizes-i
 bounds-sizes-i c =
@@ -30,7 +32,9 @@ pub loop-i-preserved : goal.loop-i-preserved
 loop-i-preserved c =
     let loop = c.loop-i in
     let loop-test = c.loop-i-test in
-    (filled_more c.requires loop.invariant.0 loop-test.true c.first_size-size.ensures, filled_first c.requires loop.invariant.0 loop-test.true c.first_size-size.ensures)
+    let behind : (loop.i - 1) + 1 ≡ loop.i = omega (arith, loop-test.true) in
+    let first = rw behind at c.first_size-size.ensures in
+    (filled_more c.requires loop.invariant.0 loop-test.true first, filled_first c.requires loop.invariant.0 loop-test.true first)
 
 pub shape_of-sizes : goal.shape_of-sizes
 shape_of-sizes c = filled_same_length c.requires c.loop-i.invariant.0

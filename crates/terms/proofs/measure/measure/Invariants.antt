@@ -7,6 +7,3 @@ use Rattle.terms.proofs.measure.measure.Given as goal
 
 abbrev pub invariant-loop-i : goal.invariant-loop-i
 invariant-loop-i l = SizesFilled l.arities l.nodes l.initial.sizes l.from l.end l.sizes l.i × (l.size ≡ get_or (slice l.i l.end l.sizes) 0 0)
-
-abbrev pub decreases-loop-i : goal.decreases-loop-i
-decreases-loop-i l = l.i

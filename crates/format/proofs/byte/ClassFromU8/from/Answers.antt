@@ -1,8 +1,8 @@
--- `format::classify` gives the class that document 01 says: each arm's range is that of a class.
+-- The conversion gives the class that document 01 says: each arm's range is that of a class.
 use mathlib.Core.Path.{sym}
 use native.Mathlib.Omega.{arith}
 use Rattle.format.specs.Theory.Byte.{symbol_class, class_is_variable, class_between, class_behind}
-use Rattle.format.proofs.byte.classify.Goals as goal
+use Rattle.format.proofs.byte.ClassFromU8.from.Goals as goal
 
 pub returns-in-0-to-15 : goal.returns-in-0-to-15
 returns-in-0-to-15 c = sym (symbol_class _ (omega arith))

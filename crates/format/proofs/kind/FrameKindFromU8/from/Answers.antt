@@ -1,9 +1,9 @@
--- `format::kind_of` gives the kind whose byte it is: each arm's number is a kind's byte.
+-- The conversion gives the kind whose byte it is: each arm's number is a kind's byte.
 use Prim.Native.Nat.{ℕ}
 use mathlib.Core.Path.{◌≡◌, sym, ap, ◌∙◌}
 use Rattle.format.specs.Kind.{FrameKind, symbols_kind, equation_kind, run_kind, judgement_kind, comparison_kind, kind_byte, kind_of}
 use Rattle.format.specs.Theory.Kind.{kind_of_byte, no_kind}
-use Rattle.format.proofs.kind.kind_of.Goals as goal
+use Rattle.format.proofs.kind.FrameKindFromU8.from.Goals as goal
 
 told : (k : FrameKind) {b : ℕ} → b ≡ kind_byte k → k ≡ kind_of b
 told k e = sym (ap kind_of e ∙ kind_of_byte k)
