@@ -1,9 +1,11 @@
 -- A row is loaded before the subject's nodes: the equation stands at the front, and all that stands from the subject's first node on is as before.
 use Prim.Native.Nat.{ℕ, ◌<◌}
-use mathlib.Core.Path.{◌≡◌, sym, ap, ◌∙◌}
+use mathlib.Core.Path.{◌≡◌, refl, ◌∙◌}
 use mathlib.Core.Logic.{inl}
 use mathlib.Core.Option
 use mathlib.Core.Option.{Option, none, some}
+use Rattle.std.specs.Prelude.{Option as StdOption, None, Some, MatchOption, is_some}
+use borrow.Author.Tests.{lt-ltb}
 use mathlib.Core.List.{List}
 use native.Mathlib.Omega.{arith}
 use lib.ListN.{length, get_or}
@@ -88,5 +90,9 @@ module _ {equations lengths : List ℕ} {rule : ℕ} {table : List ℕ} {lines :
         let there = is.kept_there in
         record { ends = there.ends; room = omega (arith, there.room, there.table_room); there = there.there; testable = lines_testable front is.kept is.kept_are.proper }
 
-  pub lines_tell : (r : ℕ) → r ≡ first_holding ρ (value e ρ) is.kept → LinesTell (filling arities) e d m (ltb 0 r)
-  lines_tell r x = is.kept_are.tests ρ ∙ ap (ltb 0) (sym x)
+  pub lines_tell : (r : StdOption ℕ) → MatchOption r (first_holding ρ (value e ρ) is.kept ≡ 0) (λ line. (0 < line) × (first_holding ρ (value e ρ) is.kept ≡ line)) → LinesTell (filling arities) e d m (is_some r)
+  lines_tell r x = is.kept_are.tests ρ ∙ told r x
+    where
+      told : (r : StdOption ℕ) → MatchOption r (first_holding ρ (value e ρ) is.kept ≡ 0) (λ line. (0 < line) × (first_holding ρ (value e ρ) is.kept ≡ line)) → ltb 0 (first_holding ρ (value e ρ) is.kept) ≡ is_some r
+      told None x = rw x refl
+      told (Some line) x = lt-ltb 0 (first_holding ρ (value e ρ) is.kept) (omega (arith, x.0, x.1))

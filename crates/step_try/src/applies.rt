@@ -7,10 +7,10 @@ ghost use Rattle.terms.specs.Term.{Term};
 ghost use Rattle.terms.specs.Equation.{Equation, Direction};
 ghost use Rattle.terms.specs.ForContracts.Stored.{SubjectIs};
 ghost use Rattle.reducing.specs.Match.{Match};
-ghost use Rattle.cells.specs.ForContracts.Cells.{Cleared};
 ghost use Rattle.step_try.specs.ForContracts.Trying.{Settled, TryIs, HasTry, Applies, MatchedTry, HasMatchedTry, LinesTell};
 
-use format::copy::copy_front;
+use cells::settled::clear;
+use comparing::comparison::Compared;
 use format::limits::Limits;
 use kept_lines::holding::first_holding;
 use kept_lines::trimmed::KeptLines;
@@ -24,29 +24,15 @@ pub struct KeptRule {
     pub lines: KeptLines,
 }
 
-// No row of cells of the equation's nodes is ready.
-fn forget_rows(ready: &mut [u8; Limits::NODES])
-    requires { position_count ≤ length ready.old }
-    ensures { Cleared ready.old 0 position_count ready.new }
-{
-    let mut i = 0;
-    while i < Limits::SUBJECT {
-        ready[i] = 0;
-        i = i + 1;
-    }
-}
-
-// The first row of `from` stands first in `to`. It goes by way of an array that overlaps neither, so that the compiler need not copy byte by byte.
+// The first row of `from` stands first in `to`.
 fn load_row(from: &[u8], to: &mut [u8])
     requires { (position_count ≤ length from.now) × (position_count ≤ length to.old) }
     ensures { to.new ≡ written (take position_count from.now) to.old }
 {
-    let mut row = [0u8; Limits::POSITIONS];
-    copy_front(from, &mut row, Limits::POSITIONS);
-    copy_front(&row, to, Limits::POSITIONS);
+    to[..Limits::POSITIONS].copy_from_slice(&from[..Limits::POSITIONS]);
 }
 
-// Whether one of the kept lines holds at the match. The equation's row is loaded before the subject; the cells of pairs of subject nodes stay settled.
+// Whether one of the kept lines holds at the match. The equation's row is loaded before the subject, so that no row of cells of its nodes is ready; the cells of pairs of subject nodes stay settled.
 fn match_holds(
     equations: &[u8],
     lengths: &[u8],
@@ -67,8 +53,13 @@ fn match_holds(
     let row = kept.rule / 2 * Limits::POSITIONS;
     load_row(&equations[row..], nodes);
     load_row(&lengths[row..], sizes);
-    forget_rows(ready);
-    0 < first_holding(table, kept.lines, nodes, sizes, values, ready, cells)
+    clear(ready, 0, Limits::SUBJECT);
+    let compared = Compared {
+        nodes,
+        sizes,
+        values,
+    };
+    first_holding(table, kept.lines, &compared, ready, cells).is_some()
 }
 
 // Whether the rule, whose lines are kept, can step at `node`.
@@ -91,10 +82,8 @@ pub fn applies(
 {
     let mut values = [0u8; Limits::VARIABLES];
     let sides = sides_of(lengths, kept.rule);
-    if !match_side(equations, sides.source, nodes, sizes, node, &mut values) {
-        return false;
-    }
-    match_holds(
-        equations, lengths, kept, table, nodes, sizes, &values, ready, cells,
-    )
+    match_side(equations, sides.source, nodes, sizes, node, &mut values)
+        && match_holds(
+            equations, lengths, kept, table, nodes, sizes, &values, ready, cells,
+        )
 }

@@ -29,15 +29,12 @@ slice_bounds-load_row-start-2 c = let is = c.requires.has_matched_try.is.rule_is
 pub load_row-requires-2 : goal.load_row-requires-2
 load_row-requires-2 c = let is = c.requires.has_matched_try.is in (lengths_room is.rule_is, omega (arith, is.subject_is.sizes_length))
 
-pub forget_rows-requires : goal.forget_rows-requires
-forget_rows-requires c = omega (arith, c.requires.settled.are.ready_length)
-
 pub first_holding-requires : goal.first_holding-requires
 first_holding-requires c =
     let has = c.requires.has_matched_try in
     let is = has.is in
     let (n, bytes) = nodes_fronted is.rule_is c.args.nodes.now c.load_row.new.to is.subject_is.nodes_length c.load_row.ensures in
-    let (l, measured) = sizes_fronted is.rule_is c.args.sizes.now c.load_row-2.new.to is.subject_is.sizes_length c.load_row-2.ensures in record { settled_cells = settled_next n l c.args.values.now c.requires.settled is.met.values_length c.forget_rows.ensures; has_lines = record { assigned = values_of (filling has.arities) has.found; value = value has.equation (values_of (filling has.arities) has.found); these = is.kept; are = lines_are is n l bytes measured } }
+    let (l, measured) = sizes_fronted is.rule_is c.args.sizes.now c.load_row-2.new.to is.subject_is.sizes_length c.load_row-2.ensures in record { settled_cells = settled_next n l c.args.values.now c.requires.settled is.met.values_length c.clear.ensures; has_lines = record { assigned = values_of (filling has.arities) has.found; value = value has.equation (values_of (filling has.arities) has.found); these = is.kept; are = lines_are is n l bytes measured } }
 
 pub returns : goal.returns
 returns c =
@@ -48,7 +45,7 @@ returns c =
       by_index = λ arities i e d subject m is.
           let (n, x) = nodes_fronted is.rule_is nodes c.load_row.new.to is.subject_is.nodes_length c.load_row.ensures in
           let (l, y) = sizes_fronted is.rule_is sizes c.load_row-2.new.to is.subject_is.sizes_length c.load_row-2.ensures in
-          lines_tell is c.first_holding.result (c.first_holding.ensures.value (values_of (filling arities) m) (value e (values_of (filling arities) m)) is.kept (lines_are is n l x y));
+          rw c.is_some.ensures (lines_tell is c.first_holding.result (c.first_holding.ensures.value (values_of (filling arities) m) (value e (values_of (filling arities) m)) is.kept (lines_are is n l x y)));
       by_index_2 = λ arities subject s. subject_kept fronts.0 sized.0 s;
       settled_2 = record { values = c.args.values.now; are = c.first_holding.ensures.settled_cells_2 };
     }
