@@ -10,12 +10,13 @@ ghost use Rattle.rules.specs.ForContracts.Walks.{RuleKeptAs};
 
 use format::limits::Limits;
 use format::refusal::Refusal;
-use kept_lines::trimmed::{Kept, keep_lines};
-use solve_equation::positions::{MEMORY, WalkEnd, WalkResult};
+use kept_lines::trimmed::keep_lines;
+use solve_equation::positions::{MEMORY, Solved};
 use solve_equation::solve::walk_direction;
 
 // Walks a rule. The records of its lines stand first in scratch.
-pub fn walk_rule(equations: &[u8], lengths: &[u8], rule: usize, scratch: &mut [u8]) -> WalkResult
+pub fn walk_rule(equations: &[u8], lengths: &[u8], rule: usize, scratch: &mut [u8],
+) -> Result<Solved, Refusal>
     requires { HasRuleIn equations.now lengths.now rule × (memory_bytes ≤ length scratch.old) }
     ensures by_index { (arities : List ℕ) (i : ℕ) (e : Equation) (d : Direction) → RuleIs equations.now lengths.now arities rule i e d → Leaves (solve e d) scratch.new result }
     ensures scratch_unchanged { drop memory_bytes scratch.new ≡ drop memory_bytes scratch.old }
@@ -45,15 +46,6 @@ pub fn keep_rule(
     ensures by_index { (arities : List ℕ) (i : ℕ) (e : Equation) (d : Direction) → RuleIs equations.now lengths.now arities rule i e d → RuleKeptAs e d start table.old table.new result }
     ensures scratch_unchanged { drop memory_bytes scratch.new ≡ drop memory_bytes scratch.old }
 {
-    let walked = walk_rule(equations, lengths, rule, scratch);
-    let ending = walked.ending;
-    match ending {
-        WalkEnd::Refused(why) => Err(why),
-        WalkEnd::Solved => {
-            match keep_lines(scratch, walked.lines, table, start) {
-                Kept::Full => Ok(None),
-                Kept::End(end) => Ok(Some(end)),
-            }
-        }
-    }
+    let solved = walk_rule(equations, lengths, rule, scratch)?;
+    Ok(keep_lines(scratch, solved.lines, table, start))
 }

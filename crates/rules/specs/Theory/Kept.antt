@@ -11,12 +11,10 @@ use Rattle.solving.specs.Walk.{Walked, refused, solve, Solves}
 use Rattle.solving.specs.ForContracts.Written.{WrittenLines}
 use Rattle.bindings.specs.ForContracts.Equation.{equation_sizes}
 use Rattle.bindings.specs.Theory.Equation.{length_nodes, length_sizes}
-use Rattle.solve_equation.specs.declared.positions.WalkEnd.TheVariants.{Solved, Refused}
-use Rattle.solve_equation.specs.declared.positions.WalkResult.{WalkResult as Reported}
 use Rattle.solve_equation.specs.ForContracts.Equation.{SidesAre}
-use Rattle.solve_equation.specs.ForContracts.Reports.{LeavesEnd, Leaves}
-use Rattle.kept_lines.specs.declared.trimmed.Kept.{Kept}
-use Rattle.kept_lines.specs.declared.trimmed.Kept.TheVariants.{Full}
+use Rattle.std.specs.Prelude.{Option as Maybe, Some, None, Result, Ok, Err, MatchResult}
+use Rattle.solve_equation.specs.declared.positions.Solved.{Solved}
+use Rattle.solve_equation.specs.ForContracts.Reports.{LeavesSolved, Leaves}
 use Rattle.kept_lines.specs.ForContracts.Trimmed.{trimmed, trimmed_lines, RecordsAre, KeptAs}
 use Rattle.kept_lines.specs.Theory.Lengths.{length_trimmed}
 use Rattle.rules.specs.ForContracts.Rows.{RuleIs}
@@ -53,8 +51,11 @@ module _ {equations lengths arities : List ℕ} {rule i : ℕ} {e : Equation} {d
       measured = ap (λ n. take many (drop n lengths)) (rule_row is) ∙ (ap (take many) is.row.measured.is ∙ take_at (equation_sizes e) is.row.measured.rest many (length_sizes e ∙ sym all_positions));
     }
 
-pub leaves_refused : {w : Walked} {memory : List ℕ} {told : Reported} {why : Refusal} → Leaves w memory told → told.ending ≡ Refused why → w ≡ refused why
-leaves_refused {w} {memory} {told} l x = subst (λ x. LeavesEnd w memory x told.lines told.turns) x l.ends
+pub leaves_refused : {w : Walked} {memory : List ℕ} {told : Result Solved Refusal} {why : Refusal} → Leaves w memory told → told ≡ Err why → w ≡ refused why
+leaves_refused {w} {memory} {told} l x = subst (λ r. MatchResult r (LeavesSolved w memory) (λ why. w ≡ refused why)) x l.ends
+
+pub leaves_solved : {w : Walked} {memory : List ℕ} {told : Result Solved Refusal} {this : Solved} → Leaves w memory told → told ≡ Ok this → LeavesSolved w memory this
+leaves_solved {w} {memory} {told} l x = subst (λ r. MatchResult r (LeavesSolved w memory) (λ why. w ≡ refused why)) x l.ends
 
 -- Lines without filler are no longer than their records.
 trimmed_short : (n : ℕ) (ls : List Line) → WrittenLines n ls → length (trimmed_lines ls) ≤ length ls * record_bytes
@@ -62,20 +63,20 @@ unfolding trimmed_lines
 trimmed_short n [] w = omega arith
 trimmed_short n (line θ es ∷ ls) w = omega (arith, length-append (trimmed (line θ es)) (trimmed_lines ls), length_trimmed θ es w.0.slots, w.0.few_elements, trimmed_short n ls w.1)
 
-module _ {e : Equation} (w : WithinLimits e) (d : Direction) {memory : List ℕ} {told : Reported} (l : Leaves (solve e d) memory told) (x : told.ending ≡ Solved) where
-  abbrev pub ends : LeavesEnd (solve e d) memory Solved told.lines told.turns
-  ends = subst (λ x. LeavesEnd (solve e d) memory x told.lines told.turns) x l.ends
+module _ {e : Equation} (w : WithinLimits e) (d : Direction) {memory : List ℕ} {told : Result Solved Refusal} {this : Solved} (l : Leaves (solve e d) memory told) (x : told ≡ Ok this) where
+  abbrev pub ends : LeavesSolved (solve e d) memory this
+  ends = leaves_solved l x
 
   abbrev pub walked_lines : List Line
   walked_lines = ends.0
 
   pub solves : Solves e d
-  solves = record { table = walked_lines; turns = told.turns; walked = ends.1 }
+  solves = record { table = walked_lines; turns = this.turns; walked = ends.1 }
 
-  pub records_there : RecordsAre memory told.lines walked_lines
+  pub records_there : RecordsAre memory this.lines walked_lines
   records_there = record {
     counted = ends.2;
-    first = record { rest = drop (told.lines * record_bytes) memory; is = sym (take-append-drop (told.lines * record_bytes) memory) ∙ ap (◌++ drop (told.lines * record_bytes) memory) ends.4 };
+    first = record { rest = drop (this.lines * record_bytes) memory; is = sym (take-append-drop (this.lines * record_bytes) memory) ∙ ap (◌++ drop (this.lines * record_bytes) memory) ends.4 };
     positions = positions e;
     written = (walked_proper w d ends.1).written;
   }
@@ -83,6 +84,6 @@ module _ {e : Equation} (w : WithinLimits e) (d : Direction) {memory : List ℕ}
   few_bytes : length (trimmed_lines walked_lines) ≤ table_bytes
   few_bytes = omega (arith, trimmed_short (positions e) walked_lines (walked_proper w d ends.1).written, ends.2, ends.3)
 
-  module _ (start : ℕ) (before after : List ℕ) (kept : Kept) (k : (ls : List Line) → RecordsAre memory told.lines ls → KeptAs ls start before after kept) where
-    pub full_kept : kept ≡ Full → Solves e d × (0 < start) × (drop table_bytes after ≡ drop table_bytes before)
+  module _ (start : ℕ) (before after : List ℕ) (kept : Maybe ℕ) (k : (ls : List Line) → RecordsAre memory this.lines ls → KeptAs ls start before after kept) where
+    pub full_kept : kept ≡ None → Solves e d × (0 < start) × (drop table_bytes after ≡ drop table_bytes before)
     full_kept y = let (long, same) = subst (KeptAs walked_lines start before after) y (k walked_lines records_there) in (solves, omega (arith, few_bytes), same)
