@@ -15,13 +15,9 @@ use Rattle.solving.specs.Walk.{solve}
 use Rattle.walking.specs.ForContracts.Walking.{memory_bytes}
 use Rattle.line_bytes.specs.ForContracts.Layout.{placed}
 use Rattle.line_bytes.specs.Theory.Placed.{placed_length, drop_placed}
-use Rattle.solve_equation.specs.declared.positions.WalkEnd.TheVariants.{Solved, Refused}
-use Rattle.solve_equation.specs.declared.positions.WalkResult.{WalkResult as Reported}
 use Rattle.solve_equation.specs.ForContracts.Reports.{Leaves}
 use Rattle.reducing.specs.ForContracts.Rules.{rule_number}
 use Rattle.reducing.specs.Walks.{equation_line}
-use Rattle.kept_lines.specs.declared.trimmed.Kept.{Kept}
-use Rattle.kept_lines.specs.declared.trimmed.Kept.TheVariants.{Full, End}
 use Rattle.kept_lines.specs.ForContracts.Trimmed.{trimmed_lines, RecordsAre, HasRecords, KeptAs}
 use Rattle.rules.specs.ForContracts.Rows.{RowsAre, RuleIs, HasRows}
 use Rattle.judge_rule.specs.ForContracts.Judgement.{JudgedAs}
@@ -30,7 +26,8 @@ use Rattle.reducing.specs.Theory.Rules.{rule_of, rule_below}
 use Rattle.rules.specs.Theory.Rows.{rule_row, rule_there}
 use Rattle.rules.specs.Theory.Kept.{leaves_refused, records_there}
 use Rattle.rules.specs.Theory.Front.{KeptTo, front_fits, front_kept, walk_solves}
-use Rattle.std.specs.Prelude.{Ok, Err}
+use Rattle.std.specs.Prelude.{Option as Maybe, Some, None, Result, Ok, Err}
+use Rattle.solve_equation.specs.declared.positions.Solved.{Solved}
 
 -- From rule to rule.
 pub record JudgedSoFar (es : List Equation) (judged : ℕ) (table : List ℕ) (end rule : ℕ) : Type 0 where
@@ -63,9 +60,9 @@ module _ {equations lengths : List ℕ} {count judged : ℕ} {table₀ scratch�
       )
 
   -- The walk of the rule.
-  module _ (has : HasRows equations lengths count) (there : rule < count + count) {after : List ℕ} {told : Reported}
+  module _ (has : HasRows equations lengths count) (there : rule < count + count) {after : List ℕ} {told : Result Solved Refusal}
       (leaves : (arities : List ℕ) (i : ℕ) (e : Equation) (d : Direction) → RuleIs equations lengths arities rule i e d → Leaves (solve e d) after told) where
-    pub judging_refused : {why : Refusal} → told.ending ≡ Refused why → (arities : List ℕ) (es : List Equation) → RowsAre equations lengths arities es → count ≡ length es
+    pub judging_refused : {why : Refusal} → told ≡ Err why → (arities : List ℕ) (es : List Equation) → RowsAre equations lengths arities es → count ≡ length es
         → JudgedAs es judged table (Err (record { why = why; equation = rule / 2 }))
     judging_refused {why} x arities es rows c =
         let r = rule_of es rule (omega (arith, c)) in
@@ -75,8 +72,8 @@ module _ {equations lengths : List ℕ} {count judged : ℕ} {table₀ scratch�
         (subst (SolvedBefore es) r.is (k.so_far arities es rows c).solve_below)
         ∙ ap (λ n. some (record { refusal = why; line = equation_line n })) n
 
-    module _ (solves : told.ending ≡ Solved) where
-      pub judging_records : HasRecords after told.lines
+    module _ {this_walk : Solved} (solves : told ≡ Ok this_walk) where
+      pub judging_records : HasRecords after this_walk.lines
       judging_records =
           let this = rule_there has there in
           record { kept = _; are = records_there this.is.row.limits this.direction (leaves this.arities this.number this.equation this.direction this.is) solves }
@@ -101,18 +98,18 @@ module _ {equations lengths : List ℕ} {count judged : ℕ} {table₀ scratch�
         }
 
         -- The lines of the judged rule are kept.
-        module _ (room : table_bytes ≤ length table₀) (this : rule ≡ judged) (table' : List ℕ) (kept : Kept)
-            (keeps : (ls : List Line) → RecordsAre after told.lines ls → KeptAs ls 0 table table' kept) where
+        module _ (room : table_bytes ≤ length table₀) (this : rule ≡ judged) (table' : List ℕ) (kept : Maybe ℕ)
+            (keeps : (ls : List Line) → RecordsAre after this_walk.lines ls → KeptAs ls 0 table table' kept) where
           table_room : table_bytes ≤ length table
           table_room = omega (arith, k.table_length)
 
-          pub never_full : kept ≡ Full → ⊥
+          pub never_full : kept ≡ None → ⊥
           never_full x =
               let r = rule_there has there in
               front_fits r.is.row.limits r.direction (leaves r.arities r.number r.equation r.direction r.is) solves table table_room table' kept keeps x
 
-          module _ {last : ℕ} (ended : kept ≡ End last) where
-            kept_lines : (ls : List Line) → RecordsAre after told.lines ls → (last ≡ 0 + length (trimmed_lines ls)) × (last ≤ table_bytes) × (table' ≡ placed 0 (trimmed_lines ls) table)
+          module _ {last : ℕ} (ended : kept ≡ Some last) where
+            kept_lines : (ls : List Line) → RecordsAre after this_walk.lines ls → (last ≡ 0 + length (trimmed_lines ls)) × (last ≤ table_bytes) × (table' ≡ placed 0 (trimmed_lines ls) table)
             kept_lines ls r = subst (KeptAs ls 0 table table') ended (keeps ls r)
 
             kept_rule : {arities : List ℕ} {i : ℕ} {e : Equation} {d : Direction} → RuleIs equations lengths arities rule i e d → KeptTo table' last e d

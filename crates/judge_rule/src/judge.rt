@@ -5,19 +5,20 @@ ghost use Rattle.terms.specs.Term.{Terms};
 ghost use Rattle.terms.specs.Equation.{Equation, Direction, value};
 ghost use Rattle.solving.specs.Line.{Line};
 ghost use Rattle.solving.specs.Judge.{first_holding};
+ghost use Rattle.solving.specs.ForContracts.Told.{LineTold};
 ghost use Rattle.reducing.specs.Test.{given_values};
 ghost use Rattle.walking.specs.ForContracts.Walking.{memory_bytes};
 ghost use Rattle.reading.specs.ForContracts.Loading.{Loaded};
 ghost use Rattle.rules.specs.ForContracts.Rows.{RowsAre, HasRows};
 ghost use Rattle.judge_rule.specs.ForContracts.Judgement.{ValuesAt, HasLoaded, JudgeIs, HasJudge, JudgedAs};
 
+use comparing::comparison::Compared;
 use format::copy::copy_front;
 use format::limits::Limits;
 use kept_lines::holding::first_holding;
-use kept_lines::trimmed::{Kept, KeptLines, keep_lines};
+use kept_lines::trimmed::{KeptLines, keep_lines};
 use rules::keep::walk_rule;
 use rules::walks::RefusedWalk;
-use solve_equation::positions::WalkEnd;
 
 // The node of each value, where the values stand from the subject's first node to `end`.
 fn place_values(sizes: &[u8], end: usize, values: &mut [u8])
@@ -33,7 +34,7 @@ fn place_values(sizes: &[u8], end: usize, values: &mut [u8])
     }
 }
 
-// The first of the kept lines of a rule that holds at the values, which have `n` nodes, counted from 1, or 0.
+// The first of the kept lines of a rule that holds at the values, which have `n` nodes, counted from 1.
 pub fn judge_lines(
     equations: &[u8],
     lengths: &[u8],
@@ -44,9 +45,9 @@ pub fn judge_lines(
     sizes: &mut [u8],
     cells: &mut [u8],
     n: usize,
-) -> usize
+) -> Option<usize>
     requires { HasJudge equations.now lengths.now rule table.now lines nodes.old sizes.old n × (length cells.old ≡ cell_count) }
-    ensures { (arities : List ℕ) (i : ℕ) (e : Equation) (d : Direction) (ls : List Line) (ts : Terms) → JudgeIs equations.now lengths.now rule table.now lines nodes.old sizes.old n arities i e d ls ts → result ≡ first_holding (given_values ts) (value e (given_values ts)) ls }
+    ensures { (arities : List ℕ) (i : ℕ) (e : Equation) (d : Direction) (ls : List Line) (ts : Terms) → JudgeIs equations.now lengths.now rule table.now lines nodes.old sizes.old n arities i e d ls ts → LineTold result (first_holding (given_values ts) (value e (given_values ts)) ls) }
 {
     let mut values = [0u8; Limits::VARIABLES];
     place_values(sizes, Limits::SUBJECT + n, &mut values);
@@ -54,7 +55,12 @@ pub fn judge_lines(
     copy_front(&equations[row..], nodes, Limits::POSITIONS);
     copy_front(&lengths[row..], sizes, Limits::POSITIONS);
     let mut ready = [0u8; Limits::NODES];
-    first_holding(table, lines, nodes, sizes, &values, &mut ready, cells)
+    let compared = Compared {
+        nodes,
+        sizes,
+        values: &values,
+    };
+    first_holding(table, lines, &compared, &mut ready, cells)
 }
 
 // Walks every rule of the `count` equations in order, and keeps the lines of the one that is judged: where they end.
@@ -74,17 +80,19 @@ pub fn walk_judged(
     let rules = count + count;
     let mut end = 0;
     for rule in 0..rules {
-        let walked = walk_rule(equations, lengths, rule, scratch);
-        let ending = walked.ending;
-        if let WalkEnd::Refused(why) = ending {
-            let equation = rule / 2;
-            return Err(RefusedWalk { why, equation });
-        }
-        if rule == judged {
-            let kept = keep_lines(scratch, walked.lines, table, 0);
-            // The table has room for the lines of one rule.
-            if let Kept::End(last) = kept {
-                end = last;
+        match walk_rule(equations, lengths, rule, scratch) {
+            Err(why) => {
+                let equation = rule / 2;
+                return Err(RefusedWalk { why, equation });
+            }
+            Ok(solved) => {
+                if rule == judged {
+                    let kept = keep_lines(scratch, solved.lines, table, 0);
+                    // The table has room for the lines of one rule.
+                    if let Some(last) = kept {
+                        end = last;
+                    }
+                }
             }
         }
     }

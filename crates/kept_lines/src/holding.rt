@@ -1,12 +1,13 @@
 // Whether a line holds at values, and the first that does. The values are terms of the subject, and the equation's nodes stand before the subject's.
 // "All users of the comparison take the new result" (document 02, W8): of it the verdict alone is used here.
-ghost use Rattle.std.specs.Prelude.{◌≡◌, ◌↔◌, true, List, ℕ, ◌<◌, MatchOption};
+ghost use Rattle.std.specs.Prelude.{◌≡◌, ◌↔◌, true, List, ℕ, ◌<◌};
 ghost use Rattle.format.specs.Limits.{variable_count};
 ghost use Rattle.terms.specs.Term.{Term, Values};
 ghost use Rattle.path_order.specs.Order.{◌≻◌};
 ghost use Rattle.solving.specs.Line.{Bindings, Element as LineElement, greater, Line};
 ghost use Rattle.solving.specs.Holds.{BindingsHold, ElementsHold, LineHolds};
 ghost use Rattle.solving.specs.Judge.{first_holding};
+ghost use Rattle.solving.specs.ForContracts.Told.{LineTold};
 ghost use Rattle.cells.specs.ForContracts.Cells.{SettledCells};
 ghost use Rattle.kept_lines.specs.ForContracts.Holding.{BindingTestable, HasBinding, ElementTestable, HasInequality, BindingsAre, HasBindings, ElementsAre, HasElements, LineIs, HasLine, LinesAre, HasLines};
 
@@ -150,7 +151,7 @@ pub fn first_holding(
 ) -> Option<usize>
     requires settled_cells { SettledCells compared.now.nodes.now compared.now.sizes.now compared.now.values.now ready.old cells.old }
     requires has_lines { HasLines compared.now.nodes.now compared.now.sizes.now compared.now.values.now table.now lines }
-    ensures value { (ρ : Values) (value : ℕ → Term) (ls : List Line) → LinesAre compared.now.nodes.now compared.now.sizes.now compared.now.values.now ρ value table.now lines ls → MatchOption result (first_holding ρ value ls ≡ 0) (λ line. (0 < line) × (first_holding ρ value ls ≡ line)) }
+    ensures value { (ρ : Values) (value : ℕ → Term) (ls : List Line) → LinesAre compared.now.nodes.now compared.now.sizes.now compared.now.values.now ρ value table.now lines ls → LineTold result (first_holding ρ value ls) }
     ensures settled_cells_2 { SettledCells compared.now.nodes.now compared.now.sizes.now compared.now.values.now ready.new cells.new }
 {
     let mut at = lines.from;

@@ -4,3 +4,4 @@ pub mod Bindings
 pub mod Unified
 pub mod Within
 pub mod Written
+pub mod Told

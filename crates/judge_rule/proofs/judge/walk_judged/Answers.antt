@@ -6,7 +6,7 @@ use native.Mathlib.Omega.{arith}
 use Rattle.judge_rule.proofs.JudgeLaws.{Judging, judging_start, judging_done, judging_refused, judging_records, judging_passed, judging_kept, never_full}
 use Rattle.rules.specs.Theory.Rows.{rule_there}
 use Rattle.judge_rule.proofs.judge.walk_judged.Goals as goal
-use Rattle.judge_rule.proofs.judge.walk_judged.Goals.{then-rule-judged+in-End, then-rule-judged+in_default-kept, else-rule-judged}
+use Rattle.judge_rule.proofs.judge.walk_judged.Goals.{then-rule-judged+in-Some, then-rule-judged+in_default, else-rule-judged}
 
 pub overflow_add-rules : goal.overflow_add-rules
 overflow_add-rules c = let has = c.requires.0 in omega (arith, has.counted, has.are.few)
@@ -14,24 +14,24 @@ overflow_add-rules c = let has = c.requires.0 in omega (arith, has.counted, has.
 pub loop-rule-init : goal.loop-rule-init
 loop-rule-init c = judging_start _ _ _ _ _ _
 
-pub walk_rule-walked-requires : goal.walk_rule-walked-requires
-walk_rule-walked-requires c = let k = c.loop-rule.invariant in (rule_there c.requires.0 c.loop-rule-test.true, omega (arith, k.scratch_length, c.requires.2))
+pub walk_rule-requires : goal.walk_rule-requires
+walk_rule-requires c = let k = c.loop-rule.invariant in (rule_there c.requires.0 c.loop-rule-test.true, omega (arith, k.scratch_length, c.requires.2))
 
-pub shape_of-table-in-Refused : goal.shape_of-table-in-Refused
-shape_of-table-in-Refused c = c.loop-rule.invariant.table_length
+pub shape_of-table-in-Err : goal.shape_of-table-in-Err
+shape_of-table-in-Err c = c.loop-rule.invariant.table_length
 
-pub shape_of-scratch-in-Refused : goal.shape_of-scratch-in-Refused
-shape_of-scratch-in-Refused c = c.walk_rule-walked.auto.scratch ∙ c.loop-rule.invariant.scratch_length
+pub shape_of-scratch-in-Err : goal.shape_of-scratch-in-Err
+shape_of-scratch-in-Err c = c.walk_rule.auto.scratch ∙ c.loop-rule.invariant.scratch_length
 
-pub returns-in-Refused : goal.returns-in-Refused
-returns-in-Refused c =
+pub returns-in-Err : goal.returns-in-Err
+returns-in-Err c =
     let k = c.loop-rule.invariant in
-    record { by_index = judging_refused k c.requires.0 c.loop-rule-test.true c.walk_rule-walked.ensures.by_index c.in-Refused.is; table_unchanged = k.table_behind; scratch_unchanged = c.walk_rule-walked.ensures.scratch_unchanged ∙ k.scratch_behind }
+    record { by_index = judging_refused k c.requires.0 c.loop-rule-test.true c.walk_rule.ensures.by_index c.in-Err.is; table_unchanged = k.table_behind; scratch_unchanged = c.walk_rule.ensures.scratch_unchanged ∙ k.scratch_behind }
 
 pub keep_lines-kept-requires : goal.keep_lines-kept-requires
 keep_lines-kept-requires c =
     let k = c.loop-rule.invariant in (
-      judging_records k c.requires.0 c.loop-rule-test.true c.walk_rule-walked.ensures.by_index c.in_default.is,
+      judging_records k c.requires.0 c.loop-rule-test.true c.walk_rule.ensures.by_index c.in-Ok.is,
       omega arith,
       omega (arith, k.table_length, c.requires.1),
     )
@@ -40,19 +40,19 @@ pub loop-rule-preserved : goal.loop-rule-preserved
 loop-rule-preserved c =
     let k = c.loop-rule.invariant in
     let there = c.loop-rule-test.true in
-    let solves = c.in_default.is in
-    let after = c.walk_rule-walked.new.scratch in
-    let length-kept = c.walk_rule-walked.auto.scratch in
+    let solves = c.in-Ok.is in
+    let after = c.walk_rule.new.scratch in
+    let length-kept = c.walk_rule.auto.scratch in
     let Next : List ℕ → ℕ → Type 0 = λ table end. Judging c.args.equations.now c.args.lengths.now c.args.count c.args.judged c.args.table.now c.args.scratch.now table after end (c.loop-rule.rule + 1) in
     elim c.if-rule-judged.branch [
-      | then-rule-judged+in-End w ↦
+      | then-rule-judged+in-Some w ↦
           subst (λ t. Next t c.if-rule-judged.end) (sym w.table-is) (subst (Next w.keep_lines-kept.new.table) (sym w.end-is)
-          (judging_kept k c.requires.0 there c.walk_rule-walked.ensures.by_index solves length-kept c.walk_rule-walked.ensures.scratch_unchanged c.requires.1 w.if-rule-judged.true w.keep_lines-kept.new.table w.keep_lines-kept.result w.keep_lines-kept.ensures w.in-End.is))
-      | then-rule-judged+in_default-kept w ↦
-          absurd (never_full k c.requires.0 there c.walk_rule-walked.ensures.by_index solves length-kept c.walk_rule-walked.ensures.scratch_unchanged c.requires.1 w.if-rule-judged.true w.keep_lines-kept.new.table w.keep_lines-kept.result w.keep_lines-kept.ensures w.in_default-kept.is)
+          (judging_kept k c.requires.0 there c.walk_rule.ensures.by_index solves length-kept c.walk_rule.ensures.scratch_unchanged c.requires.1 w.if-rule-judged.true w.keep_lines-kept.new.table w.keep_lines-kept.result w.keep_lines-kept.ensures w.in-Some.is))
+      | then-rule-judged+in_default w ↦
+          absurd (never_full k c.requires.0 there c.walk_rule.ensures.by_index solves length-kept c.walk_rule.ensures.scratch_unchanged c.requires.1 w.if-rule-judged.true w.keep_lines-kept.new.table w.keep_lines-kept.result w.keep_lines-kept.ensures w.in_default.is)
       | else-rule-judged w ↦
           subst (λ t. Next t c.if-rule-judged.end) (sym w.table-is) (subst (Next c.loop-rule.table) (sym w.end-is)
-          (judging_passed k c.requires.0 there c.walk_rule-walked.ensures.by_index solves length-kept c.walk_rule-walked.ensures.scratch_unchanged w.if-rule-judged.false))
+          (judging_passed k c.requires.0 there c.walk_rule.ensures.by_index solves length-kept c.walk_rule.ensures.scratch_unchanged w.if-rule-judged.false))
     ]
 
 pub shape_of-table : goal.shape_of-table
