@@ -38,11 +38,12 @@ use Rattle.outcomes.specs.Theory.Outcomes.{table_outcome}
 use Rattle.outcomes.specs.Theory.Fill.{cleared_behind, blanked_behind}
 use Rattle.rules.specs.ForContracts.Rows.{RowsAre, HasRows}
 use Rattle.scanning.specs.Theory.Arities.{symbols_room, symbols_taken, arities_taken}
-use Rattle.judge_rule.specs.declared.judge.Judged.{Judged}
-use Rattle.judge_rule.specs.declared.judge.Judged.TheVariants.{Refused, End}
 use Rattle.judge_rule.specs.ForContracts.Judgement.{JudgeIs, JudgedAs}
 use Rattle.judge_task.specs.ForContracts.JudgeTask.{JudgementIn, HasJudgement, ValuesIn, HasValues, JudgedIn, HasJudged, JudgedNumber}
 use Rattle.judge_task.specs.Theory.Holding.{holding_few}
+use Rattle.std.specs.Prelude.{Option as Maybe, Some, None, Result, Ok, Err}
+use Rattle.rules.specs.declared.walks.RefusedWalk.{RefusedWalk}
+use Rattle.solving.specs.ForContracts.Told.{LineTold}
 
 -- 1. The lent buffers are left blank.
 pub walk_behind : (scratch worked : List ℕ) → drop memory_bytes worked ≡ drop memory_bytes scratch → drop scratch_bytes worked ≡ drop scratch_bytes scratch
@@ -80,29 +81,29 @@ module _ {sheet : List ℕ} {known : Known} {from end : ℕ} {equations lengths 
   holding_low h = omega (arith, holding_few v h)
 
 -- 3. The number, by what the walks gave.
-pub none_holds : {line n : ℕ} → line ≡ 0 → n ≡ 0 → n ≡ judge_fields line
+none_holds : {line n : ℕ} → line ≡ 0 → n ≡ 0 → n ≡ judge_fields line
 unfolding judge_fields fields
 none_holds h e = e ∙ sym (ap judge_fields h)
 
-pub some_holds : (line : ℕ) {n : ℕ} → (line ≡ 0 → ⊥) → n ≡ fields 1 line 0 → n ≡ judge_fields line
+some_holds : (line : ℕ) {n : ℕ} → (line ≡ 0 → ⊥) → n ≡ fields 1 line 0 → n ≡ judge_fields line
 unfolding judge_fields
 some_holds zero h e = absurd (h refl)
 some_holds (suc i) h e = e
 
-module _ {sheet : List ℕ} {known : Known} {from end : ℕ} {equations lengths : List ℕ} {rule : ℕ} {judged : Judged} {table : List ℕ} {es : List Equation} {i : ℕ} {e : Equation} {d : Direction} {ts : Terms}
+module _ {sheet : List ℕ} {known : Known} {from end : ℕ} {equations lengths : List ℕ} {rule : ℕ} {judged : Result ℕ RefusedWalk} {table : List ℕ} {es : List Equation} {i : ℕ} {e : Equation} {d : Direction} {ts : Terms}
     (j : JudgedIn sheet known from end equations lengths rule judged table es i e d ts) where
-  judged_to : {w : Judged} → judged ≡ w → JudgedAs es rule table w
+  judged_to : {w : Result ℕ RefusedWalk} → judged ≡ w → JudgedAs es rule table w
   judged_to h = subst (JudgedAs es rule table) h j.walked
 
-  pub refused_fits : {why : Refusal} {k : ℕ} → judged ≡ Refused why k → k + 2 ≤ max_text
+  pub refused_fits : {stopped : RefusedWalk} → judged ≡ Err stopped → stopped.equation + 2 ≤ max_text
   unfolding equation_line
-  refused_fits {why} {k} h = omega (arith, refusal_low 0 es (record { refusal = why; line = equation_line k }) (judged_to h), j.few)
+  refused_fits {stopped} h = omega (arith, refusal_low 0 es (record { refusal = stopped.why; line = equation_line stopped.equation }) (judged_to h), j.few)
 
-  pub refused_told : {why : Refusal} {k n : ℕ} → judged ≡ Refused why k → n ≡ refusal_number why (k + 2) → JudgedNumber judged e d (given_values ts) n
+  pub refused_told : {stopped : RefusedWalk} {n : ℕ} → judged ≡ Err stopped → n ≡ refusal_number stopped.why (stopped.equation + 2) → JudgedNumber judged e d (given_values ts) n
   unfolding equation_line
   refused_told {n = n} h x = subst (λ w. JudgedNumber w e d (given_values ts) n) (sym h) x
 
-  module _ {filled : ℕ} (h : judged ≡ End filled) where
+  module _ {filled : ℕ} (h : judged ≡ Ok filled) where
     pub values_there : ValuesIn sheet known from end equations lengths rule table filled i e d ts
     values_there =
         let (kept, turns, solves, proper, there) = (judged_to h).1 i e d j.numbered j.rule_is.number in
@@ -121,12 +122,21 @@ module _ {sheet : List ℕ} {known : Known} {from end : ℕ} {equations lengths 
     pub values_has : HasValues sheet known from end equations lengths rule table filled
     values_has = record { number = i; equation = e; direction = d; terms = ts; are = values_there }
 
-    module _ {line : ℕ} (holds : (i : ℕ) (e : Equation) (d : Direction) (ts : Terms) → ValuesIn sheet known from end equations lengths rule table filled i e d ts → line ≡ holding_line e d (given_values ts)) where
-      pub line_low : line < field_limit
-      line_low = holding_low values_there (holds i e d ts values_there)
+    number_told : {n : ℕ} → n ≡ judge_fields (holding_line e d (given_values ts)) → JudgedNumber judged e d (given_values ts) n
+    number_told {n} x = subst (λ w. JudgedNumber w e d (given_values ts) n) (sym h) x
 
-      pub judged_told : {n : ℕ} → n ≡ judge_fields line → JudgedNumber judged e d (given_values ts) n
-      judged_told {n} x = subst (λ w. JudgedNumber w e d (given_values ts) n) (sym h) (x ∙ ap judge_fields (holds i e d ts values_there))
+    module _ {told : Maybe ℕ} (holds : (i : ℕ) (e : Equation) (d : Direction) (ts : Terms) → ValuesIn sheet known from end equations lengths rule table filled i e d ts → LineTold told (holding_line e d (given_values ts))) where
+      told_as : {r : Maybe ℕ} → told ≡ r → LineTold r (holding_line e d (given_values ts))
+      told_as x = subst (λ r. LineTold r (holding_line e d (given_values ts))) x (holds i e d ts values_there)
+
+      pub line_low : {line : ℕ} → told ≡ Some line → line < field_limit
+      line_low x = holding_low values_there (sym (told_as x).1)
+
+      pub none_told : {n : ℕ} → told ≡ None → n ≡ 0 → JudgedNumber judged e d (given_values ts) n
+      none_told x y = number_told (none_holds (told_as x) y)
+
+      pub some_told : {line n : ℕ} → told ≡ Some line → n ≡ fields 1 line 0 → JudgedNumber judged e d (given_values ts) n
+      some_told {line} x y = let (low, is) = told_as x in number_told (some_holds line (λ z. omega arith) y ∙ ap judge_fields (sym is))
 
 -- 4. What judge earns, by the task.
 module _ (sheet table scratch : List ℕ) (task : ℕ) where
@@ -162,14 +172,14 @@ module _ (sheet table scratch : List ℕ) (task : ℕ) where
 -- The task is a judgement.
 module _ (sheet : List ℕ) (known : Known) (task : ℕ) (a : Accepts sheet known) (there : task < known.tasks) (place : TaskFound) (each : (t : Task) → TaskIn sheet task t → TaskAt sheet t place)
     {k d : ℕ} (h : place.head ≡ Judgement-head k d) where
-  pub judgement_found : JudgementIn sheet known (k + k + d) place.from place.end task
+  pub judgement_found : JudgementIn sheet known (k + k + d) place.terms.from place.terms.end task
   judgement_found =
       let (t, i) = task_asked sheet known task a there in
       let (o, ts, x, y) = is_judgement t (sym (each t i).0 ∙ h) in
       let j : TaskIn sheet task (judgement k o ts) = subst (TaskIn sheet task) x i in
       record { accepts = a; number = k; direction = o; terms = ts; is_task = j; is_rule = omega (arith, y); spans = (each (judgement k o ts) j).1 }
 
-  pub judgement_has : HasJudgement sheet known (k + k + d) place.from place.end
+  pub judgement_has : HasJudgement sheet known (k + k + d) place.terms.from place.terms.end
   judgement_has = record { task = task; is = judgement_found }
 
 -- 5. A judgement that is found.
@@ -228,11 +238,11 @@ module _ {sheet : List ℕ} {known : Known} {rule from end task : ℕ} (j : Judg
         ∙ ap (λ q. judge_answer table scratch (found (values_in es q j.direction (given_values j.terms)))) parts.is_equation
         ∙ ap (judge_walked table scratch (record { equations = es; equation = parts.equation; direction = j.direction; values = given_values j.terms })) h
 
-    answer_told : (worked : List ℕ) (judged : Judged) {n : ℕ} → JudgedAs parts.content.equations rule worked judged → JudgedNumber judged parts.equation j.direction (given_values j.terms) n
+    answer_told : (worked : List ℕ) (judged : Result ℕ RefusedWalk) {n : ℕ} → JudgedAs parts.content.equations rule worked judged → JudgedNumber judged parts.equation j.direction (given_values j.terms) n
         → judge_answered sheet table scratch task ≡ table_outcome n (blanked table) (cleared scratch)
     unfolding judge_walked table_unsolved
-    answer_told worked (Refused why k) w x = answer_is (some (record { refusal = why; line = equation_line k })) w ∙ ap (λ n. table_outcome n (blanked table) (cleared scratch)) (sym x)
-    answer_told worked (End filled) w x = answer_is none w.0 ∙ ap (λ n. table_outcome n (blanked table) (cleared scratch)) (sym x)
+    answer_told worked (Err stopped) w x = answer_is (some (record { refusal = stopped.why; line = equation_line stopped.equation })) w ∙ ap (λ n. table_outcome n (blanked table) (cleared scratch)) (sym x)
+    answer_told worked (Ok filled) w x = answer_is none w.0 ∙ ap (λ n. table_outcome n (blanked table) (cleared scratch)) (sym x)
 
   module _ (equations lengths : List ℕ) (rows : (s : Sheet) → read sheet ≡ accepted s → RowsAre equations lengths (known_arities known) s.equations) where
     rows_are : RowsAre equations lengths (known_arities known) parts.content.equations
@@ -241,7 +251,7 @@ module _ {sheet : List ℕ} {known : Known} {rule from end task : ℕ} (j : Judg
     pub rows_has : HasRows equations lengths known.equations
     rows_has = record { arities = known_arities known; those = parts.content.equations; are = rows_are; counted = parts.counted }
 
-    module _ (worked : List ℕ) (judged : Judged) (walked : (arities : List ℕ) (es : List Equation) → RowsAre equations lengths arities es → known.equations ≡ length es → JudgedAs es rule worked judged) where
+    module _ (worked : List ℕ) (judged : Result ℕ RefusedWalk) (walked : (arities : List ℕ) (es : List Equation) → RowsAre equations lengths arities es → known.equations ≡ length es → JudgedAs es rule worked judged) where
       judged_in : JudgedIn sheet known from end equations lengths rule judged worked parts.content.equations j.number parts.equation j.direction j.terms
       judged_in = record {
         few = parts.few_equations;

@@ -7,21 +7,23 @@ ghost use Rattle.reading.specs.ForContracts.Seek.{Accepts};
 ghost use Rattle.outcomes.specs.Asked.{asked, judgement_task};
 ghost use Rattle.outcomes.specs.Outcome.{judge_answer};
 ghost use Rattle.reducing.specs.Test.{holding_line, given_values};
+ghost use Rattle.solving.specs.ForContracts.Told.{LineTold};
 ghost use Rattle.judge_task.specs.ForContracts.JudgeTask.{JudgementIn, HasJudgement, ValuesIn, HasValues, JudgedIn, HasJudged, JudgedNumber};
 
 use format::limits::Limits;
 use format::refusal::Refusal;
-use judge_rule::judge::{Judged, judge_lines, walk_judged};
+use judge_rule::judge::{judge_lines, walk_judged};
 use kept_lines::trimmed::KeptLines;
 use outcomes::buffer::fill;
 use outcomes::number::{fields_number, refusal_number};
 use reading::load::load_terms;
 use reading::seek::{TaskHead, find_task};
 use rules::rows::{ROWS, store_equations};
+use rules::walks::RefusedWalk;
 use scanning::known::Known;
 use scanning::text::Span;
 
-// The first line that holds at the values that the digits write, over the kept lines of the judged rule.
+// The first line that holds at the values that the digits write, over the kept lines of the judged rule, counted from 1.
 pub fn judge_values(
     sheet: &[u8],
     known: Known,
@@ -32,9 +34,9 @@ pub fn judge_values(
     table: &[u8],
     filled: usize,
     scratch: &mut [u8],
-) -> usize
+) -> Option<usize>
     requires { HasValues sheet.now known digits.from digits.end equations.now lengths.now rule table.now filled × (scratch_bytes ≤ length scratch.old) }
-    ensures by_index { (i : ℕ) (e : Equation) (d : Direction) (ts : Terms) → ValuesIn sheet.now known digits.from digits.end equations.now lengths.now rule table.now filled i e d ts → result ≡ holding_line e d (given_values ts) }
+    ensures by_index { (i : ℕ) (e : Equation) (d : Direction) (ts : Terms) → ValuesIn sheet.now known digits.from digits.end equations.now lengths.now rule table.now filled i e d ts → LineTold result (holding_line e d (given_values ts)) }
     ensures scratch_unchanged { drop scratch_bytes scratch.new ≡ drop scratch_bytes scratch.old }
 {
     let mut nodes = [0u8; Limits::NODES];
@@ -42,8 +44,7 @@ pub fn judge_values(
     let arities = known.arities;
     let n = load_terms(
         sheet,
-        digits.from,
-        digits.end,
+        digits,
         &arities[..known.symbols],
         &mut nodes,
         &mut sizes,
@@ -73,7 +74,7 @@ fn judge_walked(
     equations: &[u8],
     lengths: &[u8],
     rule: usize,
-    judged: Judged,
+    judged: Result<usize, RefusedWalk>,
     table: &[u8],
     scratch: &mut [u8],
 ) -> u64
@@ -82,18 +83,16 @@ fn judge_walked(
     ensures scratch_unchanged { drop scratch_bytes scratch.new ≡ drop scratch_bytes scratch.old }
 {
     match judged {
-        Judged::Refused(why, equation) => refusal_number(
-            why,
-            equation + Limits::FIRST_EQUATION_LINE,
+        Err(stopped) => refusal_number(
+            stopped.why,
+            stopped.equation + Limits::FIRST_EQUATION_LINE,
         ),
-        Judged::End(filled) => {
-            let line = judge_values(
+        Ok(filled) => {
+            match judge_values(
                 sheet, known, digits, equations, lengths, rule, table, filled, scratch,
-            );
-            if line == 0 {
-                0
-            } else {
-                fields_number(1, line as u16, 0)
+            ) {
+                None => 0,
+                Some(line) => fields_number(1, line as u16, 0),
             }
         }
     }
@@ -104,22 +103,17 @@ fn judge_found(
     sheet: &[u8],
     known: Known,
     rule: usize,
-    from: usize,
-    end: usize,
+    digits: Span,
     table: &mut [u8],
     scratch: &mut [u8],
 ) -> u64
-    requires { HasJudgement sheet.now known rule from end × (table_bytes ≤ length table.old) × (scratch_bytes ≤ length scratch.old) }
-    ensures { (task : ℕ) → JudgementIn sheet.now known rule from end task → judge_answer table.old scratch.old (asked true sheet.now (judgement_task task)) ≡ record { returned = result; table = table.new; scratch = scratch.new } }
+    requires { HasJudgement sheet.now known rule digits.from digits.end × (table_bytes ≤ length table.old) × (scratch_bytes ≤ length scratch.old) }
+    ensures { (task : ℕ) → JudgementIn sheet.now known rule digits.from digits.end task → judge_answer table.old scratch.old (asked true sheet.now (judgement_task task)) ≡ record { returned = result; table = table.new; scratch = scratch.new } }
 {
     let mut equations = [0u8; ROWS];
     let mut lengths = [0u8; ROWS];
     store_equations(sheet, known, &mut equations, &mut lengths);
     let judged = walk_judged(&equations, &lengths, known.equations, rule, table, scratch);
-    let digits = Span {
-        from: from,
-        end: end,
-    };
     let number = judge_walked(
         sheet, known, digits, &equations, &lengths, rule, judged, table, scratch,
     );
@@ -145,16 +139,18 @@ pub fn judge_task(
     let found = find_task(sheet, known, task as usize);
     let head = found.head;
     match head {
-        TaskHead::Judgement(e, d) => judge_found(
+        TaskHead::Judgement {
+            equation,
+            direction,
+        } => judge_found(
             sheet,
             known,
-            e + e + d,
-            found.from,
-            found.end,
+            equation + equation + direction,
+            found.terms,
             table,
             scratch,
         ),
         TaskHead::Comparison => refusal_number(Refusal::AbsentArgument, 0),
-        TaskHead::Run(_) => refusal_number(Refusal::AbsentArgument, 0),
+        TaskHead::Run { limit: _ } => refusal_number(Refusal::AbsentArgument, 0),
     }
 }

@@ -1,5 +1,5 @@
 -- The tasks of an accepted sheet that judge answers.
-use Rattle.std.specs.Prelude.{ℕ, ◌≤◌, ◌≡◌, List, length}
+use Rattle.std.specs.Prelude.{ℕ, ◌≤◌, ◌≡◌, List, length, Result, Ok, Err}
 use Rattle.std.proofs.Math.Option.{some}
 use Rattle.format.specs.Limits.{max_equations}
 use Rattle.format.specs.Lists.{entry}
@@ -18,8 +18,7 @@ use Rattle.reducing.specs.ForContracts.Rules.{rule_number}
 use Rattle.reducing.specs.Walks.{equation_line}
 use Rattle.outcomes.specs.Buffer.{refusal_number}
 use Rattle.outcomes.specs.Outcome.{judge_fields}
-use Rattle.judge_rule.specs.declared.judge.Judged.{Judged}
-use Rattle.judge_rule.specs.declared.judge.Judged.TheVariants.{Refused, End}
+use Rattle.rules.specs.declared.walks.RefusedWalk.{RefusedWalk}
 use Rattle.judge_rule.specs.ForContracts.Judgement.{JudgedAs}
 use Rattle.rules.specs.ForContracts.Rows.{RuleIs}
 use Rattle.rules.specs.ForContracts.Lines.{ProperLines, LinesAt}
@@ -45,7 +44,7 @@ module _ (sheet : List ℕ) (known : Known) (from end : ℕ) (equations lengths 
     pub are : ValuesIn number equation direction terms
 
 -- The values of a judgement, and what the walks of all rules gave.
-module _ (sheet : List ℕ) (known : Known) (from end : ℕ) (equations lengths : List ℕ) (rule : ℕ) (judged : Judged) (table : List ℕ) where
+module _ (sheet : List ℕ) (known : Known) (from end : ℕ) (equations lengths : List ℕ) (rule : ℕ) (judged : Result ℕ RefusedWalk) (table : List ℕ) where
   pub record JudgedIn (es : List Equation) (i : ℕ) (e : Equation) (d : Direction) (ts : Terms) : Type 0 where
     pub few : length es ≤ max_equations
     pub numbered : entry es i ≡ some e
@@ -64,9 +63,9 @@ module _ (sheet : List ℕ) (known : Known) (from end : ℕ) (equations lengths 
     pub are : JudgedIn those number equation direction terms
 
 -- The number that is returned: the refusal of a walk, or "1 or 0, first holding line counted from 1 or 0".
-abbrev pub JudgedNumber : Judged → Equation → Direction → Values → (r : ℕ) → Type 0
-JudgedNumber (Refused why number) e d ρ r = r ≡ refusal_number why (equation_line number)
-JudgedNumber (End filled) e d ρ r = r ≡ judge_fields (holding_line e d ρ)
+abbrev pub JudgedNumber : Result ℕ RefusedWalk → Equation → Direction → Values → (r : ℕ) → Type 0
+JudgedNumber (Err stopped) e d ρ r = r ≡ refusal_number stopped.why (equation_line stopped.equation)
+JudgedNumber (Ok filled) e d ρ r = r ≡ judge_fields (holding_line e d ρ)
 
 -- Task `task` is a judgement of this rule, and the digits from `from` to `end` write its values.
 module _ (sheet : List ℕ) (known : Known) (rule from end : ℕ) where

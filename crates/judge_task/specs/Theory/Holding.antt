@@ -1,7 +1,8 @@
 -- The number of the line that holds at the values of a judgement.
-use Rattle.std.specs.Prelude.{ℕ, ◌≤◌, ◌≡◌, refl, List}
+use Rattle.solving.specs.ForContracts.Told.{LineTold}
+use Rattle.std.specs.Prelude.{ℕ, ◌≤◌, ◌≡◌, refl, List, Option}
 use Rattle.std.proofs.Math.Path.{sym}
-use Rattle.std.proofs.Common.{ap, ◌∙◌, arith}
+use Rattle.std.proofs.Common.{subst, ap, ◌∙◌, arith}
 use Rattle.format.specs.Limits.{max_lines}
 use Rattle.terms.specs.Term.{Terms}
 use Rattle.terms.specs.Equation.{Equation, Direction, value}
@@ -22,3 +23,6 @@ module _ {sheet : List ℕ} {known : Known} {from end : ℕ} {equations lengths 
   holding_few h =
       let same = values_hold {r = first_holding (given_values ts) (value e (given_values ts)) v.kept} refl in
       omega (arith, h, same, first_holding_low (given_values ts) (value e (given_values ts)) v.kept, solved_line_count e v.rule_is.row.limits d v.kept v.turns v.solves)
+
+  pub values_told : (told : Option ℕ) → LineTold told (first_holding (given_values ts) (value e (given_values ts)) v.kept) → LineTold told (holding_line e d (given_values ts))
+  values_told told t = subst (LineTold told) (values_hold refl) t

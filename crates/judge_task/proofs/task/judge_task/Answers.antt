@@ -6,12 +6,12 @@ use Rattle.judge_task.proofs.task.judge_task.Goals as goal
 pub returns-then-known-task : goal.returns-then-known-task
 returns-then-known-task c = task_absent _ _ _ _ _ c.requires.0 c.if-known-task.true c.refusal_number.ensures
 
-pub overflow_add-e : goal.overflow_add-e
-overflow_add-e c =
+pub overflow_add-equation : goal.overflow_add-equation
+overflow_add-equation c =
     omega (arith, rule_low (judgement_found _ _ _ c.requires.0 c.if-known-task.false c.find_task-found.result c.find_task-found.ensures c.in-Judgement.is))
 
-pub overflow_add-e-in-Judgement : goal.overflow_add-e-in-Judgement
-overflow_add-e-in-Judgement c =
+pub overflow_add-equation-in-Judgement : goal.overflow_add-equation-in-Judgement
+overflow_add-equation-in-Judgement c =
     omega (arith, rule_low (judgement_found _ _ _ c.requires.0 c.if-known-task.false c.find_task-found.result c.find_task-found.ensures c.in-Judgement.is))
 
 pub judge_found-requires : goal.judge_found-requires

@@ -5,7 +5,7 @@ use Rattle.scanning.specs.ForContracts.Scan.{known_arities}
 use Rattle.cells.specs.Theory.Cells.{symbols_zero}
 use Rattle.format.specs.Theory.Behind.{cells_there, cells_behind}
 use Rattle.judge_task.proofs.JudgeTaskLaws.{values_room, values_symbols, values_taken, values_judged}
-use Rattle.judge_task.specs.Theory.Holding.{values_hold}
+use Rattle.judge_task.specs.Theory.Holding.{values_told}
 use Rattle.judge_task.proofs.task.judge_values.Goals as goal
 
 pub slice_bounds-arities-end : goal.slice_bounds-arities-end
@@ -38,7 +38,7 @@ judge_lines-requires c =
 pub returns : goal.returns
 returns c =
     record {
-      by_index = λ i e d ts v. values_hold v (c.judge_lines.ensures (known_arities c.args.known) i e d v.kept ts
+      by_index = λ i e d ts v. values_told v c.judge_lines.result (c.judge_lines.ensures (known_arities c.args.known) i e d v.kept ts
           (values_judged v c.load_terms-n.new.nodes c.load_terms-n.new.sizes c.load_terms-n.result (c.load_terms-n.ensures ts (values_taken v))));
       scratch_unchanged = cells_behind c.args.scratch.now c.judge_lines.new.cells (c.judge_lines.auto.cells ∙ cells_there c.args.scratch.now c.requires.1);
     }
