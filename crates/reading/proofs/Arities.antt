@@ -129,9 +129,9 @@ module _ (text : List ℕ) (from n : ℕ) (r : AritiesReady text from n) where
       go : (a b c : Bool) → a ≡ true → b ≡ true → c ≡ true
           → (a && b && c && all (λ a. leb a max_arity) (body text from n) && any (λ a. eqb a 0) (body text from n)) ≡ (all (λ a. leb a max_arity) (body text from n) && any (λ a. eqb a 0) (body text from n))
       go true true true x y z = refl
-      go true true false x y z = let w : ◌≡◌ {A = ℕ} 0 1 = cc in absurd (omega arith)
-      go true false c x y z = let w : ◌≡◌ {A = ℕ} 0 1 = cc in absurd (omega arith)
-      go false b c x y z = let w : ◌≡◌ {A = ℕ} 0 1 = cc in absurd (omega arith)
+      go true true false x y z = absurd cc
+      go true false c x y z = absurd cc
+      go false b c x y z = absurd cc
 
   -- An arity that is too high.
   pub too_high : (i a : ℕ) → i < n → a ≡ pair_at text (from + 2 * i) → max_arity < a → symbols_right n (bytes_between text from (from + 2 * n)) ≡ false
@@ -167,7 +167,7 @@ unfolding symbols_body
 count_wrong n arities e = go (symbols_right n arities) e
   where
     go : (t : Bool) → t ≡ false → ◌≡◌ {A = Result State} (elim t [ true ↦ give (symbols_only arities) | false ↦ refuse SymbolFrame ]) (refuse SymbolFrame)
-    go true e = let z : ◌≡◌ {A = ℕ} 0 1 = cc in absurd (omega arith)
+    go true e = absurd cc
     go false e = refl
 
 count_right : (n : ℕ) (arities : List ℕ) → symbols_right n arities ≡ true → symbols_body (n ∷ arities) ≡ give (symbols_only arities)
@@ -177,7 +177,7 @@ count_right n arities e = go (symbols_right n arities) e
     go : (t : Bool) → t ≡ true
         → ◌≡◌ {A = Result State} (elim t [ true ↦ give (symbols_only arities) | false ↦ refuse SymbolFrame ]) (give (symbols_only arities))
     go true e = refl
-    go false e = let z : ◌≡◌ {A = ℕ} 0 1 = cc in absurd (omega arith)
+    go false e = absurd cc
 
 and_five : (a b c d e : Bool) → (a && b && c) ≡ false → (a && b && c && d && e) ≡ false
 and_five a b c d e h = ap (λ x. x && d && e) h

@@ -17,7 +17,7 @@ module _ (text : List ℕ) (from end b : ℕ) (bs : List ℕ) (h : Spans text fr
   some_digits : from ≡ end → ⊥
   some_digits d =
       let x : [] ≡ b ∷ bs = sym (between_end text from end (omega arith)) ∙ h.writes in
-      let z : ◌≡◌ {A = ℕ} 0 1 = cc in omega arith
+      cc
 
   pub spans_inside : from + 2 ≤ length text
   spans_inside = omega (arith, two_more text from end h.ready some_digits, h.ready.inside)

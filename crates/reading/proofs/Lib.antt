@@ -2,7 +2,6 @@ pub mod Decode
 pub mod Lines
 pub mod Located
 pub mod Seeking
-pub mod Numbers
 pub mod OneFrame
 pub mod Arities
 pub mod Placing

@@ -141,7 +141,7 @@ module _ (text : List ℕ) (k : Known) (offset lines : ℕ) (p : Passing text k 
         where
           pick : (t : Bool) → t ≡ false
               → ◌≡◌ {A = Reading Sheet} (elim t [ true ↦ accepted s | false ↦ refused_at FrameOrder lines ]) (refused_at FrameOrder lines)
-          pick true d = let z : ◌≡◌ {A = ℕ} 0 1 = cc in absurd (omega arith)
+          pick true d = absurd cc
           pick false d = refl
 
   pub all_accepted : length text ≤ offset → (k.equations ≡ 0 → ⊥) → SheetRead text (Ok k)
@@ -154,7 +154,7 @@ module _ (text : List ℕ) (k : Known) (offset lines : ℕ) (p : Passing text k 
         where
           pick : (t : Bool) → t ≡ true → ◌≡◌ {A = Reading Sheet} (elim t [ true ↦ accepted s | false ↦ refused_at FrameOrder lines ]) (accepted s)
           pick true d = refl
-          pick false d = let z : ◌≡◌ {A = ℕ} 0 1 = cc in absurd (omega arith)
+          pick false d = absurd cc
 
 -- 4. A reader that has passed the lines.
 pub record PassedBy (text : List ℕ) (k : Known) (r : Reader) (lines : ℕ) : Type 0 where

@@ -96,27 +96,27 @@ module _ (text : List ℕ) (from end : ℕ) where
     pub run_inside : kind ≡ run_kind → (t : Task) → Spans text from end (task_frame t) → from + 4 ≤ length text
     unfolding task_frame
     run_inside d (run k u) h = omega (arith, spans_inside text (from + 2) end k (prefix u) (spans_behind text from end (kind_byte run_kind) (k ∷ prefix u) h))
-    run_inside d (judgement n o ts) h = let x = sym d ∙ kind_is (judgement n o ts) h e in let z : ◌≡◌ {A = ℕ} 0 1 = cc in absurd (omega arith)
-    run_inside d (comparison u v) h = let x = sym d ∙ kind_is (comparison u v) h e in let z : ◌≡◌ {A = ℕ} 0 1 = cc in absurd (omega arith)
+    run_inside d (judgement n o ts) h = let x = sym d ∙ kind_is (judgement n o ts) h e in absurd cc
+    run_inside d (comparison u v) h = let x = sym d ∙ kind_is (comparison u v) h e in absurd cc
 
     pub run_found : kind ≡ run_kind → {b : ℕ} → b ≡ pair_at text (from + 2) → (t : Task) → Spans text from end (task_frame t)
         → TaskAt text t (record { head = Run b; terms = record { from = from + 4; end = end } })
     unfolding task_frame task_terms
     run_found d x (run k u) h = let (y, z) = behind_two h in (ap Run (x ∙ y), z)
-    run_found d x (judgement n o ts) h = let y = sym d ∙ kind_is (judgement n o ts) h e in let z : ◌≡◌ {A = ℕ} 0 1 = cc in absurd (omega arith)
-    run_found d x (comparison u v) h = let y = sym d ∙ kind_is (comparison u v) h e in let z : ◌≡◌ {A = ℕ} 0 1 = cc in absurd (omega arith)
+    run_found d x (judgement n o ts) h = let y = sym d ∙ kind_is (judgement n o ts) h e in absurd cc
+    run_found d x (comparison u v) h = let y = sym d ∙ kind_is (comparison u v) h e in absurd cc
 
     pub judgement_inside : kind ≡ judgement_kind → (t : Task) → Spans text from end (task_frame t) → from + 6 ≤ length text
     unfolding task_frame
-    judgement_inside d (run k u) h = let x = sym d ∙ kind_is (run k u) h e in let z : ◌≡◌ {A = ℕ} 0 1 = cc in absurd (omega arith)
+    judgement_inside d (run k u) h = let x = sym d ∙ kind_is (run k u) h e in absurd cc
     judgement_inside d (judgement n o ts) h = omega (arith, spans_inside text (from + 4) end (direction_number o) (prefixes ts) (behind_two h).1)
-    judgement_inside d (comparison u v) h = let x = sym d ∙ kind_is (comparison u v) h e in let z : ◌≡◌ {A = ℕ} 0 1 = cc in absurd (omega arith)
+    judgement_inside d (comparison u v) h = let x = sym d ∙ kind_is (comparison u v) h e in absurd cc
 
     pub judgement_found : kind ≡ judgement_kind → {b c : ℕ} → b ≡ pair_at text (from + 2) → c ≡ pair_at text (from + 4) → (t : Task)
         → Spans text from end (task_frame t)
         → TaskAt text t (record { head = Judgement b c; terms = record { from = from + 6; end = end } })
     unfolding task_frame task_terms
-    judgement_found d x y (run k u) h = let w = sym d ∙ kind_is (run k u) h e in let z : ◌≡◌ {A = ℕ} 0 1 = cc in absurd (omega arith)
+    judgement_found d x y (run k u) h = let w = sym d ∙ kind_is (run k u) h e in absurd cc
     judgement_found d {b} {c} x y (judgement n o ts) h =
         let (z, w) = behind_two h in
         let f = spans_first text (from + 4) end (direction_number o) (prefixes ts) w in
@@ -124,7 +124,7 @@ module _ (text : List ℕ) (from end : ℕ) where
         let i : b ≡ n = x ∙ z in
         let j : c ≡ direction_number o = y ∙ f in
         (cc, subst (λ m. Spans text m end (prefixes ts)) g (spans_behind text (from + 4) end (direction_number o) (prefixes ts) w))
-    judgement_found d x y (comparison u v) h = let w = sym d ∙ kind_is (comparison u v) h e in let z : ◌≡◌ {A = ℕ} 0 1 = cc in absurd (omega arith)
+    judgement_found d x y (comparison u v) h = let w = sym d ∙ kind_is (comparison u v) h e in absurd cc
 
     pub comparison_found : (kind ≡ run_kind → ⊥) → (kind ≡ judgement_kind → ⊥) → (t : Task) → Spans text from end (task_frame t)
         → TaskAt text t (record { head = Comparison; terms = record { from = from + 2; end = end } })

@@ -35,7 +35,7 @@ seeking_start text n a = let z : n - 0 ≡ n = omega arith in record { not_passe
 
 no_lines : (n : ℕ) {line : TextLine} → entry (lines_of []) n ≡ some line → ⊥
 unfolding lines_of entry
-no_lines n e = let z : ◌≡◌ {A = ℕ} 0 1 = cc in absurd (omega arith)
+no_lines n e = absurd cc
 
 module _ (text : List ℕ) (n offset lines : ℕ) (g : Seeking text n offset lines) where
   -- The text has not ended, and its next line is a frame.
@@ -46,7 +46,7 @@ module _ (text : List ℕ) (n offset lines : ℕ) (g : Seeking text n offset lin
   seeking_broken l =
       let ((frame, e), more) = subst (Every IsFrame) l.is_first g.frames in
       let x : none ≡ some frame = sym l.no_frame ∙ e in
-      let z : ◌≡◌ {A = ℕ} 0 1 = cc in absurd (omega arith)
+      absurd cc
 
   module _ (l : FrameLine) (i : IsLine text offset lines l) where
     pub seeking_found : n < l.number → (frame : List ℕ) → FrameIn text n frame → Spans text l.digits.from l.digits.end frame
@@ -118,13 +118,13 @@ module _ (text : List ℕ) (n : ℕ) (frame : List ℕ) (f : FrameIn text n fram
 -- 2. The frames of a sheet by their number.
 entry_map : {A B : Type 0} (f : A → B) (xs : List A) (i : ℕ) {x : A} → entry xs i ≡ some x → entry (map f xs) i ≡ some (f x)
 unfolding entry
-entry_map f [] i e = let z : ◌≡◌ {A = ℕ} 0 1 = cc in absurd (omega arith)
+entry_map f [] i e = absurd cc
 entry_map f (y ∷ xs) zero {x} e = let d : y ≡ x = cc in ap (λ a. some (f a)) d
 entry_map f (y ∷ xs) (suc i) e = entry_map f xs i e
 
 entry_front : {A : Type 0} (xs ys : List A) (i : ℕ) {x : A} → entry xs i ≡ some x → entry (xs ++ ys) i ≡ some x
 unfolding entry
-entry_front [] ys i e = let z : ◌≡◌ {A = ℕ} 0 1 = cc in absurd (omega arith)
+entry_front [] ys i e = absurd cc
 entry_front (y ∷ xs) ys zero e = e
 entry_front (y ∷ xs) ys (suc i) e = entry_front xs ys i e
 
@@ -137,8 +137,8 @@ entry_behind (x ∷ xs) ys (suc n) i e = let z : suc n + i ≡ suc (n + i) = ome
 framed_line : (rs : List TextLine) (fs : List (List ℕ)) → Framed rs fs → (n : ℕ) {frame : List ℕ} → entry fs n ≡ some frame
     → (line : TextLine) × (entry rs n ≡ some line) × (frame_of line ≡ some frame)
 unfolding entry
-framed_line rs [] e n h = let z : ◌≡◌ {A = ℕ} 0 1 = cc in absurd (omega arith)
-framed_line [] (f ∷ fs) e n h = let z : ◌≡◌ {A = ℕ} 0 1 = cc in absurd (omega arith)
+framed_line rs [] e n h = absurd cc
+framed_line [] (f ∷ fs) e n h = absurd cc
 framed_line (r ∷ rs) (f ∷ fs) e zero {frame} h =
     let x : frame_of r ≡ some f = cc in
     let y : f ≡ frame = cc in
@@ -147,7 +147,7 @@ framed_line (r ∷ rs) (f ∷ fs) e (suc n) h = let x : map frame_of rs ≡ map 
 
 framed_every : (rs : List TextLine) (fs : List (List ℕ)) → Framed rs fs → Every IsFrame rs
 framed_every [] fs e = tt
-framed_every (r ∷ rs) [] e = let z : ◌≡◌ {A = ℕ} 0 1 = cc in absurd (omega arith)
+framed_every (r ∷ rs) [] e = absurd cc
 framed_every (r ∷ rs) (f ∷ fs) e =
     let x : frame_of r ≡ some f = cc in
     let y : map frame_of rs ≡ map some fs = cc in

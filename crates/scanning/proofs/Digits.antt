@@ -1,5 +1,5 @@
 -- Lemmas for the code that reads digits and finds the end of a line.
-use Rattle.std.proofs.Common.{◌≡◌, ℕ, zero, suc, ◌+◌, ◌-◌, ◌*◌, ◌<◌, ◌≤◌, Bool, true, false, ◌&&◌, ltb, leb, List, [], ◌∷◌, ◌++◌, length, get_or, take, drop, sym, refl, ap, ◌∙◌, subst, inl, inr, append_assoc, append-nil, add-one, arith, length-append, length-drop, take-append-drop, length-take-le, get_or-drop, drop-cons, take-suc, drop-drop, take-add, ltb-true, le-ltb, lt-ltb, le-leb}
+use Rattle.std.proofs.Common.{◌≡◌, ℕ, zero, suc, ◌+◌, ◌-◌, ◌*◌, ◌%◌, ◌<◌, ◌≤◌, Bool, true, false, ◌&&◌, ◌||◌, ltb, leb, List, [], ◌∷◌, ◌++◌, length, get_or, take, drop, sym, refl, ap, ◌∙◌, subst, inl, inr, append_assoc, append-nil, add-one, arith, length-append, length-drop, take-append-drop, length-take-le, get_or-drop, drop-cons, take-suc, drop-drop, take-add, ltb-false, ltb-true, le-ltb, lt-ltb, le-leb}
 use mathlib.Core.Option
 use mathlib.Core.Option.{Option, none, some}
 use lib.Seq.{drop-length}
@@ -21,8 +21,8 @@ digit_decimal c h i = go (leb 0x30 c) (leb c 0x39) (le-leb 0x30 c h) (le-leb c 0
     go : (a b : Bool) → a ≡ true → b ≡ true
         → ◌≡◌ {A = Option ℕ} (elim (a && b) [ true ↦ some (c - 0x30) | false ↦ elim (leb 0x61 c && leb c 0x66) [ true ↦ some (10 + (c - 0x61)) | false ↦ none ] ]) (some (c - 0x30))
     go true true d e = refl
-    go true false d e = let z : ◌≡◌ {A = ℕ} 0 1 = cc in absurd (omega arith)
-    go false b d e = let z : ◌≡◌ {A = ℕ} 0 1 = cc in absurd (omega arith)
+    go true false d e = absurd cc
+    go false b d e = absurd cc
 
 not_decimal : (c : ℕ) → 0x39 < c → (leb 0x30 c && leb c 0x39) ≡ false
 not_decimal c h = ap (leb 0x30 c &&◌) (lt-leb c 0x39 h) ∙ none_of (leb 0x30 c)
@@ -37,9 +37,9 @@ digit_letter c h i = go (leb 0x30 c && leb c 0x39) (leb 0x61 c) (leb c 0x66) (no
   where
     go : (a b d : Bool) → a ≡ false → b ≡ true → d ≡ true
         → ◌≡◌ {A = Option ℕ} (elim a [ true ↦ some (c - 0x30) | false ↦ elim (b && d) [ true ↦ some (10 + (c - 0x61)) | false ↦ none ] ]) (some (10 + (c - 0x61)))
-    go true b d x y z = let w : ◌≡◌ {A = ℕ} 0 1 = cc in absurd (omega arith)
-    go false false d x y z = let w : ◌≡◌ {A = ℕ} 0 1 = cc in absurd (omega arith)
-    go false true false x y z = let w : ◌≡◌ {A = ℕ} 0 1 = cc in absurd (omega arith)
+    go true b d x y z = absurd cc
+    go false false d x y z = absurd cc
+    go false true false x y z = absurd cc
     go false true true x y z = refl
 
 digit_other : (c : ℕ) → (leb 0x30 c && leb c 0x39) ≡ false → (leb 0x61 c && leb c 0x66) ≡ false → digit c ≡ none
@@ -48,8 +48,8 @@ digit_other c h i = go (leb 0x30 c && leb c 0x39) (leb 0x61 c && leb c 0x66) h i
   where
     go : (a b : Bool) → a ≡ false → b ≡ false
         → ◌≡◌ {A = Option ℕ} (elim a [ true ↦ some (c - 0x30) | false ↦ elim b [ true ↦ some (10 + (c - 0x61)) | false ↦ none ] ]) none
-    go true b x y = let w : ◌≡◌ {A = ℕ} 0 1 = cc in absurd (omega arith)
-    go false true x y = let w : ◌≡◌ {A = ℕ} 0 1 = cc in absurd (omega arith)
+    go true b x y = absurd cc
+    go false true x y = absurd cc
     go false false x y = refl
 
 not_letter : (c : ℕ) → c < 0x61 → (leb 0x61 c && leb c 0x66) ≡ false
@@ -110,6 +110,22 @@ letter_told c h i = sym (lt-ltb (digit_number c) base (omega (arith, number_some
 pub other_told : (c : ℕ) → digit c ≡ none → false ≡ ltb (digit_number c) base
 other_told c e = sym (le-ltb (digit_number c) base (omega (arith, number_none c e)))
 
+pub digit_told : (c : ℕ) → c < 256 → (ltb ((c + 208) % 256) 10 || ltb ((c + 159) % 256) 6) ≡ ltb (digit_number c) base
+digit_told c few = go (ltb ((c + 208) % 256) 10) (ltb ((c + 159) % 256) 6) refl refl
+  where
+    no_digit : 10 ≤ (c + 208) % 256 → 6 ≤ (c + 159) % 256 → digit c ≡ none
+    no_digit h i = place (ltb c 0x30) (ltb c 0x61) refl refl
+      where
+        place : (x y : Bool) → ltb c 0x30 ≡ x → ltb c 0x61 ≡ y → digit c ≡ none
+        place true y p q = digit_low c (ltb-true c 0x30 p)
+        place false true p q = digit_between c (omega (arith, ltb-false c 0x30 p)) (ltb-true c 0x61 q)
+        place false false p q = digit_high c (omega (arith, ltb-false c 0x61 q))
+
+    go : (x y : Bool) → ltb ((c + 208) % 256) 10 ≡ x → ltb ((c + 159) % 256) 6 ≡ y → (x || y) ≡ ltb (digit_number c) base
+    go true y p q = let i = ltb-true ((c + 208) % 256) 10 p in decimal_told c (omega (arith, i)) (omega (arith, i))
+    go false true p q = let i = ltb-true ((c + 159) % 256) 6 q in letter_told c (omega (arith, i)) (omega (arith, i))
+    go false false p q = other_told c (no_digit (ltb-false ((c + 208) % 256) 10 p) (ltb-false ((c + 159) % 256) 6 q))
+
 -- 2. Lines, by their digits.
 digit_no_LF : (c : ℕ) → digit_number c < base → c ≡ LF → ⊥
 digit_no_LF c h e = omega (arith, number_none LF (digit_low LF (omega arith)), ap digit_number e)
@@ -152,8 +168,8 @@ frame_even n cs e l h = go (leb 2 (length cs)) (leb (length cs) max_line_digits)
   where
     go : (s t : Bool) → s ≡ true → t ≡ true → ◌≡◌ {A = Option (List ℕ)} (elim (s && t) [ true ↦ bytes_of cs | false ↦ none ]) (some (decoded cs))
     go true true d e' = digits_decoded (suc n) cs e h
-    go true false d e' = let z : ◌≡◌ {A = ℕ} 0 1 = cc in absurd (omega arith)
-    go false t d e' = let z : ◌≡◌ {A = ℕ} 0 1 = cc in absurd (omega arith)
+    go true false d e' = absurd cc
+    go false t d e' = absurd cc
 
 -- 3. The line from `at` whose first characters, up to `i`, are digits.
 module _ (s : List ℕ) (at i : ℕ) (below : at ≤ i) (inside : i ≤ length s) (few : i - at ≤ max_line_digits) where
@@ -253,14 +269,6 @@ digits_to_next s at i p h d n =
   where
     at_most : (m k : ℕ) → m ≤ max_line_digits → (m ≡ max_line_digits → ⊥) → k ≡ suc m → k ≤ max_line_digits
     at_most m k l n e = omega arith
-
--- One character more of a block is tested.
-pub tested_next : (cs : List ℕ) (i : ℕ) (all one both : Bool) → (all ≡ true → Digits (take i cs)) → i < length cs
-    → one ≡ ltb (digit_number (get_or cs i 0)) base → both ≡ (all && one) → both ≡ true → Digits (take (i + 1) cs)
-tested_next cs i true true both f l d e h =
-    rw (add-one i, take-suc cs i 0) (every_append (λ c. digit_number c < base) (take i cs) (get_or cs i 0 ∷ []) (f refl) (ltb-true _ base (sym d), tt))
-tested_next cs i true false both f l d e h = cc
-tested_next cs i false one both f l d e h = cc
 
 pub digits_to_block : (s : List ℕ) (at i : ℕ) → DigitsTo s at i → i + block ≤ length s → i + block - at ≤ max_line_digits → Digits (take block (drop i s))
     → DigitsTo s at (i + block)

@@ -26,14 +26,14 @@ after_known n xs is_ground f need h = go (ltb f (length (listed n xs))) (lt-ltb 
     go : (t : Bool) → t ≡ true
         → ◌≡◌ {A = Result ℕ} (elim t [ true ↦ give (get_or (listed n xs) f 0 + need) | false ↦ refuse FrameBytes ]) (give (get_or xs f 0 + need))
     go true e = ap (λ a. give (a + need)) (get_or_listed n xs f h)
-    go false e = let z : ◌≡◌ {A = ℕ} 0 1 = cc in absurd (omega arith)
+    go false e = absurd cc
 
 after_unknown : (arities : List ℕ) (is_ground : Bool) (f need : ℕ) → length arities ≤ f → after_node arities is_ground (symbol f) need ≡ refuse FrameBytes
 unfolding after_node arity
 after_unknown arities is_ground f need h = go (ltb f (length arities)) (le-ltb f (length arities) h)
   where
     go : (t : Bool) → t ≡ false → ◌≡◌ {A = Result ℕ} (elim t [ true ↦ give (get_or arities f 0 + need) | false ↦ refuse FrameBytes ]) (refuse FrameBytes)
-    go true e = let z : ◌≡◌ {A = ℕ} 0 1 = cc in absurd (omega arith)
+    go true e = absurd cc
     go false e = refl
 
 -- A byte by its class, as the code tells it.

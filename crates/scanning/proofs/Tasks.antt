@@ -49,7 +49,7 @@ some_direction (suc (suc d)) h = absurd (omega arith)
 
 width_entry : (es : List Equation) (i : ℕ) (q : Equation) → entry es i ≡ some q → get_or (map equation_width es) i 0 ≡ equation_width q
 unfolding entry
-width_entry [] i q e = let z : ◌≡◌ {A = ℕ} 0 1 = cc in absurd (omega arith)
+width_entry [] i q e = absurd cc
 width_entry (x ∷ es) zero q e = let d : x ≡ q = cc in ap equation_width d
 width_entry (x ∷ es) (suc i) q e = width_entry es i q e
 

@@ -6,7 +6,7 @@ ghost use Rattle.scanning.specs.ForContracts.Known.{none_known};
 use format::limits::Limits;
 
 // The symbols' arities and their count; for each equation how many variables there are up to its highest; how many equations and tasks.
-// No symbols: no line is passed yet.
+// No symbols: no line is passed yet. The arrays are as long as may be, with counts beside them, since there is no heap.
 #[derive(Clone, Copy)]
 pub struct Known {
     pub symbols: usize,

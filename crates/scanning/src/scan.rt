@@ -39,12 +39,19 @@ pub fn scan(known: Known, s: &[u8], span: Span, wanted: Wanted) -> Result<Scanne
     requires { ScanReady s.now span known.symbols wanted }
     ensures { ScanRead s.now span (known_arities known) wanted result }
 {
+    // Of what is known the arities alone are copied.
+    let symbols = known.symbols;
+    let arities = known.arities;
     let mut at = span.from;
     let mut need = wanted.terms;
     let mut room = wanted.nodes;
     let mut width = wanted.width;
     while 0 < need {
-        if at == span.end || room == 0 {
+        // Two tests: joined by `||` they take both results into registers, and a long sheet 1.05 times as long.
+        if at == span.end {
+            return Err(Refusal::FrameBytes);
+        }
+        if room == 0 {
             return Err(Refusal::FrameBytes);
         }
         let b = byte_at(s, at);
@@ -52,8 +59,8 @@ pub fn scan(known: Known, s: &[u8], span: Span, wanted: Wanted) -> Result<Scanne
         room -= 1;
         at += 2;
         // Most nodes are declared symbols, which are told faster than classes.
-        if b < known.symbols {
-            need += usize::from(known.arities[b]);
+        if b < symbols {
+            need += usize::from(arities[b]);
         } else {
             width = width.max(other_node(b as u8, wanted.is_ground)?);
         }

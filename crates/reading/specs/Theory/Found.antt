@@ -36,18 +36,18 @@ module _ (text : List ℕ) (known : Known) (k : ℕ) (a : Accepts text known) wh
 -- 3. What a task is, by its head.
 pub is_run : (t : Task) {k : ℕ} → task_head t ≡ Run k → (u : Term) × (t ≡ run k u)
 is_run (run n u) {k} e = let d : n ≡ k = cc in (u, ap (λ m. run m u) d)
-is_run (judgement n d ts) e = let z : ◌≡◌ {A = ℕ} 0 1 = cc in absurd (omega arith)
-is_run (comparison u v) e = let z : ◌≡◌ {A = ℕ} 0 1 = cc in absurd (omega arith)
+is_run (judgement n d ts) e = absurd cc
+is_run (comparison u v) e = absurd cc
 
 pub is_judgement : (t : Task) {e d : ℕ} → task_head t ≡ Judgement e d → (o : Direction) × (ts : Terms) × (t ≡ judgement e o ts) × (direction_number o ≡ d)
-is_judgement (run k u) h = let z : ◌≡◌ {A = ℕ} 0 1 = cc in absurd (omega arith)
+is_judgement (run k u) h = absurd cc
 is_judgement (judgement n o ts) {e} {d} h =
     let x : n ≡ e = cc in
     let y : direction_number o ≡ d = cc in
     (o, ts, ap (λ m. judgement m o ts) x, y)
-is_judgement (comparison u v) h = let z : ◌≡◌ {A = ℕ} 0 1 = cc in absurd (omega arith)
+is_judgement (comparison u v) h = absurd cc
 
 pub is_comparison : (t : Task) → task_head t ≡ Comparison → (u v : Term) × (t ≡ comparison u v)
-is_comparison (run k u) e = let z : ◌≡◌ {A = ℕ} 0 1 = cc in absurd (omega arith)
-is_comparison (judgement n d ts) e = let z : ◌≡◌ {A = ℕ} 0 1 = cc in absurd (omega arith)
+is_comparison (run k u) e = absurd cc
+is_comparison (judgement n d ts) e = absurd cc
 is_comparison (comparison u v) e = (u, v, refl)

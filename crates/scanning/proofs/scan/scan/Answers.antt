@@ -3,16 +3,15 @@ use Rattle.std.proofs.Common.{arith}
 use Rattle.std.proofs.lemmas.Result.{err_from_is_err_and}
 use Rattle.scanning.proofs.Scanning.{scanning_start, stop_done, stop_early, stop_full, stop_other, next_small, next_inside, scanning_variable, scanning_declared}
 use Rattle.scanning.proofs.scan.scan.Goals as goal
-use Rattle.scanning.proofs.scan.scan.Goals.{then-at-span-via-then-at-span, then-at-span-via-else-at-span+then-room-eq0}
 
 pub loop-need-init : goal.loop-need-init
 loop-need-init c = scanning_start _ _ _ _ c.requires
 
 pub returns-then-at-span : goal.returns-then-at-span
-returns-then-at-span c = elim c.then-at-span.branch [
-  | then-at-span-via-then-at-span w ↦ stop_early _ _ _ _ c.loop-need.at c.loop-need.need c.loop-need.room c.loop-need.width c.loop-need.invariant w.if-at-span.true c.loop-need-test.true
-  | then-at-span-via-else-at-span+then-room-eq0 w ↦ stop_full _ _ _ _ c.loop-need.at c.loop-need.need c.loop-need.room c.loop-need.width c.loop-need.invariant w.if-at-span.false c.loop-need-test.true w.if-room-eq0.true
-]
+returns-then-at-span c = stop_early _ _ _ _ c.loop-need.at c.loop-need.need c.loop-need.room c.loop-need.width c.loop-need.invariant c.if-at-span.true c.loop-need-test.true
+
+pub returns-then-room-eq0 : goal.returns-then-room-eq0
+returns-then-room-eq0 c = stop_full _ _ _ _ c.loop-need.at c.loop-need.need c.loop-need.room c.loop-need.width c.loop-need.invariant c.if-at-span.false c.loop-need-test.true c.if-room-eq0.true
 
 pub byte_at-b-requires : goal.byte_at-b-requires
 byte_at-b-requires c = omega (arith, next_inside _ _ _ _ c.loop-need.at c.loop-need.need c.loop-need.room c.loop-need.width c.loop-need.invariant c.if-at-span.false)
@@ -20,10 +19,10 @@ byte_at-b-requires c = omega (arith, next_inside _ _ _ _ c.loop-need.at c.loop-n
 pub overflow_add-at : goal.overflow_add-at
 overflow_add-at c = omega (arith, next_inside _ _ _ _ c.loop-need.at c.loop-need.need c.loop-need.room c.loop-need.width c.loop-need.invariant c.if-at-span.false)
 
-pub loop-need-preserved-then-b-known : goal.loop-need-preserved-then-b-known
-loop-need-preserved-then-b-known c =
+pub loop-need-preserved-then-b-symbols : goal.loop-need-preserved-then-b-symbols
+loop-need-preserved-then-b-symbols c =
     scanning_declared _ _ _ _ _ c.loop-need.at c.loop-need.need c.loop-need.room c.loop-need.width c.loop-need.invariant c.if-at-span.false c.loop-need-test.true c.if-room-eq0.false
-    c.requires.few_symbols c.byte_at-b.ensures c.if-b-known.true c.from.ensures (omega arith)
+    c.requires.few_symbols c.byte_at-b.ensures c.if-b-symbols.true c.from.ensures (omega arith)
 
 pub overflow_cast-b : goal.overflow_cast-b
 overflow_cast-b c = omega (arith, c.byte_at-b.ensures, next_small _ _ _ _ c.loop-need.at c.loop-need.need c.loop-need.room c.loop-need.width c.loop-need.invariant c.if-at-span.false)
@@ -33,12 +32,12 @@ returns-in_err-other_node c =
     let p = err_from_is_err_and c.from_residual.result c.from_residual.ensures.1 in
     rw (p.1, p.2)
     (stop_other _ _ _ _ _ c.loop-need.at c.loop-need.need c.loop-need.room c.loop-need.width c.loop-need.invariant c.if-at-span.false c.loop-need-test.true c.if-room-eq0.false
-    c.byte_at-b.ensures c.if-b-known.false c.in_err-other_node.ensures)
+    c.byte_at-b.ensures c.if-b-symbols.false c.in_err-other_node.ensures)
 
 pub loop-need-preserved : goal.loop-need-preserved
 loop-need-preserved c =
     scanning_variable _ _ _ _ _ c.loop-need.at c.loop-need.need c.loop-need.room c.loop-need.width c.loop-need.invariant c.if-at-span.false c.loop-need-test.true c.if-room-eq0.false
-    c.byte_at-b.ensures c.if-b-known.false c.in_ok-other_node.ensures c.max-width.ensures
+    c.byte_at-b.ensures c.if-b-symbols.false c.in_ok-other_node.ensures c.max-width.ensures
 
 pub returns : goal.returns
 returns c = stop_done _ _ _ _ c.loop-need.at c.loop-need.need c.loop-need.room c.loop-need.width c.loop-need.invariant c.loop-need-test.false
