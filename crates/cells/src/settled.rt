@@ -7,7 +7,7 @@ ghost use Rattle.ordering.specs.Verdict.{verdict_number};
 ghost use Rattle.cells.specs.ForContracts.Cells.{Cleared, MadeReady, CellHolds};
 
 use format::limits::Limits;
-use ordering::verdict::{Verdict, number_of_verdict};
+use ordering::verdict::Verdict;
 
 // Clears the bytes from `from` to `end`.
 pub fn clear(bytes: &mut [u8], from: usize, end: usize)
@@ -51,6 +51,6 @@ pub fn settle(cells: &mut [u8], cell: usize, verdict: Verdict) -> Verdict
     ensures value { result ≡ verdict }
     ensures cells_after { cells.new ≡ set cells.old cell (verdict_number verdict + 1) }
 {
-    cells[cell] = number_of_verdict(verdict) + 1;
+    cells[cell] = u8::from(verdict) + 1;
     verdict
 }

@@ -3,8 +3,8 @@ ghost use Rattle.std.specs.Prelude.{◌≡◌, ◌<◌, length, set};
 ghost use Rattle.clauses.specs.ForContracts.Kept.{cell_of, ClauseNumbered, DecisionHeld};
 
 use cells::settled::{CLAUSE_UNIT, held};
-use ordering::decision::{Clause, Decision, clause_number_of, verdict_of};
-use ordering::verdict::{Verdict, number_of_verdict};
+use ordering::decision::{Clause, Decision};
+use ordering::verdict::Verdict;
 
 fn clause_of_number(number: u8) -> Clause
     ensures { ClauseNumbered number result }
@@ -34,7 +34,7 @@ pub fn keep(cells: &mut [u8], cell: usize, decision: Decision) -> Decision
     ensures value { result ≡ decision }
     ensures cells_after { cells.new ≡ set cells.old cell (cell_of decision) }
 {
-    let verdict = number_of_verdict(verdict_of(decision));
-    cells[cell] = verdict + 1 + CLAUSE_UNIT * clause_number_of(decision);
+    let verdict = u8::from(decision.verdict());
+    cells[cell] = verdict + 1 + CLAUSE_UNIT * decision.clause_number();
     decision
 }

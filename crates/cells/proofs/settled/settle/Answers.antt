@@ -4,4 +4,4 @@ use Rattle.ordering.specs.Theory.Verdict.{number_few}
 use Rattle.cells.proofs.settled.settle.Goals as goal
 
 pub overflow_add-cells : goal.overflow_add-cells
-overflow_add-cells c = omega (arith, c.number_of_verdict.ensures, number_few c.args.verdict)
+overflow_add-cells c = omega (arith, c.from.ensures, number_few c.args.verdict)

@@ -12,17 +12,17 @@ use Rattle.clauses.proofs.Keeping.{clause_few}
 use Rattle.clauses.proofs.kept.keep.Goals as goal
 
 pub overflow_add-cells : goal.overflow_add-cells
-overflow_add-cells c = omega (arith, c.number_of_verdict-verdict.ensures, number_few c.verdict_of.result)
+overflow_add-cells c = omega (arith, c.from-verdict.ensures, number_few c.verdict.result)
 
 pub overflow_mul-cells : goal.overflow_mul-cells
-overflow_mul-cells c = omega (arith, c.clause_number_of.ensures, clause_few c.args.decision)
+overflow_mul-cells c = omega (arith, c.clause_number.ensures, clause_few c.args.decision)
 
 pub overflow_add-cells-2 : goal.overflow_add-cells-2
 overflow_add-cells-2 c =
-    omega (arith, c.clause_number_of.ensures, clause_few c.args.decision, c.number_of_verdict-verdict.ensures, number_few c.verdict_of.result)
+    omega (arith, c.clause_number.ensures, clause_few c.args.decision, c.from-verdict.ensures, number_few c.verdict.result)
 
 pub returns-clause-cells_after : goal.returns-clause-cells_after
 unfolding cell_of
 returns-clause-cells_after c =
-    let told = ap (λ n. n + 1 + clause_unit * c.clause_number_of.result) (c.number_of_verdict-verdict.ensures ∙ ap verdict_number c.verdict_of.ensures) ∙ ap (λ n. verdict_number (verdict_of c.args.decision) + 1 + clause_unit * n) c.clause_number_of.ensures in
+    let told = ap (λ n. n + 1 + clause_unit * c.clause_number.result) (c.from-verdict.ensures ∙ ap verdict_number c.verdict.ensures) ∙ ap (λ n. verdict_number (verdict_of c.args.decision) + 1 + clause_unit * n) c.clause_number.ensures in
     ap (set c.args.cells.now c.args.cell) told
