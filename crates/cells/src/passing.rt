@@ -17,7 +17,7 @@ fn all_smaller(nodes: &[u8], from: usize, end: usize, symbol: u8) -> bool
     all
 }
 
-// A node before which all symbols are smaller, found block by block.
+// A node before which all symbols are smaller, found block by block. The loop counts by `while`: the node where it stops, for the one reason or the other, is the answer.
 fn behind_blocks(nodes: &[u8], from: usize, end: usize, symbol: u8) -> usize
     requires { (from ≤ end) × (end ≤ length nodes.now) }
     ensures { BehindSmaller nodes.now symbol from end result }

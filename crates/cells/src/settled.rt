@@ -33,7 +33,7 @@ pub fn make_ready(ready: &mut [u8; Limits::NODES], cells: &mut [u8], s: usize)
 // What the number of a clause is multiplied by in a cell.
 pub const CLAUSE_UNIT: u8 = 4;
 
-// The verdict that a settled cell holds.
+// The verdict that a settled cell holds. Cells are lent bytes, so that it stands there as a number.
 pub fn held(cell: u8) -> Verdict
     ensures { CellHolds cell result }
 {

@@ -6,6 +6,7 @@ use cells::settled::{CLAUSE_UNIT, held};
 use ordering::decision::{Clause, Decision};
 use ordering::verdict::Verdict;
 
+// The clause with a number, as cells, which are lent bytes, hold it.
 fn clause_of_number(number: u8) -> Clause
     ensures { ClauseNumbered number result }
 {

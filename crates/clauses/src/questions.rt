@@ -29,7 +29,7 @@ pub fn some_reaches(
     compared.argument_reaches(ready, cells, row, j)
 }
 
-// L2: whether the term at i exceeds every term in the row.
+// L2: whether the term at i exceeds every term in the row. No one function with `some_reaches`: of both only the test by bytes is the same.
 pub fn exceeds_all(
     compared: &Compared,
     ready: &mut [u8; Limits::NODES],

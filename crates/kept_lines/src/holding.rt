@@ -109,15 +109,13 @@ fn elements_hold(
     ensures variant { (ρ : Values) (value : ℕ → Term) (es : List LineElement) → ElementsAre compared.now.nodes.now compared.now.sizes.now compared.now.values.now ρ value table.now from end es → (result ≡ true) ↔ ElementsHold ρ value es }
     ensures settled_cells_2 { SettledCells compared.now.nodes.now compared.now.sizes.now compared.now.values.now ready.new cells.new }
 {
-    let mut i = from;
-    while i < end {
+    for i in (from..end).step_by(2) {
         let Element::Greater(p, q) = element_at(table, i) else {
             return false;
         };
         if !inequality_holds(compared, ready, cells, usize::from(p), usize::from(q)) {
             return false;
         }
-        i += 2;
     }
     true
 }

@@ -34,3 +34,10 @@ loop-i-preserved c =
 
 pub returns : goal.returns
 returns c = record { variant = pairs_done c.loop-i.invariant c.loop-i-test.false; settled_cells_2 = c.loop-i.invariant.settled }
+
+pub returns-else-not-inequality_holds-clause-variant : goal.returns-else-not-inequality_holds-clause-variant
+returns-else-not-inequality_holds-clause-variant c =
+    let inv = c.loop-i.invariant in
+    let h = c.loop-i-test.true in
+    let read = pair_read inv h c.element_at.result c.element_at.ensures c.requires.has_elements c.in-Greater.is c.from.ensures c.from-in-loop-i.ensures in
+    pairs_done (pair_holds inv h read c.inequality_holds.ensures.variant c.if-not-inequality_holds.false c.inequality_holds.ensures.settled_cells_2) (omega arith)
