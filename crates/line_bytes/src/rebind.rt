@@ -13,7 +13,12 @@ pub fn differ(memory: &[u8], place: usize, bindings: &[u8]) -> bool
     requires { (place + variable_count ≤ length memory.now) × (length bindings.now ≡ variable_count) }
     ensures { Differ (slice place (place + variable_count) memory.now) bindings.now result }
 {
-    &memory[place..place + Limits::VARIABLES] != bindings
+    for i in 0..Limits::VARIABLES {
+        if memory[place + i] != bindings[i] {
+            return true;
+        }
+    }
+    false
 }
 
 // Puts the bindings into the line at `place`. No element is then known to be fully reduced.
