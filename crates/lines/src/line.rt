@@ -40,6 +40,7 @@ impl Line {
         ensures { HasHead memory.now place result }
     {
         let mut bindings = [Limits::NO_POSITION; Limits::VARIABLES];
+        // Not `copy_from_slice`, for the reason that `differ` gives.
         for i in 0..Limits::VARIABLES {
             bindings[i] = memory[place + i];
         }

@@ -1,5 +1,4 @@
 -- `differ` compares a line's bindings with others. The loop's invariant, `Comparing`: those passed are the same.
-use Rattle.format.specs.Limits.{variable_count}
 use Rattle.line_bytes.proofs.Rebinding.{Comparing}
 use Rattle.line_bytes.proofs.rebind.differ.Given as goal
 
