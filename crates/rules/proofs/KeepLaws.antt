@@ -9,7 +9,9 @@ use lib.Seq.{take-append-le}
 use lib.Dec.{ltb}
 use Rattle.format.specs.Limits.{record_bytes, table_bytes}
 use Rattle.terms.specs.Term.{Values}
-use Rattle.terms.specs.Equation.{Equation, Direction, left_right, right_left, direction_number, direction_of, value}
+use Rattle.terms.specs.Equation.{Equation, direction_number, direction_of, value}
+use Rattle.terms.specs.declared.direction.Direction.{Direction}
+use Rattle.terms.specs.declared.direction.Direction.TheVariants.{LeftRight as left_right, RightLeft as right_left}
 use Rattle.terms.specs.ForContracts.Limits.{WithinLimits}
 use Rattle.solving.specs.Line.{Line}
 use Rattle.solving.specs.Walk.{Walked, solve, Solves, refused}

@@ -1,7 +1,8 @@
 // The walk of one rule, and its lines kept.
 ghost use Rattle.std.specs.Prelude.{◌≡◌, List, ℕ, ◌≤◌, length, drop};
 ghost use Rattle.format.specs.Limits.{table_bytes};
-ghost use Rattle.terms.specs.Equation.{Equation, Direction};
+ghost use Rattle.terms.specs.Equation.{Equation};
+ghost use Rattle.terms.specs.declared.direction.Direction.{Direction};
 ghost use Rattle.solving.specs.Walk.{solve};
 ghost use Rattle.walking.specs.ForContracts.Walking.{memory_bytes};
 ghost use Rattle.solve_equation.specs.ForContracts.Reports.{Leaves};

@@ -11,7 +11,8 @@ use Rattle.format.specs.Buffer.{written}
 use Rattle.format.specs.declared.refusal.Refusal.TheVariants.{AbsentArgument as absent_argument}
 use Rattle.format.specs.Lists.{entry}
 use Rattle.format.specs.Theory.Lists.{entry_none, every_entry}
-use Rattle.terms.specs.Equation.{Equation, Direction, direction_of}
+use Rattle.terms.specs.Equation.{Equation, direction_of}
+use Rattle.terms.specs.declared.direction.Direction.{Direction}
 use Rattle.terms.specs.Prefix.{equation_bytes}
 use Rattle.scanning.specs.declared.known.Known.{Known}
 use Rattle.sheet.specs.Sheet.{Sheet}

@@ -2,7 +2,8 @@
 ghost use Rattle.std.specs.Prelude.{◌≡◌, ℕ, List, true, ◌≤◌, ◌<◌, length};
 ghost use Rattle.std.proofs.Math.Option.{some};
 ghost use Rattle.format.specs.Limits.{max_equations, table_bytes, scratch_bytes};
-ghost use Rattle.terms.specs.Equation.{Equation, Direction, direction_of};
+ghost use Rattle.terms.specs.Equation.{Equation, direction_of};
+ghost use Rattle.terms.specs.declared.direction.Direction.{Direction};
 ghost use Rattle.reading.specs.ForContracts.Seek.{Accepts};
 ghost use Rattle.outcomes.specs.Asked.{Directed, asked, direction_asked};
 ghost use Rattle.outcomes.specs.Outcome.{TableOutcome, directed_answer};

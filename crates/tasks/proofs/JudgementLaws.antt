@@ -7,7 +7,8 @@ use lib.ListN.{length}
 use Rattle.format.specs.Limits.{table_bytes}
 use Rattle.format.specs.declared.refusal.Refusal.{Refusal}
 use Rattle.terms.specs.Term.{Terms}
-use Rattle.terms.specs.Equation.{Equation, Direction}
+use Rattle.terms.specs.Equation.{Equation}
+use Rattle.terms.specs.declared.direction.Direction.{Direction}
 use Rattle.scanning.specs.declared.known.Known.{Known}
 use Rattle.scanning.specs.ForContracts.Scan.{known_arities}
 use Rattle.solving.specs.Line.{Line}

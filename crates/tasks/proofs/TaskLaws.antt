@@ -11,7 +11,8 @@ use Rattle.format.specs.Lists.{entry}
 use Rattle.format.specs.Theory.Lists.{entry_found, every_entry}
 use Rattle.terms.specs.Term.{Term, Terms, size, Ground, Grounds}
 use Rattle.terms.specs.Prefix.{prefix}
-use Rattle.terms.specs.Equation.{Equation, Direction}
+use Rattle.terms.specs.Equation.{Equation}
+use Rattle.terms.specs.declared.direction.Direction.{Direction}
 use Rattle.ordering.specs.declared.decision.Decision.{Decision}
 use Rattle.ordering.specs.Decision.{decision}
 use Rattle.sheet.specs.Sheet.{Task, run, judgement, comparison, Sheet}

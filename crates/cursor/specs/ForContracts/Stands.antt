@@ -3,7 +3,8 @@ use Rattle.std.specs.Prelude.{ℕ, ◌*◌, ◌≤◌, ◌<◌, ◌≡◌, Bool,
 use Rattle.std.proofs.Math.Option.{some}
 use Rattle.format.specs.Limits.{max_lines, max_steps, record_bytes}
 use Rattle.format.specs.Lists.{entry}
-use Rattle.terms.specs.Equation.{Equation, Direction}
+use Rattle.terms.specs.Equation.{Equation}
+use Rattle.terms.specs.declared.direction.Direction.{Direction}
 use Rattle.sheet.specs.Sheet.{Sheet}
 use Rattle.sheet.specs.Reading.{accepted, read}
 use Rattle.scanning.specs.declared.known.Known.{Known}
