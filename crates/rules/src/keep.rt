@@ -14,6 +14,7 @@ use format::refusal::Refusal;
 use kept_lines::trimmed::keep_lines;
 use solve_equation::positions::{MEMORY, Solved};
 use solve_equation::solve::walk_direction;
+use terms::direction::Direction;
 
 // Walks a rule. The records of its lines stand first in scratch.
 pub fn walk_rule(equations: &[u8], lengths: &[u8], rule: usize, scratch: &mut [u8],
@@ -28,7 +29,7 @@ pub fn walk_rule(equations: &[u8], lengths: &[u8], rule: usize, scratch: &mut [u
     walk_direction(
         &equations[row..end],
         &lengths[row..end],
-        rule % 2,
+        Direction::of_rule(rule),
         &mut scratch[..MEMORY],
     )
 }
