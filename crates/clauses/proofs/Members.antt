@@ -1,11 +1,6 @@
 -- What the bytes tell of terms answers L1's and L2's question: a term among others is reached by one of them, and does not exceed them all.
-use Prim.Native.Nat.{ℕ, ◌+◌, ◌-◌, ◌<◌}
-use mathlib.Core.Path.{◌≡◌, refl, sym, ap, ◌∙◌}
-use Rattle.std.specs.Prelude.{take, drop, nat_eq}
-use Rattle.std.specs.Cmp.Lexicographic.{same_text}
-use Rattle.std.proofs.lemmas.List.{get_or-take, get_or-drop}
-use native.Mathlib.Omega.{arith}
-use lib.Pointwise.{pointwise}
+use Prim.Native.Nat.{ℕ, ◌+◌, ◌<◌}
+use mathlib.Core.Path.{◌≡◌, refl}
 use mathlib.Core.Bool.{Bool, true, false}
 use mathlib.Core.List.{List}
 use lib.ListN.{get_or}
@@ -27,16 +22,6 @@ use Rattle.clauses.specs.ForContracts.Among.{HasTwoTerms, HasRowAndTerm, TellsEq
 not_all : {t : Term} {ss : Terms} → Member t ss → ¬ ExceedsAll t ss
 not_all first p = ≻_irrefl (all_head p)
 not_all (later m) p = not_all m (all_tail p)
-
--- Two parts of the bytes that were told equal.
-pub same_parts : (bytes : List ℕ) (a b n : ℕ) → true ≡ pointwise nat_eq (take (a + n - a) (drop a bytes)) (take (b + n - b) (drop b bytes)) → SameBytes bytes a b n
-same_parts bytes a b n e = record { each = each }
-  where
-    part : (c k : ℕ) → k < n → get_or (take (c + n - c) (drop c bytes)) k 0 ≡ get_or bytes (c + k) 0
-    part c k l = get_or-take (c + n - c) (drop c bytes) k 0 (omega arith) ∙ get_or-drop c bytes k 0
-
-    each : (k : ℕ) → k < n → get_or bytes (a + k) 0 ≡ get_or bytes (b + k) 0
-    each k l = sym (part a k l) ∙ (ap (λ xs. get_or xs k 0) (same_text (take (a + n - a) (drop a bytes)) (take (b + n - b) (drop b bytes)) e) ∙ part b k l)
 
 module _ {nodes sizes : List ℕ} where
   pub not_told : {i j : ℕ} → TellsEqual nodes sizes i j false

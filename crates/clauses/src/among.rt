@@ -3,6 +3,7 @@ ghost use Rattle.std.specs.Prelude.{◌≡◌, length};
 ghost use Rattle.format.specs.Limits.{node_count};
 ghost use Rattle.clauses.specs.ForContracts.Among.{HasTwoTerms, HasRowAndTerm, TellsEqual, TellsAmong};
 
+use format::same::same_bytes;
 use terms::arguments::Arguments;
 
 // The same nodes with the same sizes stand for the same term. Other nodes may do so too, where they are variables: then nothing is told.
@@ -14,10 +15,10 @@ fn same_nodes(nodes: &[u8], sizes: &[u8], i: usize, j: usize) -> bool
     if n != usize::from(sizes[j]) {
         return false;
     }
-    if nodes[i..i + n] != nodes[j..j + n] {
+    if !same_bytes(nodes, i, j, n) {
         return false;
     }
-    sizes[i..i + n] == sizes[j..j + n]
+    same_bytes(sizes, i, j, n)
 }
 
 // Yes: the term at j is one of those in the row, whose bytes it has. No tells nothing.

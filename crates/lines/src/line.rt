@@ -40,7 +40,10 @@ impl Line {
         ensures { HasHead memory.now place result }
     {
         let mut bindings = [Limits::NO_POSITION; Limits::VARIABLES];
-        bindings.copy_from_slice(&memory[place..place + Limits::VARIABLES]);
+        // Not `copy_from_slice`, for the reason that `differ` gives.
+        for i in 0..Limits::VARIABLES {
+            bindings[i] = memory[place + i];
+        }
         Line {
             bindings,
             count: usize::from(memory[place + COUNT]),
