@@ -1,16 +1,15 @@
 -- Laws for the call run: what it earns, by the walks and by the task that is found.
 use Prim.Native.Nat.{ℕ, ◌+◌, ◌≤◌, ◌<◌}
 use mathlib.Core.Path.{◌≡◌, refl, sym, ap, subst, ◌∙◌}
-use mathlib.Core.Bool.{true}
+use mathlib.Core.Bool.{Bool, true, false}
 use mathlib.Core.Option.{Option, none, some}
 use mathlib.Core.List.{List, append-nil}
 use lib.ListN.{length, drop}
 use native.Mathlib.Omega.{arith}
-use Rattle.format.specs.Limits.{max_equations, max_steps, scratch_bytes}
+use Rattle.format.specs.Limits.{max_equations, max_steps, max_text, scratch_bytes}
 use Rattle.format.specs.Lists.{entry}
 use Rattle.format.specs.Theory.Lists.{entry_none, every_entry}
 use Rattle.format.specs.Theory.Behind.{behind_more}
-use Rattle.format.specs.declared.refusal.Refusal.{Refusal}
 use Rattle.format.specs.declared.refusal.Refusal.TheVariants.{AbsentArgument as absent_argument}
 use Rattle.terms.specs.Term.{Term, nil, cons, size, Ground}
 use Rattle.terms.specs.Equation.{Equation}
@@ -23,9 +22,9 @@ use Rattle.sheet.specs.Theory.Accepted.{accepted_valid}
 use Rattle.scanning.specs.declared.known.Known.{Known}
 use Rattle.scanning.specs.ForContracts.Scan.{known_arities}
 use Rattle.reading.specs.declared.seek.TaskFound.{TaskFound}
-use Rattle.reading.specs.declared.seek.TaskHead.TheVariants.{Run, Judgement, Comparison}
-use Rattle.reading.specs.ForContracts.Seek.{Accepts, TaskIn, TaskAt, Spans, task_terms}
-use Rattle.reading.specs.Theory.Found.{task_asked, is_run, is_judgement, is_comparison}
+use Rattle.reading.specs.declared.seek.TaskHead.TheVariants.{Run}
+use Rattle.reading.specs.ForContracts.Seek.{Accepts, TaskIn, TaskAt, Spans, task_head, task_terms}
+use Rattle.reading.specs.Theory.Found.{task_asked, is_run}
 use Rattle.reducing.specs.Run.{ending_number}
 use Rattle.reducing.specs.Walks.{equation_line, first_refusal}
 use Rattle.reading.specs.ForContracts.Loading.{TermsIn}
@@ -35,49 +34,48 @@ use Rattle.reducing.specs.Theory.Walks.{refusal_low}
 use Rattle.outcomes.specs.Outcome.{RunOutcome, run_done, run_walked, run_answer}
 use Rattle.outcomes.specs.Theory.Outcomes.{run_outcome}
 use Rattle.walking.specs.ForContracts.Walking.{memory_bytes}
-use Rattle.rules.specs.declared.walks.Walks.{Walks}
-use Rattle.rules.specs.declared.walks.Walks.TheVariants.{Refused, Full, Kept}
+use Rattle.rules.specs.declared.walks.RefusedWalk.{RefusedWalk}
+use Rattle.std.specs.Prelude.{Result, Ok, Err}
 use Rattle.rules.specs.ForContracts.Rows.{RowsAre, bound_count}
 use Rattle.rules.specs.ForContracts.Walks.{WalksAs, LinesReady}
 use Rattle.run_steps.specs.declared.course.Course.{Course}
 use Rattle.run_steps.specs.ForContracts.Course.{the_run}
-use Rattle.run_term.specs.ForContracts.RunTerm.{RunTermIs, RunCourse, Ran}
-use Rattle.run_task.specs.ForContracts.RunTask.{fit_together, RanAs, ReductionIn}
+use Rattle.run_term.specs.ForContracts.RunTerm.{RunTermIs, HasRunTerm, RunCourse, Ran}
+use Rattle.run_task.specs.ForContracts.RunTask.{RanAs, ReductionIn}
 
 -- 1. The walks.
-module _ (es : List Equation) (bounds table : List ℕ) where
-  pub number_low : {walks : Walks} {why : Refusal} {number : ℕ} → length es ≤ max_equations → WalksAs es bounds table walks → walks ≡ Refused why number → number < max_equations
+module _ (es : List Equation) (bounds table : List ℕ) {walked : Result Bool RefusedWalk} (w : WalksAs es bounds table walked) where
+  equation_low : {stopped : RefusedWalk} → length es ≤ max_equations → walked ≡ Err stopped → stopped.equation < max_equations
   unfolding equation_line
-  number_low {why = why} {number} l w e = omega (arith, refusal_low 0 es (record { refusal = why; line = equation_line number }) (subst (WalksAs es bounds table) e w))
+  equation_low {stopped} few e =
+      omega (arith, few, refusal_low 0 es (record { refusal = stopped.why; line = equation_line stopped.equation }) (subst (WalksAs es bounds table) e w))
 
-  pub walks_ready : (walks : Walks) → ((why : Refusal) (number : ℕ) → walks ≡ Refused why number → ⊥) → WalksAs es bounds table walks → LinesReady (fit_together walks) bounds table es
-  walks_ready (Refused why number) other w = absurd (other why number refl)
-  walks_ready Full other w = w.1
-  walks_ready Kept other w = w.2
-
-pub ran_as : {arities : List ℕ} {es : List Equation} {k : ℕ} {subject : Term} {term term_after log log_after : List ℕ} {r : ℕ} (walks : Walks) → ((why : Refusal) (number : ℕ) → walks ≡ Refused why number → ⊥)
-    → Ran arities es k subject term term_after log log_after r → RanAs walks arities es k subject term term_after log log_after r
-ran_as (Refused why number) other d = absurd (other why number refl)
-ran_as Full other d = d
-ran_as Kept other d = d
+  lines_ready : (fits : Bool) → walked ≡ Ok fits → LinesReady fits bounds table es
+  lines_ready true e = (subst (WalksAs es bounds table) e w).2
+  lines_ready false e = (subst (WalksAs es bounds table) e w).1
 
 -- The run of a term, and the number that is made of it.
-pub number_ran : {arities : List ℕ} {es : List Equation} {k : ℕ} {subject : Term} {term term_after log log_after : List ℕ} {c : Course} (r : ℕ) → RunCourse arities es k subject term term_after log log_after c
-    → r ≡ fields c.steps (ending_number c.ending) c.size → Ran arities es k subject term term_after log log_after r
-number_ran {arities} {es} {k} {subject} {c = c} r i z = record {
+pub number_ran : {arities : List ℕ} {es : List Equation} {k : ℕ} {subject : Term} {term term_after term_now log log_after log_now : List ℕ} {c : Course} {r : ℕ}
+    → RunCourse arities es k subject term term_after log log_after c → term_now ≡ term_after → log_now ≡ log_after → r ≡ fields c.steps (ending_number c.ending) c.size
+    → Ran arities es k subject term term_now log log_now r
+number_ran {arities} {es} {k} {subject} {c = c} i t l z = record {
   returned =
       z
       ∙ ap (λ s. fields s (ending_number c.ending) c.size) i.steps_are
       ∙ ap (λ m. fields (length (the_run arities es k subject).steps) m c.size) (ap ending_number i.ending_is)
       ∙ ap (λ m. fields (length (the_run arities es k subject).steps) (ending_number (the_run arities es k subject).ending) m) i.size_is;
-  term_is = i.term_is;
-  log_is = i.log_is;
+  term_is = t ∙ i.term_is;
+  log_is = l ∙ i.log_is;
 }
 
-pub refused_as : {walks : Walks} (arities : List ℕ) (es : List Equation) (k : ℕ) (subject : Term) (term log : List ℕ) {r : ℕ} {why : Refusal} {number : ℕ} → walks ≡ Refused why number → r ≡ refusal_number why (number + 2)
-    → RanAs walks arities es k subject term term log log r
+pub ran_as : {walked : Result Bool RefusedWalk} {fits : Bool} {arities : List ℕ} {es : List Equation} {k : ℕ} {subject : Term} {term term_after log log_after : List ℕ} {r : ℕ}
+    → walked ≡ Ok fits → Ran arities es k subject term term_after log log_after r → RanAs walked arities es k subject term term_after log log_after r
+ran_as {arities = arities} {es} {k} {subject} {term} {term_after} {log} {log_after} {r} e d = subst (λ w. RanAs w arities es k subject term term_after log log_after r) (sym e) d
+
+pub refused_as : {walked : Result Bool RefusedWalk} {stopped : RefusedWalk} (arities : List ℕ) (es : List Equation) (k : ℕ) (subject : Term) {term term_now log log_now : List ℕ} {r : ℕ}
+    → walked ≡ Err stopped → term_now ≡ term → log_now ≡ log → r ≡ refusal_number stopped.why (stopped.equation + 2) → RanAs walked arities es k subject term term_now log log_now r
 unfolding equation_line
-refused_as arities es k subject term log {r} e x = subst (λ w. RanAs w arities es k subject term term log log r) (sym e) (x, refl, refl)
+refused_as arities es k subject {term} {term_now} {log} {log_now} {r} e t l x = subst (λ w. RanAs w arities es k subject term term_now log log_now r) (sym e) (x, t, l)
 
 pub scratch_behind : (scratch kept worked : List ℕ) → drop memory_bytes kept ≡ drop memory_bytes scratch → drop scratch_bytes worked ≡ drop scratch_bytes kept → drop scratch_bytes worked ≡ drop scratch_bytes scratch
 scratch_behind scratch kept worked g h = h ∙ behind_more scratch_bytes memory_bytes kept scratch (omega arith) g
@@ -96,13 +94,13 @@ module _ (table scratch term log : List ℕ) (k : ℕ) (subject : Term) {r : ℕ
   unfolding run_walked run_done
   ran_outcome arities es e d = ap (run_walked table scratch term log (record { filling = filling arities; equations = es; limit = k; subject = subject })) e ∙ left_as _ _ _ d.returned d.term_is d.log_is
 
-  walked_outcome : (walks : Walks) (arities : List ℕ) (es : List Equation) (bounds kept : List ℕ) → WalksAs es bounds kept walks → RanAs walks arities es k subject term term_after log log_after r
+  walked_outcome : (walked : Result Bool RefusedWalk) (arities : List ℕ) (es : List Equation) (bounds kept : List ℕ) → WalksAs es bounds kept walked → RanAs walked arities es k subject term term_after log log_after r
       → run_walked table scratch term log (record { filling = filling arities; equations = es; limit = k; subject = subject }) (first_refusal 0 es) ≡ run_outcome r blank clear term_after log_after
   unfolding run_walked
-  walked_outcome (Refused why number) arities es bounds kept w d =
+  walked_outcome (Err stopped) arities es bounds kept w d =
       ap (run_walked table scratch term log (record { filling = filling arities; equations = es; limit = k; subject = subject })) w ∙ left_as _ _ _ d.0 d.1 d.2
-  walked_outcome Full arities es bounds kept w d = ran_outcome arities es w.0 d
-  walked_outcome Kept arities es bounds kept w d = ran_outcome arities es w.0 d
+  walked_outcome (Ok false) arities es bounds kept w d = ran_outcome arities es w.0 d
+  walked_outcome (Ok true) arities es bounds kept w d = ran_outcome arities es w.0 d
 
 module _ (sheet table scratch term log : List ℕ) (task : ℕ) where
   abbrev pub answered : RunOutcome
@@ -121,25 +119,18 @@ module _ (sheet table scratch term log : List ℕ) (task : ℕ) where
         answer_of s r none (entry_none s.tasks task (omega (arith, g.tasks_are))) ∙ ap (λ n. run_outcome n table scratch term log) (sym e)
 
     module _ (there : task < known.tasks) (place : TaskFound) (each : (t : Task) → TaskIn sheet task t → TaskAt sheet t place) where
-      pub comparison_there : {n : ℕ} → place.head ≡ Comparison → n ≡ refusal_number absent_argument 0 → answered ≡ run_outcome n table scratch term log
+      other_task : (t : Task) → TaskIn sheet task t → ((k : ℕ) → task_head t ≡ Run k → ⊥) → {n : ℕ} → n ≡ refusal_number absent_argument 0 → answered ≡ run_outcome n table scratch term log
       unfolding run_answer found reduction_in
-      comparison_there h e =
-          let (t, i) = task_asked sheet known task a there in
-          let (u, v, x) = is_comparison t (sym (each t i).0 ∙ h) in
-          let (s, r, y) = i in
-          answer_of s r (some (comparison u v)) (y ∙ ap some x) ∙ ap (λ n. run_outcome n table scratch term log) (sym e)
+      other_task (run k u) i d e = absurd (d k refl)
+      other_task (judgement k o ts) (s, r, y) d e = answer_of s r (some (judgement k o ts)) y ∙ ap (λ n. run_outcome n table scratch term log) (sym e)
+      other_task (comparison u v) (s, r, y) d e = answer_of s r (some (comparison u v)) y ∙ ap (λ n. run_outcome n table scratch term log) (sym e)
 
-      pub judgement_there : {k d n : ℕ} → place.head ≡ Judgement k d → n ≡ refusal_number absent_argument 0 → answered ≡ run_outcome n table scratch term log
-      unfolding run_answer found reduction_in
-      judgement_there {k} h e =
-          let (t, i) = task_asked sheet known task a there in
-          let (o, ts, x, z) = is_judgement t (sym (each t i).0 ∙ h) in
-          let (s, r, y) = i in
-          answer_of s r (some (judgement k o ts)) (y ∙ ap some x) ∙ ap (λ n. run_outcome n table scratch term log) (sym e)
+      pub other_there : ((k : ℕ) → place.head ≡ Run k → ⊥) → {n : ℕ} → n ≡ refusal_number absent_argument 0 → answered ≡ run_outcome n table scratch term log
+      other_there d = let (t, i) = task_asked sheet known task a there in other_task t i (λ k e. d k ((each t i).0 ∙ e))
 
 -- 2. The task that is a run.
 pub reduction_found : (sheet : List ℕ) (task : ℕ) (known : Known) (a : Accepts sheet known) (there : task < known.tasks) (place : TaskFound)
-    → ((t : Task) → TaskIn sheet task t → TaskAt sheet t place) → {k : ℕ} → place.head ≡ Run k → ReductionIn sheet known k place.from place.end task
+    → ((t : Task) → TaskIn sheet task t → TaskAt sheet t place) → {k : ℕ} → place.head ≡ Run k → ReductionIn sheet known k place.terms.from place.terms.end task
 reduction_found sheet task known a there place each {k} h =
     let (t, i) = task_asked sheet known task a there in
     let (u, x) = is_run t (sym (each t i).0 ∙ h) in
@@ -193,11 +184,26 @@ module _ {sheet : List ℕ} {known : Known} {limit from end task : ℕ} (i : Red
         roomy = i.accepts.2.roomy;
       }
 
-  pub reduction_answered : (table scratch term log : List ℕ) {r : ℕ} {blank clear term_after log_after : List ℕ} (walks : Walks) (bounds kept : List ℕ) → blank ≡ blanked table → clear ≡ cleared scratch
-      → WalksAs its_equations bounds kept walks → RanAs walks (known_arities known) its_equations limit i.subject term term_after log log_after r
-      → answered sheet table scratch term log task ≡ run_outcome r blank clear term_after log_after
-  unfolding run_answer found reduction_in
-  reduction_answered table scratch term log {r} {term_after = term_after} {log_after} walks bounds kept b c w d =
-      answer_of sheet table scratch term log task i.is_task.0 i.is_task.1 (some (run limit i.subject)) i.is_task.2
-      ∙ walked_outcome table scratch term log limit i.subject b c walks i.is_task.0.arities its_equations bounds kept w
-      (subst (λ a. RanAs walks a its_equations limit i.subject term term_after log log_after r) its_arities d)
+  -- The walks of the sheet's rules, and what comes of them.
+  module _ (equations lengths bounds kept : List ℕ) (rows : (s : Sheet) → read sheet ≡ accepted s → RowsAre equations lengths (known_arities known) s.equations)
+      (walked : Result Bool RefusedWalk) (each : (arities : List ℕ) (es : List Equation) → RowsAre equations lengths arities es → known.equations ≡ length es → WalksAs es bounds kept walked) where
+    its_walks : WalksAs its_equations bounds kept walked
+    its_walks = each (known_arities known) its_equations (rows i.is_task.0 i.is_task.1) its_equations_counted
+
+    pub equation_fits : {stopped : RefusedWalk} → walked ≡ Err stopped → stopped.equation + 2 ≤ max_text
+    equation_fits e = let low = equation_low its_equations bounds kept its_walks (rows i.is_task.0 i.is_task.1).few e in omega arith
+
+    pub its_lines : (fits : Bool) → walked ≡ Ok fits → LinesReady fits bounds kept its_equations
+    its_lines fits e = lines_ready its_equations bounds kept its_walks fits e
+
+    pub term_had : length bounds ≡ bound_count → (fits : Bool) → walked ≡ Ok fits → HasRunTerm sheet known from end equations lengths bounds fits kept
+    term_had l fits e = record { those = its_equations; subject = i.subject; is = its_run equations lengths bounds rows l; ready = its_lines fits e }
+
+    pub reduction_answered : (table scratch term log : List ℕ) {r : ℕ} {blank clear term_after log_after : List ℕ} → blank ≡ blanked table → clear ≡ cleared scratch
+        → RanAs walked (known_arities known) its_equations limit i.subject term term_after log log_after r
+        → answered sheet table scratch term log task ≡ run_outcome r blank clear term_after log_after
+    unfolding run_answer found reduction_in
+    reduction_answered table scratch term log {r} {term_after = term_after} {log_after} b c d =
+        answer_of sheet table scratch term log task i.is_task.0 i.is_task.1 (some (run limit i.subject)) i.is_task.2
+        ∙ walked_outcome table scratch term log limit i.subject b c walked i.is_task.0.arities its_equations bounds kept its_walks
+        (subst (λ a. RanAs walked a its_equations limit i.subject term term_after log log_after r) its_arities d)

@@ -5,7 +5,7 @@ ghost use Rattle.reading.specs.ForContracts.Seek.{Accepts};
 ghost use Rattle.outcomes.specs.Buffer.{filled};
 ghost use Rattle.outcomes.specs.Asked.{asked, reduction_task};
 ghost use Rattle.outcomes.specs.Outcome.{run_answer};
-ghost use Rattle.run_task.specs.ForContracts.RunTask.{fit_together, ReductionIn, HasReduction};
+ghost use Rattle.run_task.specs.ForContracts.RunTask.{ReductionIn, HasReduction};
 
 use format::limits::Limits;
 use format::refusal::Refusal;
@@ -14,51 +14,31 @@ use outcomes::number::refusal_number;
 use reading::seek::{TaskHead, find_task};
 use rules::opened::Opened;
 use rules::rows::{ROWS, store_equations};
-use rules::walks::{BOUNDS, Walks, keep_rules};
+use rules::walks::{BOUNDS, keep_rules};
 use run_term::term::{RunAsked, course_number, run_course};
 use scanning::known::Known;
-
-// Whether the lines of all rules fit the table together.
-fn lines_fit(walks: Walks) -> bool
-    ensures { result ≡ fit_together walks }
-{
-    match walks {
-        Walks::Refused(_, _) => false,
-        Walks::Full => false,
-        Walks::Kept => true,
-    }
-}
-
-// What run leaves in the table and in scratch: ff, and 00.
-fn clear(table: &mut [u8], scratch: &mut [u8])
-    requires { (table_bytes ≤ length table.old) × (scratch_bytes ≤ length scratch.old) }
-    ensures { (table.new ≡ filled table_bytes no_position table.old) × (scratch.new ≡ filled scratch_bytes 0 scratch.old) }
-{
-    fill(table, Limits::TABLE, Limits::NO_POSITION);
-    fill(scratch, Limits::SCRATCH, 0);
-}
+use scanning::text::Span;
 
 // Run on a task that is a run.
 fn run_found(
     sheet: &[u8],
     known: Known,
     limit: usize,
-    from: usize,
-    end: usize,
+    digits: Span,
     table: &mut [u8],
     scratch: &mut [u8],
     term: &mut [u8],
     log: &mut [u8],
 ) -> u64
-    requires has_reduction { HasReduction sheet.now known limit from end }
+    requires has_reduction { HasReduction sheet.now known limit digits.from digits.end }
     requires table_bytes_in_bounds { (table_bytes ≤ length table.old) × (scratch_bytes ≤ length scratch.old) × (term_bytes ≤ length term.old) × (log_bytes ≤ length log.old) }
-    ensures { (task : ℕ) → ReductionIn sheet.now known limit from end task → run_answer table.old scratch.old term.old log.old (asked true sheet.now (reduction_task task)) ≡ record { returned = result; table = table.new; scratch = scratch.new; term = term.new; log = log.new } }
+    ensures { (task : ℕ) → ReductionIn sheet.now known limit digits.from digits.end task → run_answer table.old scratch.old term.old log.old (asked true sheet.now (reduction_task task)) ≡ record { returned = result; table = table.new; scratch = scratch.new; term = term.new; log = log.new } }
 {
     let mut equations = [0u8; ROWS];
     let mut lengths = [0u8; ROWS];
     store_equations(sheet, known, &mut equations, &mut lengths);
     let mut bounds = [0usize; BOUNDS];
-    let walks = keep_rules(
+    let walked = keep_rules(
         &equations,
         &lengths,
         known.equations,
@@ -66,25 +46,24 @@ fn run_found(
         table,
         scratch,
     );
-    if let Walks::Refused(why, equation) = walks {
-        clear(table, scratch);
-        return refusal_number(why, equation + Limits::FIRST_EQUATION_LINE);
-    }
-    let opened = Opened {
-        known: known,
-        fits: lines_fit(walks),
+    let number = match walked {
+        Err(stopped) => refusal_number(stopped.why, stopped.equation + Limits::FIRST_EQUATION_LINE),
+        Ok(fits) => {
+            let opened = Opened { known, fits };
+            let asked = RunAsked {
+                opened,
+                limit,
+                digits,
+            };
+            let course = run_course(
+                sheet, asked, &equations, &lengths, &bounds, table, scratch, term, log,
+            );
+            course_number(course)
+        }
     };
-    let asked = RunAsked {
-        opened: opened,
-        limit: limit,
-        from: from,
-        end: end,
-    };
-    let course = run_course(
-        sheet, asked, &equations, &lengths, &bounds, table, scratch, term, log,
-    );
-    clear(table, scratch);
-    course_number(course)
+    fill(table, Limits::TABLE, Limits::NO_POSITION);
+    fill(scratch, Limits::SCRATCH, 0);
+    number
 }
 
 // Run on an accepted sheet.
@@ -105,12 +84,8 @@ pub fn run_task(
         return refusal_number(Refusal::AbsentArgument, 0);
     }
     let found = find_task(sheet, known, task as usize);
-    let head = found.head;
-    match head {
-        TaskHead::Run(limit) => run_found(
-            sheet, known, limit, found.from, found.end, table, scratch, term, log,
-        ),
-        TaskHead::Comparison => refusal_number(Refusal::AbsentArgument, 0),
-        TaskHead::Judgement(_, _) => refusal_number(Refusal::AbsentArgument, 0),
-    }
+    let TaskHead::Run { limit } = found.head else {
+        return refusal_number(Refusal::AbsentArgument, 0);
+    };
+    run_found(sheet, known, limit, found.terms, table, scratch, term, log)
 }
