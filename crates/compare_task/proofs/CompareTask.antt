@@ -61,7 +61,7 @@ module _ (sheet scratch : List ℕ) (task : ℕ) where
         pub first : Term
         pub second : Term
         pub is_task : TaskIn sheet task (comparison first second)
-        pub pair : PairIn sheet (known_arities known) place.from place.end first second
+        pub pair : PairIn sheet (known_arities known) place.terms.from place.terms.end first second
 
       pub pair_found : place.head ≡ Comparison → PairFound
       unfolding task_terms prefix size
@@ -80,18 +80,18 @@ module _ (sheet scratch : List ℕ) (task : ℕ) where
             second = v;
             is_task = j;
             pair = record {
-              spans = subst (Spans sheet place.from place.end) (ap (prefix u ++◌) (sym (append-nil (prefix v)))) (each (comparison u v) j).1;
+              spans = subst (Spans sheet place.terms.from place.terms.end) (ap (prefix u ++◌) (sym (append-nil (prefix v)))) (each (comparison u v) j).1;
               is_ground = (subst (λ arities. Ground arities u) (sym arities) valid.0, (subst (λ arities. Ground arities v) (sym arities) valid.1, tt));
               few_nodes = omega (arith, valid.2);
               few_symbols = omega (arith, ap length g.arities_are, g.valid.symbols.few_symbols);
             };
           }
 
-      pub pair_has : place.head ≡ Comparison → (s : Term) × (t : Term) × PairIn sheet (known_arities known) place.from place.end s t
+      pub pair_has : place.head ≡ Comparison → (s : Term) × (t : Term) × PairIn sheet (known_arities known) place.terms.from place.terms.end s t
       pair_has h = let f = pair_found h in (f.first, f.second, f.pair)
 
       pub comparison_there : (h : place.head ≡ Comparison) (d : Decision) (after : List ℕ) {n : ℕ}
-          → ((s t : Term) → PairIn sheet (known_arities known) place.from place.end s t → d ≡ decision s t) → n ≡ decision_fields d
+          → ((s t : Term) → PairIn sheet (known_arities known) place.terms.from place.terms.end s t → d ≡ decision s t) → n ≡ decision_fields d
           → after ≡ cleared scratch → compare_answered sheet scratch task ≡ compare_outcome n after
       unfolding compare_answer found comparison_in
       comparison_there h d after {n} v e c =

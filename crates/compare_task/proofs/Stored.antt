@@ -55,9 +55,5 @@ pub scratch_cleared : (scratch front last : List ℕ) → scratch_bytes ≤ leng
 scratch_cleared scratch front last h l =
     cleared_behind cell_count scratch (front ++ drop cell_count scratch) last (omega arith) (drop_at front (drop cell_count scratch) cell_count (l ∙ cells_there scratch h))
 
-module _ {sheet : List ℕ} {known : Known} {from end : ℕ} {s t : Term} (roomy : Roomy known) (p : PairIn sheet (known_arities known) from end s t) where
-  pub pair_taken : PairIn sheet (take known.symbols known.arities) from end s t
-  pair_taken = subst (λ a. PairIn sheet a from end s t) (arities_taken roomy p.few_symbols) p
-
-  pub pair_loaded : {nodes sizes : List ℕ} {n : ℕ} → Loaded (take known.symbols known.arities) nodes sizes (cons s (cons t nil)) n → PairLoaded nodes sizes s t
-  pair_loaded l = record { arities = take known.symbols known.arities; size_of = _; loaded = l }
+pub pair_loaded : {arities nodes sizes : List ℕ} {s t : Term} {n : ℕ} → Loaded arities nodes sizes (cons s (cons t nil)) n → PairLoaded nodes sizes s t
+pair_loaded {arities} l = record { arities = arities; size_of = _; loaded = l }

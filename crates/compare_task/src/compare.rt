@@ -12,16 +12,16 @@ ghost use Rattle.outcomes.specs.Outcome.{decision_fields, compare_answer};
 ghost use Rattle.compare_task.specs.ForContracts.Comparison.{PairIn, PairLoaded};
 
 use clauses::compare::compare;
-use format::byte::wide;
+use comparing::comparison::Compared;
 use format::limits::Limits;
 use format::refusal::Refusal;
-use ordering::decision::{Decision, clause_number_of, verdict_of};
-use ordering::verdict::number_of_verdict;
+use ordering::decision::Decision;
 use outcomes::buffer::fill;
 use outcomes::number::{fields_number, refusal_number};
 use reading::load::load_terms;
 use reading::seek::{TaskHead, find_task};
 use scanning::known::Known;
+use scanning::text::Span;
 
 // The decision on two terms that are stored. The cells stand first in scratch. No row of them is ready before, and all of scratch is cleared behind.
 fn compare_stored(nodes: &[u8], sizes: &[u8], scratch: &mut [u8]) -> Decision
@@ -33,11 +33,14 @@ fn compare_stored(nodes: &[u8], sizes: &[u8], scratch: &mut [u8]) -> Decision
     // Ground terms have no variables whose values are asked for.
     let values = [0u8; Limits::VARIABLES];
     let mut ready = [0u8; Limits::NODES];
-    let second = Limits::SUBJECT + wide(sizes[Limits::SUBJECT]);
-    let decision = compare(
+    let second = Limits::SUBJECT + usize::from(sizes[Limits::SUBJECT]);
+    let compared = Compared {
         nodes,
         sizes,
-        &values,
+        values: &values,
+    };
+    let decision = compare(
+        &compared,
         &mut ready,
         &mut scratch[..Limits::CELLS],
         Limits::SUBJECT,
@@ -47,27 +50,24 @@ fn compare_stored(nodes: &[u8], sizes: &[u8], scratch: &mut [u8]) -> Decision
     decision
 }
 
-// The decision on the two terms that the digits from `from` to `end` write.
+// The decision on the two terms that the digits write.
 pub fn compare_terms(
     sheet: &[u8],
     known: Known,
-    from: usize,
-    end: usize,
+    digits: Span,
     scratch: &mut [u8],
 ) -> Decision
-    requires pair_in { (s : Term) × (t : Term) × PairIn sheet.now (known_arities known) from end s t }
+    requires pair_in { (s : Term) × (t : Term) × PairIn sheet.now (known_arities known) digits.from digits.end s t }
     requires roomy { Roomy known × (scratch_bytes ≤ length scratch.old) }
-    ensures value { (s t : Term) → PairIn sheet.now (known_arities known) from end s t → result ≡ decision s t }
+    ensures value { (s t : Term) → PairIn sheet.now (known_arities known) digits.from digits.end s t → result ≡ decision s t }
     ensures scratch_after { scratch.new ≡ cleared scratch.old }
 {
     let mut nodes = [0u8; Limits::NODES];
     let mut sizes = [0u8; Limits::NODES];
-    let arities = known.arities;
     load_terms(
         sheet,
-        from,
-        end,
-        &arities[..known.symbols],
+        digits,
+        known.symbol_arities(),
         &mut nodes,
         &mut sizes,
     );
@@ -78,8 +78,8 @@ pub fn compare_terms(
 fn decision_number(decision: Decision) -> u64
     ensures { result ≡ decision_fields decision }
 {
-    let verdict = number_of_verdict(verdict_of(decision));
-    fields_number(verdict as u16, clause_number_of(decision) as u16, 0)
+    let verdict = u8::from(decision.verdict());
+    fields_number(u16::from(verdict), u16::from(decision.clause_number()), 0)
 }
 
 // Compare on an accepted sheet.
@@ -94,10 +94,10 @@ pub fn compare_task(sheet: &[u8], known: Known, task: u64, scratch: &mut [u8]) -
     let head = found.head;
     match head {
         TaskHead::Comparison => {
-            let decision = compare_terms(sheet, known, found.from, found.end, scratch);
+            let decision = compare_terms(sheet, known, found.terms, scratch);
             decision_number(decision)
         }
-        TaskHead::Run(_) => refusal_number(Refusal::AbsentArgument, 0),
-        TaskHead::Judgement(_, _) => refusal_number(Refusal::AbsentArgument, 0),
+        TaskHead::Run { .. } => refusal_number(Refusal::AbsentArgument, 0),
+        TaskHead::Judgement { .. } => refusal_number(Refusal::AbsentArgument, 0),
     }
 }

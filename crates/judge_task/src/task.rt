@@ -151,6 +151,6 @@ pub fn judge_task(
             scratch,
         ),
         TaskHead::Comparison => refusal_number(Refusal::AbsentArgument, 0),
-        TaskHead::Run { limit: _ } => refusal_number(Refusal::AbsentArgument, 0),
+        TaskHead::Run { .. } => refusal_number(Refusal::AbsentArgument, 0),
     }
 }

@@ -30,7 +30,6 @@ use Rattle.outcomes.specs.Theory.Fill.{cleared_behind}
 use Rattle.solve_equation.specs.Theory.Equation.{some_direction}
 use Rattle.solve_equation.specs.ForContracts.Equation.{EquationIs, HasEquation}
 use Rattle.walking.specs.ForContracts.Walking.{memory_bytes}
-use Rattle.scanning.specs.Theory.Arities.{arities_taken}
 
 -- 1. The equation that is found: its bytes stand first in a buffer.
 pub known_few : (sheet : List ℕ) {known : Known} → Accepts sheet known → Roomy known × (length (known_arities known) ≤ max_symbols)
@@ -44,7 +43,7 @@ module _ (sheet : List ℕ) (equation : ℕ) (known : Known) (a : Accepts sheet 
   pub bytes_taken : length bytes ≡ position_count → n ≡ length (take n bytes)
   bytes_taken l = sym (length-take-le n bytes (bytes_room l))
 
-  pub equation_is : (q : Equation) → EquationIn sheet equation q → EquationIs (take n bytes) (take known.symbols known.arities) q
+  pub equation_is : (q : Equation) → EquationIn sheet equation q → EquationIs (take n bytes) (known_arities known) q
   unfolding equation_bytes written
   equation_is q i =
       let (l, b) = each q i in
@@ -52,18 +51,17 @@ module _ (sheet : List ℕ) (equation : ℕ) (known : Known) (a : Accepts sheet 
       let (s', r', g) = a in
       let e : accepted s' ≡ accepted s = sym r' ∙ r in
       let d : s' ≡ s = cc in
-      let (roomy, few) = known_few sheet a in
-      let arities : s.arities ≡ take known.symbols known.arities = sym (g.arities_are ∙ ap (λ s. s.arities) d) ∙ arities_taken roomy few in
+      let arities : s.arities ≡ known_arities known = sym (g.arities_are ∙ ap (λ s. s.arities) d) in
       let valid = subst (λ arities. ValidEquation arities q) arities (every_entry (ValidEquation s.arities) s.equations equation (accepted_valid sheet s r).0.equations x) in
       record {
         spelled = ap (take n) b ∙ take_at (equation_bytes q) (drop (length (equation_bytes q)) before) n (sym l);
         limits = valid.limits;
         left_fits = valid.left_fits;
         right_fits = valid.right_fits;
-        few_symbols = omega (arith, ap length (arities_taken roomy few));
+        few_symbols = (known_few sheet a).1;
       }
 
-  pub equation_has : HasEquation (take n bytes) (take known.symbols known.arities)
+  pub equation_has : HasEquation (take n bytes) (known_arities known)
   equation_has = let (q, i) = equation_asked sheet known equation a there in record { equation = q; is = equation_is q i }
 
 -- 2. What the call earns there.

@@ -1,52 +1,39 @@
 // Solve and always from an accepted sheet to their answer: "with the same lent buffers and order of refusals" (document 02, W6).
-ghost use Rattle.std.specs.Prelude.{◌≡◌, true, ◌≤◌, ◌<◌, length};
+ghost use Rattle.std.specs.Prelude.{◌≡◌, ℕ, List, true, ◌≤◌, ◌<◌, length};
 ghost use Rattle.std.proofs.Math.Option.{some};
 ghost use Rattle.format.specs.Limits.{max_equations, table_bytes, scratch_bytes};
 ghost use Rattle.terms.specs.Equation.{Equation, Direction, direction_of};
 ghost use Rattle.reading.specs.ForContracts.Seek.{Accepts};
-ghost use Rattle.outcomes.specs.Asked.{asked, direction_asked};
-ghost use Rattle.outcomes.specs.Outcome.{directed_answer};
+ghost use Rattle.outcomes.specs.Asked.{Directed, asked, direction_asked};
+ghost use Rattle.outcomes.specs.Outcome.{TableOutcome, directed_answer};
 ghost use Rattle.solve_equation.specs.ForContracts.Equation.{EquationIs, HasEquation};
-ghost use Rattle.solve_task.specs.ForContracts.Direction.{call_directed};
 
-use crate::always::always_bytes;
-use crate::solve::solve_bytes;
 use format::limits::Limits;
 use format::refusal::Refusal;
 use outcomes::number::refusal_number;
 use reading::seek::equation_at;
 use scanning::known::Known;
 
-// The calls that ask for an equation in a direction.
-#[derive(Clone, Copy)]
-pub enum Call {
-    Solve,
-    Always,
-}
+// A call that asks for an equation in a direction, by what it does on the equation's bytes.
+pub trait DirectedCall {
+    // What the call gives, of equation number, table and scratch, and what is asked.
+    ghost directed: { ℕ → List ℕ → List ℕ → Directed → TableOutcome };
 
-// The call on the bytes of equation `equation`.
-fn direction_bytes(
-    call: Call,
-    bytes: &[u8],
-    arities: &[u8],
-    equation: usize,
-    direction: usize,
-    table: &mut [u8],
-    scratch: &mut [u8],
-) -> u64
-    requires has_equation { HasEquation bytes.now arities.now × (equation < max_equations) × (direction < 2) }
-    requires table_bytes_in_bounds { (table_bytes ≤ length table.old) × (scratch_bytes ≤ length scratch.old) }
-    ensures { (e : Equation) (d : Direction) → EquationIs bytes.now arities.now e → direction_of direction ≡ some d → call_directed call equation table.old scratch.old (record { equation = e; direction = d }) ≡ record { returned = result; table = table.new; scratch = scratch.new } }
-{
-    match call {
-        Call::Solve => solve_bytes(bytes, arities, equation, direction, table, scratch),
-        Call::Always => always_bytes(bytes, arities, equation, direction, table, scratch),
-    }
+    fn on_bytes(
+        bytes: &[u8],
+        arities: &[u8],
+        equation: usize,
+        direction: usize,
+        table: &mut [u8],
+        scratch: &mut [u8],
+    ) -> u64
+        requires has_equation { HasEquation bytes.now arities.now × (equation < max_equations) × (direction < 2) }
+        requires table_bytes_in_bounds { (table_bytes ≤ length table.old) × (scratch_bytes ≤ length scratch.old) }
+        ensures { (e : Equation) (d : Direction) → EquationIs bytes.now arities.now e → direction_of direction ≡ some d → directed equation table.old scratch.old (record { equation = e; direction = d }) ≡ record { returned = result; table = table.new; scratch = scratch.new } };
 }
 
 // The call on an accepted sheet that has the equation.
-fn direction_found(
-    call: Call,
+fn direction_found<C: DirectedCall>(
     sheet: &[u8],
     known: Known,
     equation: usize,
@@ -56,15 +43,13 @@ fn direction_found(
 ) -> u64
     requires accepts { Accepts sheet.now known × (equation < known.equations) × (direction < 2) }
     requires table_bytes_in_bounds { (table_bytes ≤ length table.old) × (scratch_bytes ≤ length scratch.old) }
-    ensures { directed_answer (call_directed call equation table.old scratch.old) table.old scratch.old (asked true sheet.now (direction_asked equation direction)) ≡ record { returned = result; table = table.new; scratch = scratch.new } }
+    ensures { directed_answer (C.directed equation table.old scratch.old) table.old scratch.old (asked true sheet.now (direction_asked equation direction)) ≡ record { returned = result; table = table.new; scratch = scratch.new } }
 {
     let mut bytes = [0u8; Limits::POSITIONS];
     let n = equation_at(sheet, known, equation, &mut bytes);
-    let arities = known.arities;
-    direction_bytes(
-        call,
+    C::on_bytes(
         &bytes[..n],
-        &arities[..known.symbols],
+        known.symbol_arities(),
         equation,
         direction,
         table,
@@ -73,8 +58,7 @@ fn direction_found(
 }
 
 // The call on an accepted sheet.
-pub fn direction_named(
-    call: Call,
+pub fn direction_named<C: DirectedCall>(
     sheet: &[u8],
     known: Known,
     equation: u64,
@@ -84,7 +68,7 @@ pub fn direction_named(
 ) -> u64
     requires accepts { Accepts sheet.now known }
     requires table_bytes_in_bounds { (table_bytes ≤ length table.old) × (scratch_bytes ≤ length scratch.old) }
-    ensures { directed_answer (call_directed call equation table.old scratch.old) table.old scratch.old (asked true sheet.now (direction_asked equation direction)) ≡ record { returned = result; table = table.new; scratch = scratch.new } }
+    ensures { directed_answer (C.directed equation table.old scratch.old) table.old scratch.old (asked true sheet.now (direction_asked equation direction)) ≡ record { returned = result; table = table.new; scratch = scratch.new } }
 {
     if known.equations as u64 <= equation {
         return refusal_number(Refusal::AbsentArgument, 0);
@@ -92,8 +76,7 @@ pub fn direction_named(
     if 2 <= direction {
         return refusal_number(Refusal::AbsentArgument, 0);
     }
-    direction_found(
-        call,
+    direction_found::<C>(
         sheet,
         known,
         equation as usize,

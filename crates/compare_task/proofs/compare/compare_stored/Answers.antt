@@ -16,7 +16,7 @@ slice_bounds-compare-end-2 c = sym (cells_there c.args.scratch.now c.requires.sc
 pub compare-decision-requires : goal.compare-decision-requires
 compare-decision-requires c =
     let (s, t, p) = c.requires.pair_loaded in
-    let two = pair_stands p _ (ap (position_count +◌) c.wide-second.ensures.value) in
+    let two = pair_stands p _ (ap (position_count +◌) c.from-second.ensures) in
     let none = no_row_ready p _ c.args.scratch.now refl c.requires.scratch_bytes_in_bounds in record { settled_cells = none; has_term = (record { term = s; denotes = two.first_stands _ }, none.symbols position_count (omega arith)); has_term_2 = (record { term = t; denotes = two.second_stands _ }, two.second_low) }
 
 pub fill-requires : goal.fill-requires
@@ -27,4 +27,4 @@ shape_of-scratch c = c.scratch-2-1.given ∙ c.scratch-1.given.1
 
 pub returns : goal.returns
 returns c =
-    record { value = λ s t p. let two = pair_stands p _ (ap (position_count +◌) c.wide-second.ensures.value) in c.compare-decision.ensures.decision_of.is s t (two.first_stands _) (two.second_stands _) (pair_ground p); scratch_after = scratch_cleared c.args.scratch.now c.compare-decision.new.cells _ c.requires.scratch_bytes_in_bounds c.compare-decision.auto.cells c.fill.ensures }
+    record { value = λ s t p. let two = pair_stands p _ (ap (position_count +◌) c.from-second.ensures) in c.compare-decision.ensures.decision_of.is s t (two.first_stands _) (two.second_stands _) (pair_ground p); scratch_after = scratch_cleared c.args.scratch.now c.compare-decision.new.cells _ c.requires.scratch_bytes_in_bounds c.compare-decision.auto.cells c.fill.ensures }

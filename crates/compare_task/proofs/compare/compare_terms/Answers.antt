@@ -2,26 +2,25 @@
 use mathlib.Core.Path.{refl}
 use Rattle.format.specs.Limits.{node_count}
 use Rattle.cells.specs.Theory.Cells.{symbols_zero}
-use Rattle.scanning.specs.Theory.Arities.{symbols_room, symbols_taken}
-use Rattle.compare_task.proofs.Stored.{pair_taken, pair_loaded}
+use Rattle.scanning.specs.Theory.Arities.{symbols_room}
+use Rattle.compare_task.proofs.Stored.{pair_loaded}
 use Rattle.compare_task.proofs.compare.compare_terms.Goals as goal
 
-pub slice_bounds-arities-end : goal.slice_bounds-arities-end
-slice_bounds-arities-end c = let (s, t, p) = c.requires.pair_in in symbols_room c.requires.roomy.0 p.few_symbols
-
-pub slice_bounds-load_terms-end : goal.slice_bounds-load_terms-end
-slice_bounds-load_terms-end c = let (s, t, p) = c.requires.pair_in in symbols_taken c.requires.roomy.0 p.few_symbols
+pub symbol_arities-requires : goal.symbol_arities-requires
+symbol_arities-requires c = let (s, t, p) = c.requires.pair_in in symbols_room c.requires.roomy.0 p.few_symbols
 
 pub load_terms-requires : goal.load_terms-requires
 load_terms-requires c =
     let (s, t, p) = c.requires.pair_in in
-    record { has_terms_in = record { terms = _; are = pair_taken c.requires.roomy.0 p }; nodes_len = (refl, refl, symbols_zero node_count) }
+    rw c.symbol_arities.ensures (record { has_terms_in = record { terms = _; are = p }; nodes_len = (refl, refl, symbols_zero node_count) })
 
 pub compare_stored-requires : goal.compare_stored-requires
 compare_stored-requires c =
     let (s, t, p) = c.requires.pair_in in
-    record { pair_loaded = (s, t, pair_loaded c.requires.roomy.0 p (c.load_terms.ensures _ (pair_taken c.requires.roomy.0 p))); scratch_bytes_in_bounds = c.requires.roomy.1 }
+    let loaded = rw c.symbol_arities.ensures at c.load_terms.ensures in
+    record { pair_loaded = (s, t, pair_loaded (loaded _ p)); scratch_bytes_in_bounds = c.requires.roomy.1 }
 
 pub returns : goal.returns
 returns c =
-    record { value = λ s t p. c.compare_stored.ensures.value s t (pair_loaded c.requires.roomy.0 p (c.load_terms.ensures _ (pair_taken c.requires.roomy.0 p))); scratch_after = c.compare_stored.ensures.scratch_after }
+    let loaded = rw c.symbol_arities.ensures at c.load_terms.ensures in
+    record { value = λ s t p. c.compare_stored.ensures.value s t (pair_loaded (loaded _ p)); scratch_after = c.compare_stored.ensures.scratch_after }

@@ -1,7 +1,6 @@
 -- `decision_number` gives the number of the definitions.
-use mathlib.Core.Path.{ap, ◌∙◌}
+use mathlib.Core.Path.{ap, ap₂, ◌∙◌}
 use Rattle.ordering.specs.Verdict.{verdict_number}
-use Rattle.ordering.specs.Decision.{verdict_of}
 use Rattle.outcomes.specs.Buffer.{fields}
 use Rattle.outcomes.specs.Outcome.{decision_fields}
 use Rattle.compare_task.proofs.compare.decision_number.Goals as goal
@@ -9,4 +8,5 @@ use Rattle.compare_task.proofs.compare.decision_number.Goals as goal
 pub returns : goal.returns
 unfolding decision_fields
 returns c =
-    c.fields_number.ensures ∙ (ap (λ n. fields n c.clause_number_of.result 0) (c.number_of_verdict-verdict.ensures ∙ ap verdict_number c.verdict_of.ensures) ∙ ap (λ n. fields (verdict_number (verdict_of c.args.decision)) n 0) c.clause_number_of.ensures)
+    let verdict = c.from.ensures ∙ (c.from-verdict.ensures ∙ ap verdict_number c.verdict.ensures) in
+    c.fields_number.ensures ∙ ap₂ (λ v n. fields v n 0) verdict (c.from-2.ensures ∙ c.clause_number.ensures)

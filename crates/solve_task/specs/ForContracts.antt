@@ -1,2 +1,0 @@
--- What the contracts of the code cite.
-pub mod Direction
