@@ -20,19 +20,19 @@ use Rattle.terms.proofs.Theory.Filling.{filling_ground}
 use Rattle.reading.specs.ForContracts.Loading.{Loaded}
 
 -- 1. The lowest constant.
-pub lowest_here : (arities : List ℕ) (i : ℕ) → i < length arities → ((k : ℕ) → k < i → get_or arities k 0 ≡ 0 → ⊥) → get_or arities i 0 ≡ 0 → i ≡ lowest_constant arities
+pub none_lowest : lowest_constant [] ≡ 0
 unfolding lowest_constant
-lowest_here [] i h before e = absurd (omega arith)
-lowest_here (zero ∷ rest) zero h before e = refl
-lowest_here (zero ∷ rest) (suc i) h before e = absurd (before 0 (omega arith) refl)
-lowest_here (suc a ∷ rest) zero h before e = absurd (omega arith)
-lowest_here (suc a ∷ rest) (suc i) h before e = ap suc (lowest_here rest i (omega arith) (λ k l. before (suc k) (omega arith)) e)
+none_lowest = refl
 
-pub lowest_nowhere : (arities : List ℕ) → ((k : ℕ) → k < length arities → get_or arities k 0 ≡ 0 → ⊥) → length arities ≡ lowest_constant arities
+pub lowest_here : (a : ℕ) (rest : List ℕ) → a ≡ 0 → lowest_constant (a ∷ rest) ≡ 0
 unfolding lowest_constant
-lowest_nowhere [] none_there = refl
-lowest_nowhere (zero ∷ rest) none_there = absurd (none_there 0 (omega arith) refl)
-lowest_nowhere (suc a ∷ rest) none_there = ap suc (lowest_nowhere rest (λ k l. none_there (suc k) (omega arith)))
+lowest_here zero rest e = refl
+lowest_here (suc a) rest e = absurd (omega (arith, e))
+
+pub lowest_further : (a : ℕ) (rest : List ℕ) → (a ≡ 0 → ⊥) → lowest_constant (a ∷ rest) ≡ lowest_constant rest + 1
+unfolding lowest_constant
+lowest_further zero rest d = absurd (d refl)
+lowest_further (suc a) rest d = omega arith
 
 pub lowest_low : (arities : List ℕ) → lowest_constant arities ≤ length arities
 unfolding lowest_constant

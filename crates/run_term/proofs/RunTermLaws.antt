@@ -25,27 +25,18 @@ use Rattle.step_by_position.specs.ForContracts.Next.{NextIs, RulesKept, HasRules
 use Rattle.step_search.specs.ForContracts.Seeking.{RulesReady, RunIs}
 use Rattle.run_steps.specs.declared.course.Course.{Course}
 use Rattle.run_steps.specs.ForContracts.Course.{CourseIs, last_of}
-use Rattle.scanning.specs.Theory.Arities.{symbols_room, symbols_taken, arities_taken}
+use Rattle.scanning.specs.Theory.Arities.{symbols_room}
 use Rattle.run_term.specs.ForContracts.RunTerm.{RunTermIs, RunCourse}
 
 -- 1. What the run starts from.
-abbrev taken_arities : Known → List ℕ
-taken_arities known = take known.symbols known.arities
-
 loaded_size : {arities nodes sizes : List ℕ} {s : Term} {n : ℕ} → Loaded arities nodes sizes (cons s nil) n → n ≡ size s
 unfolding size
 loaded_size l = omega (arith, l.counted)
 
-module _ {sheet : List ℕ} {known : Known} {from end : ℕ} {equations lengths bounds : List ℕ} {es : List Equation} {subject : Term}
-    (t : RunTermIs sheet known from end equations lengths bounds es subject) where
+module _ {sheet : List ℕ} {known : Known} {from end : ℕ} {equations lengths bounds : List ℕ} {arities : List ℕ} {es : List Equation} {subject : Term}
+    (t : RunTermIs sheet known from end equations lengths bounds es subject) (arities_are : known_arities known ≡ arities) where
   pub term_symbols_room : known.symbols ≤ length known.arities
   term_symbols_room = symbols_room t.roomy t.term_in.few_symbols
-
-  pub term_symbols_taken : known.symbols ≡ length (taken_arities known)
-  term_symbols_taken = symbols_taken t.roomy t.term_in.few_symbols
-
-  pub arities_are : known_arities known ≡ taken_arities known
-  arities_are = arities_taken t.roomy t.term_in.few_symbols
 
   abbrev rule_count : ℕ
   rule_count = known.equations + known.equations
@@ -54,13 +45,13 @@ module _ {sheet : List ℕ} {known : Known} {from end : ℕ} {equations lengths 
   abbrev NextReady : Bool → (table next : List ℕ) → Type 0
   NextReady fits table next = fits ≡ true → (arities : List ℕ) (es : List Equation) → RulesKept equations lengths rule_count bounds table arities es → NextIs next rule_count es
 
-  rules_kept : (table : List ℕ) → RulesAt bounds table es → RulesKept equations lengths rule_count bounds table (taken_arities known) es
+  rules_kept : (table : List ℕ) → RulesAt bounds table es → RulesKept equations lengths rule_count bounds table arities es
   rules_kept table k =
       record { rows = subst (λ a. RowsAre equations lengths a es) arities_are t.rows; counted = omega (arith, t.counted); bounds_length = t.bounds_length; kept = k }
 
   pub rules_have : (fits : Bool) (table : List ℕ) → LinesReady fits bounds table es → fits ≡ true
       → HasRulesKept equations lengths rule_count bounds table
-  rules_have true table r e = record { arities = taken_arities known; those = es; are = rules_kept table r }
+  rules_have true table r e = record { arities = arities; those = es; are = rules_kept table r }
   rules_have false table r e = let z : ◌≡◌ {A = ℕ} 0 1 = cc in absurd (omega arith)
 
   rules_ready : (fits : Bool) (table next : List ℕ) → LinesReady fits bounds table es
@@ -69,25 +60,25 @@ module _ {sheet : List ℕ} {known : Known} {from end : ℕ} {equations lengths 
   rules_ready fits table next r h = record {
     lines = r;
     bounds_length = t.bounds_length;
-    next_is = λ e. h e (taken_arities known) es (rules_kept table (subst (λ b. LinesReady b bounds table es) e r));
+    next_is = λ e. h e arities es (rules_kept table (subst (λ b. LinesReady b bounds table es) e r));
   }
 
-  terms_taken : TermsIn sheet (taken_arities known) from end (cons subject nil)
+  terms_taken : TermsIn sheet arities from end (cons subject nil)
   terms_taken = subst (λ a. TermsIn sheet a from end (cons subject nil)) arities_are t.term_in
 
-  pub terms_have : HasTermsIn sheet (taken_arities known) from end
+  pub terms_have : HasTermsIn sheet arities from end
   terms_have = record { terms = cons subject nil; are = terms_taken }
 
   -- What the filling's code is called with.
-  pub loaded_fits : {nodes sizes : List ℕ} {n : ℕ} → ((ts : _) → TermsIn sheet (taken_arities known) from end ts → Loaded (taken_arities known) nodes sizes ts n)
-      → (length (taken_arities known) ≤ max_symbols) × (length nodes ≡ node_count) × (length sizes ≡ node_count)
+  pub loaded_fits : {nodes sizes : List ℕ} {n : ℕ} → ((ts : _) → TermsIn sheet arities from end ts → Loaded arities nodes sizes ts n)
+      → (length arities ≤ max_symbols) × (length nodes ≡ node_count) × (length sizes ≡ node_count)
   loaded_fits load = let l = load (cons subject nil) terms_taken in (l.few_symbols, l.nodes_length, l.sizes_length)
 
   pub run_is : (fits : Bool) (table next loaded_nodes loaded_sizes nodes sizes : List ℕ) (n : ℕ) → LinesReady fits bounds table es
       → NextReady fits table next
-      → ((ts : _) → TermsIn sheet (taken_arities known) from end ts → Loaded (taken_arities known) loaded_nodes loaded_sizes ts n)
-      → ((s : Term) (n : ℕ) → Loaded (taken_arities known) loaded_nodes loaded_sizes (cons s nil) n → SubjectIs nodes sizes (taken_arities known) s)
-      → RunIs equations lengths rule_count bounds next fits table nodes sizes n (taken_arities known) es subject
+      → ((ts : _) → TermsIn sheet arities from end ts → Loaded arities loaded_nodes loaded_sizes ts n)
+      → ((s : Term) (n : ℕ) → Loaded arities loaded_nodes loaded_sizes (cons s nil) n → SubjectIs nodes sizes arities s)
+      → RunIs equations lengths rule_count bounds next fits table nodes sizes n arities es subject
   run_is fits table next loaded_nodes loaded_sizes nodes sizes n r h load fill =
       let l = load (cons subject nil) terms_taken in
       record {
@@ -98,18 +89,18 @@ module _ {sheet : List ℕ} {known : Known} {from end : ℕ} {equations lengths 
         size_is = loaded_size l;
       }
 
-  pub course_known : {k : ℕ} {term term_after log log_after : List ℕ} {c : Course} → RunCourse (taken_arities known) es k subject term term_after log log_after c
+  pub course_known : {k : ℕ} {term term_after log log_after : List ℕ} {c : Course} → RunCourse arities es k subject term term_after log log_after c
       → RunCourse (known_arities known) es k subject term term_after log log_after c
   course_known {k} {term} {term_after} {log} {log_after} {c} = subst (λ a. RunCourse a es k subject term term_after log log_after c) (sym arities_are)
 
 -- 2. What the run gives.
 
--- The nodes from the subject's first on, the filling's among them.
-abbrev subject_room : ℕ
-subject_room = node_count - position_count
-
 module _ {es : List Equation} {k : ℕ} {subject : Term} {arities log log_after : List ℕ} {c : Course}
     (i : CourseIs arities es k subject log log_after c) where
+  -- The nodes from the subject's first on, the filling's among them.
+  abbrev subject_room : ℕ
+  subject_room = length c.nodes - position_count
+
   pub course_small : c.size ≤ max_task_nodes
   course_small = omega (arith, i.size_is, i.last_is.inside)
 
@@ -125,7 +116,7 @@ module _ {es : List Equation} {k : ℕ} {subject : Term} {arities log log_after 
   last_bytes : take c.size (take subject_room (drop position_count c.nodes)) ≡ prefix (last_of arities es k subject)
   last_bytes =
       let there = i.last_is.stored.stored.bytes in
-      take-take c.size subject_room (drop position_count c.nodes) (omega (arith, course_small))
+      take-take c.size subject_room (drop position_count c.nodes) (omega (arith, course_small, i.last_is.nodes_length))
       ∙ ap (take c.size) there.is
       ∙ take_at (prefix (last_of arities es k subject)) there.rest c.size (length_prefix (last_of arities es k subject) ∙ sym i.size_is)
 

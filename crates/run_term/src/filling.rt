@@ -12,14 +12,10 @@ use format::limits::Limits;
 fn lowest_constant(arities: &[u8]) -> usize
     ensures { result ≡ lowest_constant arities.now }
 {
-    let mut symbol = 0;
-    while symbol < arities.len() {
-        if arities[symbol] == 0 {
-            return symbol;
-        }
-        symbol = symbol + 1;
-    }
-    symbol
+    arities
+        .iter()
+        .position(|a| *a == 0)
+        .unwrap_or(arities.len())
 }
 
 // A term that is loaded becomes the subject: the filling is put behind it.

@@ -15,9 +15,9 @@ use format::copy::copy_front;
 use format::limits::Limits;
 use outcomes::number::fields_number;
 use reading::load::load_terms;
-use reducing::ending::number_of_ending;
 use rules::opened::Opened;
 use run_steps::course::{Course, Start, run_steps};
+use scanning::text::Span;
 use step_by_position::next::{NEXT, fill_next};
 
 // The table of next rules, where the search goes by positions.
@@ -39,13 +39,12 @@ fn prepare_next(
     }
 }
 
-// What a run is asked: the opened sheet, the step limit, and the digits of the term, from `from` to `end`.
+// What a run is asked: the opened sheet, the step limit, and the digits of the term.
 #[derive(Clone, Copy)]
 pub struct RunAsked {
     pub opened: Opened,
     pub limit: usize,
-    pub from: usize,
-    pub end: usize,
+    pub digits: Span,
 }
 
 // The run of a term, over rules that all solve: its steps and ending, the last term and the log. Lines that are kept stay.
@@ -60,52 +59,34 @@ pub fn run_course(
     term: &mut [u8],
     log: &mut [u8],
 ) -> Course
-    requires has_run_term { HasRunTerm sheet.now asked.opened.known asked.from asked.end equations.now lengths.now bounds.now asked.opened.fits table.old × (asked.limit ≤ max_steps) }
+    requires has_run_term { HasRunTerm sheet.now asked.opened.known asked.digits.from asked.digits.end equations.now lengths.now bounds.now asked.opened.fits table.old × (asked.limit ≤ max_steps) }
     requires table_bytes_in_bounds { (table_bytes ≤ length table.old) × (scratch_bytes ≤ length scratch.old) × (term_bytes ≤ length term.old) × (log_bytes ≤ length log.old) }
-    ensures run_course { (es : List Equation) (subject : Term) → RunTermIs sheet.now asked.opened.known asked.from asked.end equations.now lengths.now bounds.now es subject → LinesReady asked.opened.fits bounds.now table.old es → RunCourse (known_arities asked.opened.known) es asked.limit subject term.old term.new log.old log.new result }
+    ensures run_course { (es : List Equation) (subject : Term) → RunTermIs sheet.now asked.opened.known asked.digits.from asked.digits.end equations.now lengths.now bounds.now es subject → LinesReady asked.opened.fits bounds.now table.old es → RunCourse (known_arities asked.opened.known) es asked.limit subject term.old term.new log.old log.new result }
     ensures table_unchanged { asked.opened.fits ≡ true → table.new ≡ table.old }
     ensures table_unchanged_2 { drop table_bytes table.new ≡ drop table_bytes table.old }
     ensures scratch_unchanged { drop scratch_bytes scratch.new ≡ drop scratch_bytes scratch.old }
 {
-    let opened = asked.opened;
-    let known = opened.known;
-    let fits = opened.fits;
+    let Opened { known, fits } = asked.opened;
     let rules = known.equations + known.equations;
     let mut next = [0u8; NEXT];
     prepare_next(equations, lengths, rules, bounds, fits, table, &mut next);
     let mut nodes = [0u8; Limits::NODES];
     let mut sizes = [0u8; Limits::NODES];
-    let arities = known.arities;
-    let n = load_terms(
-        sheet,
-        asked.from,
-        asked.end,
-        &arities[..known.symbols],
-        &mut nodes,
-        &mut sizes,
-    );
-    put_filling(&arities[..known.symbols], &mut nodes, &mut sizes);
+    let arities = known.symbol_arities();
+    let size = load_terms(sheet, asked.digits, arities, &mut nodes, &mut sizes);
+    put_filling(arities, &mut nodes, &mut sizes);
     let start = Start {
-        rules: rules,
-        fits: fits,
+        rules,
+        fits,
         limit: asked.limit,
-        size: n,
-        nodes: nodes,
-        sizes: sizes,
+        size,
+        nodes,
+        sizes,
     };
     let course = run_steps(
-        equations,
-        lengths,
-        &arities[..known.symbols],
-        bounds,
-        &next,
-        table,
-        start,
-        scratch,
-        log,
+        equations, lengths, arities, bounds, &next, table, start, scratch, log,
     );
-    let last = course.nodes;
-    copy_front(&last[Limits::SUBJECT..], term, course.size);
+    copy_front(&course.nodes[Limits::SUBJECT..], term, course.size);
     course
 }
 
@@ -114,10 +95,9 @@ pub fn course_number(course: Course) -> u64
     requires { (course.steps ≤ max_steps) × (course.size ≤ max_task_nodes) }
     ensures { result ≡ fields course.steps (ending_number course.ending) course.size }
 {
-    let ending = course.ending;
     fields_number(
         course.steps as u16,
-        number_of_ending(ending) as u16,
+        u16::from(u8::from(course.ending)),
         course.size as u16,
     )
 }

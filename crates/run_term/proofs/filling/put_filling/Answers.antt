@@ -1,4 +1,4 @@
--- `put_filling` meets its contract.
+-- The filling is the lowest constant, a symbol.
 use mathlib.Core.Path.{sym, subst}
 use native.Mathlib.Omega.{arith}
 use lib.ListN.{set}
@@ -10,12 +10,6 @@ use Rattle.run_term.proofs.filling.put_filling.Goals as goal
 pub overflow_cast-nodes : goal.overflow_cast-nodes
 overflow_cast-nodes c =
     omega (arith, c.lowest_constant-constant.ensures, lowest_low c.args.arities.now, c.requires.0)
-
-pub bounds-nodes-224 : goal.bounds-nodes-224
-bounds-nodes-224 c = omega (arith, c.requires.1)
-
-pub bounds-sizes-224 : goal.bounds-sizes-224
-bounds-sizes-224 c = omega (arith, c.requires.2)
 
 pub returns : goal.returns
 returns c =
