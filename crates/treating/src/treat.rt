@@ -9,7 +9,7 @@ ghost use Rattle.treating.specs.ForContracts.Treatment.{Treated};
 
 use bindings::equation::EquationTerms;
 use format::limits::Limits;
-use line_bytes::element::Element;
+use line_bytes::element::{Element, Relation};
 
 // The positions of an element's two sides, or of the terms reached from them.
 #[derive(Clone, Copy)]
@@ -70,8 +70,8 @@ pub fn treatment_of(equation: &EquationTerms, bindings: &[u8], element: Element)
     requires within { Within (length equation.now.nodes.now) (meaning element) }
     ensures { Treated equation.now.nodes.now equation.now.sizes.now bindings.now (meaning element) result }
 {
-    match element {
-        Element::Greater(p, q) => inequality_treatment(equation, bindings, element_sides(p, q)),
-        Element::Equal(p, q) => Treatment::Unify(element_sides(p, q)),
+    match element.relation {
+        Relation::Greater(p, q) => inequality_treatment(equation, bindings, element_sides(p, q)),
+        Relation::Equal(p, q) => Treatment::Unify(element_sides(p, q)),
     }
 }

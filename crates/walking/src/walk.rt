@@ -94,14 +94,15 @@ impl Walk {
         ensures { GoesOn equation.now.nodes.now equation.now.sizes.now memory.new self result }
     {
         let place = self.top * LINE;
-        let Some(others) = unify_positions(equation, &line.bindings, sides.left, sides.right) else {
+        let unifier = unify_positions(equation, &line.bindings, sides.left, sides.right);
+        let Some(()) = unifier.answer else {
             return self.turned(self.top + 1);
         };
         // The bytes at `place` are compared and not `line.bindings`, which they equal: local arrays that are compared the compiler splits into single bytes.
-        let changed = differ(memory, place, &others);
+        let changed = differ(memory, place, &unifier.bindings);
         line.put_without(memory, place, at);
         if changed {
-            rebind(memory, place, &others);
+            rebind(memory, place, &unifier.bindings);
         }
         self.turned(self.top)
     }
