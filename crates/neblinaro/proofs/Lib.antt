@@ -1,5 +1,2 @@
-pub mod Checked
-pub mod CompareCall
-pub mod DirectedCall
-pub mod JudgeCall
-pub mod RunCall
+pub mod LongEnough
+pub mod RefusedEarly

@@ -1,2 +1,3 @@
 pub mod Theory
 pub mod Demands
+pub mod ForContracts

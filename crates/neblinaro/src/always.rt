@@ -3,7 +3,7 @@ ghost use Rattle.std.specs.Prelude.{◌≡◌};
 ghost use Rattle.outcomes.specs.Outcome.{always_call};
 
 use crate::direction::directed_call;
-use solve_task::direction::Call;
+use solve_task::always::Always;
 
 // Yes or no and the turns above the refusal's byte, or a refusal. What is left in the table and in scratch is defined for each.
 pub fn neblinaro_always(
@@ -16,5 +16,5 @@ pub fn neblinaro_always(
     ensures scratch_value { always_call sheet.now equation direction table.old scratch.old ≡ record { returned = result; table = table.new; scratch = scratch.new } }
     ensures unchanged { sheet.exit.now ≡ sheet.entry.now }
 {
-    directed_call(Call::Always, sheet, equation, direction, table, scratch)
+    directed_call::<Always>(sheet, equation, direction, table, scratch)
 }

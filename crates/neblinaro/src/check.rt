@@ -3,17 +3,15 @@ ghost use Rattle.std.specs.Prelude.{◌≡◌};
 ghost use Rattle.outcomes.specs.Outcome.{check_call};
 
 use outcomes::number::refusal_number;
-use reading::read::{SheetStatus, read_sheet};
+use reading::read::read_sheet;
 
 // The refusal and its line, or 0.
 pub fn neblinaro_check(sheet: &[u8]) -> u64
     ensures value { result ≡ check_call sheet.now }
     ensures unchanged { sheet.exit.now ≡ sheet.entry.now }
 {
-    let read = read_sheet(sheet);
-    let status = read.status;
-    match status {
-        SheetStatus::Accepted => 0,
-        SheetStatus::Refused(why, line) => refusal_number(why, line),
+    match read_sheet(sheet) {
+        Ok(_) => 0,
+        Err(refused) => refusal_number(refused.why, refused.line),
     }
 }

@@ -5,6 +5,7 @@ pub mod always;
 pub mod check;
 pub mod compare;
 pub mod direction;
+pub mod entry;
 pub mod judge;
 pub mod run;
 pub mod solve;

@@ -1,12 +1,19 @@
 // Run: the steps of a task's term, its ending and its last term.
 ghost use Rattle.std.specs.Prelude.{◌≡◌};
-ghost use Rattle.outcomes.specs.Outcome.{run_call};
+ghost use Rattle.outcomes.specs.Outcome.{run_fits, run_call};
 
+use crate::entry::{enter, table_fits};
 use format::limits::Limits;
-use format::refusal::Refusal;
 use outcomes::number::refusal_number;
-use reading::read::{SheetStatus, read_sheet};
 use run_task::task::run_task;
+
+// Whether the four lent buffers are long enough.
+fn run_fits(table: &[u8], scratch: &[u8], term: &[u8], log: &[u8]) -> bool
+    ensures { result ≡ run_fits table.now scratch.now term.now log.now }
+{
+    let three_fit = table_fits(table, scratch) && Limits::TERM <= term.len();
+    three_fit && Limits::LOG <= log.len()
+}
 
 // Steps, ending and the bytes of the last term above the refusal's byte, that term and the log of the steps; or a refusal. What is left in each lent buffer is
 // defined for each.
@@ -21,22 +28,9 @@ pub fn neblinaro_run(
     ensures log_value { run_call sheet.now task table.old scratch.old term.old log.old ≡ record { returned = result; table = table.new; scratch = scratch.new; term = term.new; log = log.new } }
     ensures unchanged { sheet.exit.now ≡ sheet.entry.now }
 {
-    if table.len() < Limits::TABLE {
-        return refusal_number(Refusal::ShortBuffer, 0);
-    }
-    if scratch.len() < Limits::SCRATCH {
-        return refusal_number(Refusal::ShortBuffer, 0);
-    }
-    if term.len() < Limits::TERM {
-        return refusal_number(Refusal::ShortBuffer, 0);
-    }
-    if log.len() < Limits::LOG {
-        return refusal_number(Refusal::ShortBuffer, 0);
-    }
-    let read = read_sheet(sheet);
-    let status = read.status;
-    match status {
-        SheetStatus::Accepted => run_task(sheet, read.known, task, table, scratch, term, log),
-        SheetStatus::Refused(why, line) => refusal_number(why, line),
+    let long_enough = run_fits(table, scratch, term, log);
+    match enter(sheet, long_enough) {
+        Ok(known) => run_task(sheet, known, task, table, scratch, term, log),
+        Err(refused) => refusal_number(refused.why, refused.line),
     }
 }

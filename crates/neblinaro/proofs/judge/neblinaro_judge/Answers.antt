@@ -1,24 +1,21 @@
--- `neblinaro_judge` returns the defined outcome for every sheet, task, table and scratch, leaves table and scratch as defined, and the sheet as it is.
-use mathlib.Core.Path.{refl, ◌∙◌}
-use Rattle.neblinaro.proofs.Checked.{refused_line, sheet_accepted}
-use Rattle.neblinaro.proofs.JudgeCall.{table_short, scratch_short, buffers_long, sheet_refused}
+-- `neblinaro_judge` returns the defined outcome for every sheet, task, table and scratch, and leaves table and scratch as defined.
+use mathlib.Core.Path.{sym, ap, ◌∙◌}
+use Rattle.outcomes.specs.Asked.{asked, judgement_task}
+use Rattle.outcomes.specs.Outcome.{judge_answer, judge_call}
+use Rattle.outcomes.specs.Theory.Outcomes.{table_outcome}
+use Rattle.neblinaro.proofs.RefusedEarly.{asked_refused}
+use Rattle.neblinaro.proofs.LongEnough.{table_long}
 use Rattle.neblinaro.proofs.judge.neblinaro_judge.Goals as goal
 
-pub returns-then-table-lt-TABLE : goal.returns-then-table-lt-TABLE
-returns-then-table-lt-TABLE c = record { scratch_value = table_short _ _ _ _ c.if-table-lt-TABLE.true c.refusal_number.ensures; unchanged = refl }
-
-pub returns-then-scratch-lt-SCRATCH : goal.returns-then-scratch-lt-SCRATCH
-returns-then-scratch-lt-SCRATCH c = record { scratch_value = scratch_short _ _ _ _ c.if-table-lt-TABLE.false c.if-scratch-lt-SCRATCH.true c.refusal_number-then-scratch-lt-SCRATCH.ensures; unchanged = refl }
-
 pub judge_task-requires : goal.judge_task-requires
-judge_task-requires c = (sheet_accepted _ _ _ c.read_sheet-read.ensures c.in-Accepted.is, c.if-table-lt-TABLE.false, c.if-scratch-lt-SCRATCH.false)
+judge_task-requires c = let long = table_long c.args.table.now c.args.scratch.now (sym c.table_fits-long_enough.ensures ∙ c.in-Ok.ensures.0) in (c.in-Ok.ensures.1, long.0, long.1)
 
-pub refusal_number-requires-in-Refused : goal.refusal_number-requires-in-Refused
-refusal_number-requires-in-Refused c = refused_line _ _ _ c.read_sheet-read.ensures c.in-Refused.is
+pub returns-in-Ok-clause-scratch_value : goal.returns-in-Ok-clause-scratch_value
+unfolding judge_call
+returns-in-Ok-clause-scratch_value c = ap (λ b. judge_answer c.args.table.now c.args.scratch.now (asked b c.args.sheet.now (judgement_task c.args.task))) (sym c.table_fits-long_enough.ensures ∙ c.in-Ok.ensures.0) ∙ c.judge_task.ensures
 
-pub returns-in-Accepted : goal.returns-in-Accepted
-returns-in-Accepted c =
-    record { scratch_value = buffers_long _ _ _ _ c.if-table-lt-TABLE.false c.if-scratch-lt-SCRATCH.false ∙ c.judge_task.ensures; unchanged = refl }
-
-pub returns-in-Refused : goal.returns-in-Refused
-returns-in-Refused c = record { scratch_value = sheet_refused _ _ _ _ c.if-table-lt-TABLE.false c.if-scratch-lt-SCRATCH.false _ _ c.read_sheet-read.ensures c.in-Refused.is c.refusal_number-in-Refused.ensures; unchanged = refl }
+pub returns-in-Err-clause-scratch_value : goal.returns-in-Err-clause-scratch_value
+unfolding judge_call judge_answer
+returns-in-Err-clause-scratch_value c =
+    ap (λ b. judge_answer c.args.table.now c.args.scratch.now (asked b c.args.sheet.now (judgement_task c.args.task))) (sym c.table_fits-long_enough.ensures) ∙ ap (judge_answer c.args.table.now c.args.scratch.now) (asked_refused (judgement_task c.args.task) _ c.args.sheet.now c.in-Err.ensures.0)
+    ∙ ap (λ n. table_outcome n c.args.table.now c.args.scratch.now) (sym c.refusal_number.ensures)
