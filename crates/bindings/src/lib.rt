@@ -2,6 +2,7 @@
 #![tactic(auto)]
 
 pub mod count;
+pub mod equation;
 pub mod occurs;
 pub mod reach;
 pub mod sets;

@@ -4,7 +4,8 @@ use Prim.Native.Char.{code}
 use Prim.Native.String.{String, [] as empty, ◌∷◌ as ◌then◌}
 use Rattle.std.proofs.Math.Option.{none, some}
 use Rattle.terms.specs.Term.{Term}
-use Rattle.terms.specs.Equation.{Equation, left_right}
+use Rattle.terms.specs.Equation.{Equation}
+use Rattle.terms.specs.declared.direction.Direction.TheVariants.{LeftRight as left_right}
 use Rattle.terms.specs.Prefix.{terms_of}
 use Rattle.ordering.specs.Decision.{decision}
 use Rattle.solving.specs.Walk.{solve}

@@ -9,8 +9,15 @@ use rules::opened::Opened;
 pub enum Place {
     Start,
     Table(usize),
-    Line(usize, usize, usize),
-    Task(usize, usize),
+    Line {
+        rule: usize,
+        line: usize,
+        lines: usize,
+    },
+    Task {
+        task: usize,
+        steps: usize,
+    },
     End,
 }
 
@@ -18,13 +25,7 @@ pub enum Place {
 pub fn is_end(place: Place) -> bool
     ensures { (result ≡ true) ↔ (place ≡ Place.End) }
 {
-    match place {
-        Place::Start => false,
-        Place::Table(_) => false,
-        Place::Line(_, _, _) => false,
-        Place::Task(_, _) => false,
-        Place::End => true,
-    }
+    matches!(place, Place::End)
 }
 
 // The place, and what is known of the sheet.
@@ -34,16 +35,9 @@ pub struct Cursor {
     pub opened: Opened,
 }
 
-// The next place, and how many bytes stand in the buffer.
+// What comes next, and how many bytes stand in the buffer.
 #[derive(Clone, Copy)]
-pub struct Piece {
-    pub place: Place,
-    pub bytes: usize,
-}
-
-// The next cursor, and how many bytes stand in the buffer.
-#[derive(Clone, Copy)]
-pub struct Listed {
-    pub cursor: Cursor,
+pub struct Listed<Next> {
+    pub next: Next,
     pub bytes: usize,
 }

@@ -2,7 +2,7 @@
 use Rattle.std.specs.Prelude.{ℕ, ◌≡◌, refl, true, false}
 use Prim.Native.String.{String}
 use Rattle.format.specs.declared.refusal.Refusal.TheVariants.{TooManyElements as too_many_elements, TooManyLines as too_many_lines}
-use Rattle.terms.specs.Equation.{left_right}
+use Rattle.terms.specs.declared.direction.Direction.TheVariants.{LeftRight as left_right}
 use Rattle.solving.specs.Walk.{Walked, solved, refused, solve}
 use Rattle.solving.specs.Always.{Answered, answered, always}
 use Rattle.cases.specs.Checked.{term}

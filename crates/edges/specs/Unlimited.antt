@@ -2,7 +2,8 @@
 use Rattle.std.specs.Prelude.{ℕ, ◌≡◌, refl, List, [], ◌∷◌, length}
 use Rattle.format.specs.declared.refusal.Refusal.TheVariants.{TooManyLines as too_many_lines}
 use Rattle.terms.specs.Term.{Term, var, app, nil, cons}
-use Rattle.terms.specs.Equation.{Equation, left_right, right_left}
+use Rattle.terms.specs.Equation.{Equation}
+use Rattle.terms.specs.declared.direction.Direction.TheVariants.{LeftRight as left_right, RightLeft as right_left}
 use Rattle.solving.specs.Line.{unbound, greater, line}
 use Rattle.solving.specs.Walk.{Walked, solved, refused, solve}
 use Rattle.termination.specs.Walk.{walk_allowed}

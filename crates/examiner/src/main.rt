@@ -25,9 +25,8 @@ fn read_full<R: Read>(reader: &mut R, buffer: &mut [u8]) -> usize
     let mut done = 0;
     while done < buffer.len() {
         match reader.read(&mut buffer[done..]) {
-            Ok(0) => return done,
+            Ok(0) | Err(_) => return done,
             Ok(n) => done += n,
-            Err(_) => return done,
         }
     }
     done
@@ -47,9 +46,9 @@ fn print_listing<W: Write>(input: &[u8], writer: &mut W) {
     };
     let mut cursor = Cursor {
         place: Place::Start,
-        opened: opened,
+        opened,
     };
-    loop {
+    while !is_end(cursor.place) {
         let listed = next_piece(
             input,
             cursor,
@@ -60,15 +59,10 @@ fn print_listing<W: Write>(input: &[u8], writer: &mut W) {
             &mut scratch,
             &mut out,
         );
-        let bytes = listed.bytes;
-        if writer.write_all(&out[..bytes]).is_err() {
+        if writer.write_all(&out[..listed.bytes]).is_err() {
             return;
         }
-        cursor = listed.cursor;
-        let place = cursor.place;
-        if is_end(place) {
-            return;
-        }
+        cursor = listed.next;
     }
 }
 

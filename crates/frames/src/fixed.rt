@@ -1,6 +1,8 @@
-// Frames of a fixed number of bytes. Each is appended to what stands first in a buffer: `at` bytes stand there before, and the number that is given stands there after.
-ghost use Rattle.std.specs.Prelude.{◌≡◌, [], ◌∷◌, ◌+◌, ◌*◌, ◌/◌, ◌%◌, ◌≤◌, ◌<◌, length};
+// Frames of a fixed number of bytes. Each is appended to what stands first in a buffer: `at` bytes stand there before, and the number that is given stands there after. The buffer
+// is lent by the caller and there is no heap, so that it and the count stay beside one another.
+ghost use Rattle.std.specs.Prelude.{◌≡◌, ℕ, [], ◌∷◌, ◌+◌, ◌*◌, ◌/◌, ◌%◌, ◌≤◌, ◌<◌, length};
 ghost use Rattle.format.specs.Limits.{max_text, max_equations, max_lines, max_tasks, max_steps};
+ghost use Rattle.solving.specs.ForContracts.Told.{LineTold};
 ghost use Rattle.listing.specs.Listing.{printed, two_bytes, refusal_frame, table_kind, judgement_frame, comparison_frame, total_kind};
 ghost use Rattle.listing.specs.ForContracts.Appended.{Appended};
 ghost use Rattle.frames.specs.ForContracts.Room.{refusal_room, table_room, judgement_room, comparison_room, total_room};
@@ -48,16 +50,15 @@ pub fn put_table(rule: usize, lines: usize, turns: u16, out: &mut [u8], at: usiz
 }
 
 // "judgement, '15', yes 01 or no 00, holding line or 00"
-pub fn put_judgement(holding: usize, out: &mut [u8], at: usize) -> usize
-    requires { (holding ≤ max_lines) × (at + judgement_room ≤ length out.old) }
-    ensures { Appended out.old at (printed (judgement_frame holding ∷ [])) out.new result }
+pub fn put_judgement(holding: Option<usize>, out: &mut [u8], at: usize) -> usize
+    requires { ((n : ℕ) × LineTold holding n × (n ≤ max_lines)) × (at + judgement_room ≤ length out.old) }
+    ensures { (n : ℕ) → LineTold holding n → Appended out.old at (printed (judgement_frame n ∷ [])) out.new result }
 {
-    if holding == 0 {
-        let no = [PrintedKind::Judgement as u8, 0, 0];
-        return put_frame(&no, out, at);
-    }
-    let yes = [PrintedKind::Judgement as u8, 1, holding as u8];
-    put_frame(&yes, out, at)
+    let frame = match holding {
+        None => [PrintedKind::Judgement as u8, 0, 0],
+        Some(line) => [PrintedKind::Judgement as u8, 1, line as u8],
+    };
+    put_frame(&frame, out, at)
 }
 
 // "comparison, '16', 00 smaller, 01 equal, 02 greater", and the clause, "01, 02, 03, or 00 for equal"
@@ -66,7 +67,11 @@ pub fn put_comparison(decision: Decision, out: &mut [u8], at: usize) -> usize
     ensures { Appended out.old at (printed (comparison_frame decision ∷ [])) out.new result }
 {
     let verdict = u8::from(decision.verdict());
-    let frame = [PrintedKind::Comparison as u8, verdict, decision.clause_number()];
+    let frame = [
+        PrintedKind::Comparison as u8,
+        verdict,
+        decision.clause_number(),
+    ];
     put_frame(&frame, out, at)
 }
 

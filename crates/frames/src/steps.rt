@@ -36,11 +36,7 @@ pub fn put_run(ending: Ending, steps: usize, term: &[u8], out: &mut [u8], at: us
     requires { (steps ≤ max_steps) × (length term.now ≤ max_task_nodes) × (at + run_room ≤ length out.old) }
     ensures { Appended out.old at (printed ((run_kind ∷ ending_number ending ∷ steps ∷ term.now) ∷ [])) out.new result }
 {
-    let head = [
-        PrintedKind::Run as u8,
-        u8::from(ending),
-        steps as u8,
-    ];
+    let head = [PrintedKind::Run as u8, u8::from(ending), steps as u8];
     let to = put_bytes(&head, out, at);
     put_frame(term, out, to)
 }

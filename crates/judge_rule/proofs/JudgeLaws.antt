@@ -9,7 +9,8 @@ use lib.ListN.{length, drop}
 use Rattle.format.specs.Limits.{table_bytes}
 use Rattle.format.specs.Lists.{entry}
 use Rattle.format.specs.declared.refusal.Refusal.{Refusal}
-use Rattle.terms.specs.Equation.{Equation, Direction}
+use Rattle.terms.specs.Equation.{Equation}
+use Rattle.terms.specs.declared.direction.Direction.{Direction}
 use Rattle.solving.specs.Line.{Line}
 use Rattle.solving.specs.Walk.{solve}
 use Rattle.walking.specs.ForContracts.Walking.{memory_bytes}

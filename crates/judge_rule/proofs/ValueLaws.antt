@@ -11,7 +11,8 @@ use Rattle.format.specs.Limits.{variable_count, position_count, node_count, cell
 use Rattle.terms.specs.Term.{Term, Terms, var, app, nil, cons, size, sizes, count, nth, Grounds}
 use Rattle.terms.specs.Position.{subterms, subterms_of}
 use Rattle.terms.specs.Prefix.{prefix, prefixes, equation_bytes}
-use Rattle.terms.specs.Equation.{Equation, Direction, value}
+use Rattle.terms.specs.Equation.{Equation, value}
+use Rattle.terms.specs.declared.direction.Direction.{Direction}
 use Rattle.terms.specs.ForContracts.Stored.{PartAt, GroundStored, AllSymbols}
 use Rattle.terms.specs.Theory.Append.{append, append_first, sizes_append, count_append}
 use Rattle.terms.specs.Theory.Position.{length_subterms, size_pos}

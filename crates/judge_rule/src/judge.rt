@@ -2,7 +2,8 @@
 ghost use Rattle.std.specs.Prelude.{◌≡◌, List, ℕ, ◌+◌, ◌≤◌, length, drop, replicate};
 ghost use Rattle.format.specs.Limits.{variable_count, position_count, table_bytes, cell_count};
 ghost use Rattle.terms.specs.Term.{Terms};
-ghost use Rattle.terms.specs.Equation.{Equation, Direction, value};
+ghost use Rattle.terms.specs.Equation.{Equation, value};
+ghost use Rattle.terms.specs.declared.direction.Direction.{Direction};
 ghost use Rattle.solving.specs.Line.{Line};
 ghost use Rattle.solving.specs.Judge.{first_holding};
 ghost use Rattle.solving.specs.ForContracts.Told.{LineTold};

@@ -13,7 +13,8 @@ use Rattle.format.specs.declared.refusal.Refusal.TheVariants.{AbsentArgument as 
 use Rattle.format.specs.Theory.Lists.{entry_none, every_entry}
 use Rattle.format.specs.Theory.Behind.{behind_more}
 use Rattle.terms.specs.Term.{Terms, count, Grounds}
-use Rattle.terms.specs.Equation.{Equation, Direction}
+use Rattle.terms.specs.Equation.{Equation}
+use Rattle.terms.specs.declared.direction.Direction.{Direction}
 use Rattle.scanning.specs.declared.known.Known.{Known}
 use Rattle.scanning.specs.ForContracts.Scan.{known_arities}
 use Rattle.scanning.specs.ForContracts.Known.{Roomy}

@@ -2,7 +2,8 @@
 ghost use Rattle.std.specs.Prelude.{◌≡◌, true, List, ℕ, ◌≤◌, length, drop};
 ghost use Rattle.format.specs.Limits.{table_bytes, scratch_bytes};
 ghost use Rattle.terms.specs.Term.{Terms};
-ghost use Rattle.terms.specs.Equation.{Equation, Direction};
+ghost use Rattle.terms.specs.Equation.{Equation};
+ghost use Rattle.terms.specs.declared.direction.Direction.{Direction};
 ghost use Rattle.reading.specs.ForContracts.Seek.{Accepts};
 ghost use Rattle.outcomes.specs.Asked.{asked, judgement_task};
 ghost use Rattle.outcomes.specs.Outcome.{judge_answer};

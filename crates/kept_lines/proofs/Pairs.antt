@@ -12,7 +12,7 @@ use Rattle.terms.specs.Term.{Term, Values}
 use Rattle.path_order.specs.Order.{◌≻◌}
 use Rattle.solving.specs.Line.{Element, equal, greater, element_bytes}
 use Rattle.solving.specs.Holds.{ElementsHold}
-use Rattle.line_bytes.specs.declared.element.Element.TheVariants.{Equal, Greater}
+use Rattle.line_bytes.specs.declared.element.Relation.TheVariants.{Equal, Greater}
 use Rattle.line_bytes.specs.declared.element.Element.{Element as Held}
 use Rattle.line_bytes.specs.ForContracts.Resting.{meaning, marked}
 use Rattle.line_bytes.specs.Theory.Element.{marked_greater, says_equal, says_greater}
@@ -88,10 +88,10 @@ module _ {nodes sizes values table : List ℕ} {from end : ℕ} where
         read : meaning e ≡ greater (get_or table i 0) (get_or table (i + 1) 0)
         read = let t = pair_there b in m ∙ marked_greater (get_or table i 0) (get_or table (i + 1) 0) (omega (arith, t.position))
 
-        pub no_equality : {p q : ℕ} → ¬ (e ≡ Equal p q)
+        pub no_equality : {p q : ℕ} → ¬ (e.relation ≡ Equal p q)
         no_equality {p} {q} r = let x = says_equal e p q r in let y = read in let z : ◌≡◌ {A = ℕ} 0 1 = cc in omega arith
 
-        pub pair_read : {a b p q : ℕ} → e ≡ Greater a b → p ≡ a → q ≡ b → (p ≡ get_or table i 0) × (q ≡ get_or table (i + 1) 0)
+        pub pair_read : {a b p q : ℕ} → e.relation ≡ Greater a b → p ≡ a → q ≡ b → (p ≡ get_or table i 0) × (q ≡ get_or table (i + 1) 0)
         pair_read {a} {b} r x y = let u = says_greater e a b r in let v = read in (cc, cc)
 
       module _ {p q : ℕ} (x : (p ≡ get_or table i 0) × (q ≡ get_or table (i + 1) 0)) where

@@ -16,7 +16,7 @@ use cells::nodes::resolve;
 use clauses::compare::compare;
 use comparing::comparison::Compared;
 use format::limits::Limits;
-use line_bytes::element::{Element, element_at};
+use line_bytes::element::{Relation, element_at};
 use line_bytes::layout::FIRST_ELEMENT;
 use ordering::decision::Decision;
 
@@ -110,7 +110,7 @@ fn elements_hold(
     ensures settled_cells_2 { SettledCells compared.now.nodes.now compared.now.sizes.now compared.now.values.now ready.new cells.new }
 {
     for i in (from..end).step_by(2) {
-        let Element::Greater(p, q) = element_at(table, i) else {
+        let Relation::Greater(p, q) = element_at(table, i).relation else {
             return false;
         };
         if !inequality_holds(compared, ready, cells, usize::from(p), usize::from(q)) {

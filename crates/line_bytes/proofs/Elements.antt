@@ -6,7 +6,7 @@ use native.Mathlib.Omega.{arith}
 use lib.ListN.{length, get_or, set, take, drop, take-append-drop}
 use lib.Seq.{length-take-le, drop-cons}
 use Rattle.solving.specs.Line.{equal}
-use Rattle.line_bytes.specs.declared.element.Element.TheVariants.{Equal, Greater}
+use Rattle.line_bytes.specs.declared.element.Relation.TheVariants.{Equal, Greater}
 use Rattle.line_bytes.specs.declared.element.Element.{Element as Held}
 use Rattle.line_bytes.specs.ForContracts.Layout.{placed}
 use Rattle.line_bytes.specs.ForContracts.Resting.{meaning, equality_mark, marks, Markable}
@@ -25,15 +25,15 @@ set_placed_two l at a b h =
 
 -- An element's two bytes.
 module _ (l after : List ℕ) (at : ℕ) (e : Held) (p q : ℕ) (h : at + 2 ≤ length l) where
-  pub equality_low : e ≡ Equal p q → Markable (meaning e ∷ []) → p < equality_mark
+  pub equality_low : e.relation ≡ Equal p q → Markable (meaning e ∷ []) → p < equality_mark
   equality_low d m = let n : Markable (equal p q ∷ []) = rw (says_equal e p q d) at m in n.0
 
-  pub equality_put : e ≡ Equal p q → after ≡ set (set l at (p + equality_mark)) (at + 1) q → after ≡ placed at (marks (meaning e ∷ [])) l
+  pub equality_put : e.relation ≡ Equal p q → after ≡ set (set l at (p + equality_mark)) (at + 1) q → after ≡ placed at (marks (meaning e ∷ [])) l
   unfolding marks
   equality_put d f =
       let c : p + equality_mark ≡ equality_mark + p = omega arith in
       f ∙ (set_placed_two l at (p + equality_mark) q h ∙ (ap (λ x. placed at (x ∷ q ∷ []) l) c ∙ ap (λ x. placed at (marks (x ∷ [])) l) (sym (says_equal e p q d))))
 
-  pub inequality_put : e ≡ Greater p q → after ≡ set (set l at p) (at + 1) q → after ≡ placed at (marks (meaning e ∷ [])) l
+  pub inequality_put : e.relation ≡ Greater p q → after ≡ set (set l at p) (at + 1) q → after ≡ placed at (marks (meaning e ∷ [])) l
   unfolding marks
   inequality_put d f = f ∙ (set_placed_two l at p q h ∙ ap (λ x. placed at (marks (x ∷ [])) l) (sym (says_greater e p q d)))

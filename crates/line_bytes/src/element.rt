@@ -7,9 +7,14 @@ use crate::edit::put;
 
 // An inequality or an equality, each between two positions.
 #[derive(Clone, Copy)]
-pub enum Element {
+pub enum Relation {
     Greater(u8, u8),
     Equal(u8, u8),
+}
+
+#[derive(Clone, Copy)]
+pub struct Element {
+    pub relation: Relation,
 }
 
 // Marks the first position of an equality. Positions are below it.
@@ -22,10 +27,12 @@ pub fn element_at(bytes: &[u8], at: usize) -> Element
 {
     let first = bytes[at];
     let second = bytes[at + 1];
-    if first < EQUALITY {
-        return Element::Greater(first, second);
-    }
-    Element::Equal(first - EQUALITY, second)
+    let relation = if first < EQUALITY {
+        Relation::Greater(first, second)
+    } else {
+        Relation::Equal(first - EQUALITY, second)
+    };
+    Element { relation }
 }
 
 // Puts the element's two bytes at `at`.
@@ -33,8 +40,8 @@ pub fn put_element(bytes: &mut [u8], at: usize, element: Element)
     requires { (at + 2 ≤ length bytes.old) × Markable (meaning element ∷ []) }
     ensures { bytes.new ≡ placed at (marks (meaning element ∷ [])) bytes.old }
 {
-    match element {
-        Element::Greater(p, q) => put(bytes, at, p, q),
-        Element::Equal(p, q) => put(bytes, at, p + EQUALITY, q),
+    match element.relation {
+        Relation::Greater(p, q) => put(bytes, at, p, q),
+        Relation::Equal(p, q) => put(bytes, at, p + EQUALITY, q),
     }
 }

@@ -7,7 +7,7 @@ ghost use Rattle.lines.specs.ForContracts.Line.{resting_of, opening_line, elemen
 
 use format::limits::Limits;
 use line_bytes::edit::put;
-use line_bytes::element::{Element, put_element};
+use line_bytes::element::{Element, Relation, put_element};
 use line_bytes::layout::{COUNT, FIRST_ELEMENT, REDUCED};
 use line_bytes::rebind::rebind;
 
@@ -26,11 +26,12 @@ impl Line {
         ensures result_value { resting_of result ≡ opening_line source target }
         ensures writable { Writable result }
     {
+        let relation = Relation::Greater(source, target);
         Line {
             bindings: [Limits::NO_POSITION; Limits::VARIABLES],
             count: 1,
             reduced: 0,
-            elements: [Element::Greater(source, target); Limits::ELEMENTS],
+            elements: [Element { relation }; Limits::ELEMENTS],
         }
     }
 
@@ -39,6 +40,7 @@ impl Line {
         requires { place + line_bytes ≤ length memory.now }
         ensures { HasHead memory.now place result }
     {
+        let relation = Relation::Greater(0, 0);
         let mut bindings = [Limits::NO_POSITION; Limits::VARIABLES];
         // Not `copy_from_slice`, for the reason that `differ` gives.
         for i in 0..Limits::VARIABLES {
@@ -48,7 +50,7 @@ impl Line {
             bindings,
             count: usize::from(memory[place + COUNT]),
             reduced: usize::from(memory[place + REDUCED]),
-            elements: [Element::Greater(0, 0); Limits::ELEMENTS],
+            elements: [Element { relation }; Limits::ELEMENTS],
         }
     }
 

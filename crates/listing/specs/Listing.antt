@@ -8,7 +8,9 @@ use Rattle.format.specs.Refusal.{number}
 use Rattle.format.specs.declared.refusal.Refusal.{Refusal}
 use Rattle.format.specs.Lists.{entry}
 use Rattle.terms.specs.Term.{Term, Values}
-use Rattle.terms.specs.Equation.{Equation, Direction, left_right, right_left, direction_number, term_at}
+use Rattle.terms.specs.Equation.{Equation, direction_number, term_at}
+use Rattle.terms.specs.declared.direction.Direction.{Direction}
+use Rattle.terms.specs.declared.direction.Direction.TheVariants.{LeftRight as left_right, RightLeft as right_left}
 use Rattle.terms.specs.Prefix.{prefix}
 use Rattle.ordering.specs.declared.decision.Decision.{Decision}
 use Rattle.ordering.specs.Verdict.{verdict_number}

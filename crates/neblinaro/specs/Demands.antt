@@ -12,7 +12,8 @@ use Rattle.format.specs.Buffer.{written}
 use Rattle.format.specs.Lists.{entry}
 use Rattle.terms.specs.Term.{Term, Terms, app, nil, count, Ground, Grounds, Values, inst}
 use Rattle.terms.specs.Filling.{lowest_constant, filling}
-use Rattle.terms.specs.Equation.{Equation, Direction, direction_of, source, target, source_position, target_position, view, value}
+use Rattle.terms.specs.Equation.{Equation, direction_of, source, target, source_position, target_position, view, value}
+use Rattle.terms.specs.declared.direction.Direction.{Direction}
 use Rattle.path_order.specs.Order.{◌≻◌}
 use Rattle.path_order.specs.Below.{Below}
 use Rattle.ordering.specs.declared.decision.Clause.TheVariants.{L1 as by_L1, L2 as by_L2, L3 as by_L3}

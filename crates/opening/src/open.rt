@@ -10,44 +10,34 @@ ghost use Rattle.frames.specs.ForContracts.Room.{refusal_room};
 use cursor::place::{Cursor, Listed, Place};
 use format::limits::Limits;
 use frames::fixed::put_refusal;
-use reading::read::{SheetStatus, read_sheet};
+use reading::read::read_sheet;
 use rules::opened::Opened;
 use rules::rows::store_equations;
-use rules::walks::{Walks, keep_rules};
+use rules::walks::keep_rules;
 use scanning::known::Known;
 
 // Nothing is left to print behind a refusal.
-fn refused(known: Known, bytes: usize) -> Listed
-    ensures { result ≡ record { cursor = record { place = Place.End; opened = record { known = known; fits = false } }; bytes = bytes } }
+fn refused(known: Known, bytes: usize) -> Listed<Cursor>
+    ensures { result ≡ record { next = record { place = Place.End; opened = record { known = known; fits = false } }; bytes = bytes } }
 {
-    let opened = Opened {
-        known: known,
-        fits: false,
+    let opened = Opened { known, fits: false };
+    let next = Cursor {
+        place: Place::End,
+        opened,
     };
-    Listed {
-        cursor: Cursor {
-            place: Place::End,
-            opened: opened,
-        },
-        bytes: bytes,
-    }
+    Listed { next, bytes }
 }
 
 // The table of the first rule comes next.
-fn opened(known: Known, fits: bool) -> Listed
-    ensures { result ≡ record { cursor = record { place = Place.Table 0; opened = record { known = known; fits = fits } }; bytes = 0 } }
+fn opened(known: Known, fits: bool) -> Listed<Cursor>
+    ensures { result ≡ record { next = record { place = Place.Table 0; opened = record { known = known; fits = fits } }; bytes = 0 } }
 {
-    let opened = Opened {
-        known: known,
-        fits: fits,
+    let opened = Opened { known, fits };
+    let next = Cursor {
+        place: Place::Table(0),
+        opened,
     };
-    Listed {
-        cursor: Cursor {
-            place: Place::Table(0),
-            opened: opened,
-        },
-        bytes: 0,
-    }
+    Listed { next, bytes: 0 }
 }
 
 // An accepted sheet: its equations are stored, and every direction is walked.
@@ -60,20 +50,19 @@ fn open_accepted(
     table: &mut [u8],
     scratch: &mut [u8],
     out: &mut [u8],
-) -> Listed
+) -> Listed<Cursor>
     requires accepts { Accepts input.now known × (length equations.old ≡ row_bytes) × (length lengths.old ≡ row_bytes) × (length bounds.old ≡ bound_count) }
     requires table_bytes_in_bounds { (table_bytes ≤ length table.old) × (scratch_bytes ≤ length scratch.old) × (refusal_room ≤ length out.old) }
     ensures { Progress input.now Start equations.new lengths.new bounds.new table.new scratch.new out.new result }
 {
     store_equations(input, known, equations, lengths);
-    let walks = keep_rules(equations, lengths, known.equations, bounds, table, scratch);
-    match walks {
-        Walks::Refused(why, equation) => {
-            let bytes = put_refusal(why, equation + Limits::FIRST_EQUATION_LINE, out, 0);
+    match keep_rules(equations, lengths, known.equations, bounds, table, scratch) {
+        Err(stopped) => {
+            let line = stopped.equation + Limits::FIRST_EQUATION_LINE;
+            let bytes = put_refusal(stopped.why, line, out, 0);
             refused(known, bytes)
         }
-        Walks::Full => opened(known, false),
-        Walks::Kept => opened(known, true),
+        Ok(fits) => opened(known, fits),
     }
 }
 
@@ -85,20 +74,18 @@ pub fn open_sheet(
     table: &mut [u8],
     scratch: &mut [u8],
     out: &mut [u8],
-) -> Listed
+) -> Listed<Cursor>
     requires equations_len { (length equations.old ≡ row_bytes) × (length lengths.old ≡ row_bytes) × (length bounds.old ≡ bound_count) }
     requires table_bytes_in_bounds { (table_bytes ≤ length table.old) × (scratch_bytes ≤ length scratch.old) × (refusal_room ≤ length out.old) }
     ensures { Progress input.now Start equations.new lengths.new bounds.new table.new scratch.new out.new result }
 {
-    let read = read_sheet(input);
-    let status = read.status;
-    match status {
-        SheetStatus::Refused(why, line) => {
-            let bytes = put_refusal(why, line, out, 0);
-            refused(read.known, bytes)
+    match read_sheet(input) {
+        Err(refusal) => {
+            let bytes = put_refusal(refusal.why, refusal.line, out, 0);
+            refused(Known::nothing(), bytes)
         }
-        SheetStatus::Accepted => open_accepted(
-            input, read.known, equations, lengths, bounds, table, scratch, out,
+        Ok(known) => open_accepted(
+            input, known, equations, lengths, bounds, table, scratch, out,
         ),
     }
 }

@@ -4,7 +4,8 @@ use Rattle.std.proofs.Math.Option.{Option, none, some}
 use Rattle.format.specs.declared.refusal.Refusal.TheVariants.{ShortBuffer as short_buffer, AbsentArgument as absent_argument}
 use Rattle.format.specs.Lists.{entry}
 use Rattle.terms.specs.Term.{Term, Values}
-use Rattle.terms.specs.Equation.{Equation, Direction, direction_of}
+use Rattle.terms.specs.Equation.{Equation, direction_of}
+use Rattle.terms.specs.declared.direction.Direction.{Direction}
 use Rattle.terms.specs.Filling.{filling}
 use Rattle.sheet.specs.Sheet.{Task, run, judgement, comparison, Sheet}
 use Rattle.sheet.specs.Reading.{Reading, refused_at, accepted, read}

@@ -7,7 +7,7 @@ ghost use Rattle.cursor.specs.ForContracts.Stands.{StandsAt, Progress};
 
 use cursor::place::{Cursor, Listed, Place};
 use opening::open::open_sheet;
-use places::step::{Done, from_line, from_table, from_task};
+use places::step::{from_line, from_table, from_task};
 
 // From a place that is not the end to the next one: what is printed between them stands first in `out`. Between two pieces the equations, the sizes of their terms, the bounds and the lines of all rules, and scratch are kept.
 pub fn next_piece(
@@ -19,32 +19,25 @@ pub fn next_piece(
     table: &mut [u8],
     scratch: &mut [u8],
     out: &mut [u8],
-) -> Listed
+) -> Listed<Cursor>
     requires stands_at { StandsAt input.now cursor.opened.known cursor.opened.fits equations.old lengths.old bounds.old table.old scratch.old cursor.place × (cursor.place ≡ Place.End → ⊥) }
     requires equations_len { (length equations.old ≡ row_bytes) × (length lengths.old ≡ row_bytes) × (length bounds.old ≡ bound_count) }
     requires table_bytes_in_bounds { (table_bytes ≤ length table.old) × (scratch_bytes ≤ length scratch.old) × (line_room ≤ length out.old) }
     ensures { Progress input.now cursor.place equations.new lengths.new bounds.new table.new scratch.new out.new result }
 {
     let opened = cursor.opened;
-    let place = cursor.place;
-    match place {
+    match cursor.place {
         Place::Start => open_sheet(input, equations, lengths, bounds, table, scratch, out),
         Place::Table(rule) => { from_table(input, opened, rule, equations, lengths, scratch, out) }
-        Place::Line(rule, line, count) => from_line(
-            input, opened, rule, line, count, equations, lengths, scratch, out,
+        Place::Line { rule, line, lines } => from_line(
+            input, opened, rule, line, lines, equations, lengths, scratch, out,
         ),
-        Place::Task(task, steps) => {
-            let done = Done {
-                tasks: task,
-                steps: steps,
-            };
-            from_task(
-                input, opened, done, equations, lengths, bounds, table, scratch, out,
-            )
-        }
+        Place::Task { task, steps } => from_task(
+            input, opened, task, steps, equations, lengths, bounds, table, scratch, out,
+        ),
         // Not met: nothing is left to print there.
         Place::End => Listed {
-            cursor: cursor,
+            next: cursor,
             bytes: 0,
         },
     }

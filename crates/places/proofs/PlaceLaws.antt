@@ -24,20 +24,19 @@ use Rattle.listing.specs.ForContracts.Appended.{Appended}
 use Rattle.listing.specs.Theory.Printed.{length_printed_one}
 use Rattle.cursor.specs.declared.place.Place.{Place}
 use Rattle.cursor.specs.declared.place.Place.TheVariants.{Table, Line as LinePlace, Task as TaskPlace, End}
-use Rattle.cursor.specs.declared.place.Piece.{Piece}
+use Rattle.cursor.specs.declared.place.Cursor.{Cursor}
 use Rattle.cursor.specs.declared.place.Listed.{Listed}
 use Rattle.cursor.specs.ForContracts.Rest.{rule_frames, left_frames}
 use Rattle.cursor.specs.ForContracts.Stands.{Ready, LinesThere, under_way, at_end, Progress}
 use Rattle.cursor.specs.Theory.Rest.{task_steps, table_left, some_lines_left, lines_left, tables_left, task_left, total_left}
 use Rattle.cursor.specs.Theory.Gives.{gives_frames, gives_none}
-use Rattle.tables.specs.declared.table.LinesListed.{LinesListed}
 use Rattle.tables.specs.ForContracts.Table.{TableGiven, LinesGiven}
 use Rattle.tables.specs.Theory.Tables.{frames_count}
 use Rattle.tasks.specs.declared.task.TaskListed.{TaskListed}
 use Rattle.tasks.specs.ForContracts.Task.{TaskGiven}
 
-abbrev moved_to : Known → Bool → Place → ℕ → Listed
-moved_to known fits place bytes = record { cursor = record { place = place; opened = record { known = known; fits = fits } }; bytes = bytes }
+abbrev moved_to : Known → Bool → Place → ℕ → Listed Cursor
+moved_to known fits place bytes = record { next = record { place = place; opened = record { known = known; fits = fits } }; bytes = bytes }
 
 -- A rule that is not behind the last one.
 pub table_low : {rule n : ℕ} {m : ℕ} → rule ≤ 2 * n → m ≡ n → (rule ≡ m + m → ⊥) → rule < 2 * n
@@ -59,7 +58,7 @@ module _ {input : List ℕ} {known : Known} {fits : Bool} {equations lengths bou
   pub its_rows : HasRows equations lengths known.equations
   its_rows = record { arities = known_arities known; those = s.equations; are = r.rows; counted = equations_counted }
 
-  module _ {scratch out : List ℕ} {x : Listed} where
+  module _ {scratch out : List ℕ} {x : Listed Cursor} where
     -- 1. From a table.
     pub tables_done : (rule : ℕ) → x ≡ moved_to known fits (TaskPlace 0 0) 0 → rule ≡ known.equations + known.equations → Progress input (Table rule) equations lengths bounds table scratch out x
     tables_done rule e h =
@@ -68,7 +67,7 @@ module _ {input : List ℕ} {known : Known} {fits : Bool} {equations lengths bou
           stands = under_way s r (omega arith, omega arith);
         })
 
-    pub table_done : (rule : ℕ) {before : List ℕ} (p : Piece) → x ≡ moved_to known fits p.place p.bytes → rule < 2 * length s.equations → TableGiven s.equations rule scratch before out p
+    pub table_done : (rule : ℕ) {before : List ℕ} (p : Listed Place) → x ≡ moved_to known fits p.next p.bytes → rule < 2 * length s.equations → TableGiven s.equations rule scratch before out p
         → Progress input (Table rule) equations lengths bounds table scratch out x
     table_done rule p e h g =
         let y : x ≡ moved_to known fits (LinePlace rule 0 g.lines) p.bytes = e ∙ ap (λ q. moved_to known fits q p.bytes) g.next in
@@ -90,13 +89,13 @@ module _ {input : List ℕ} {known : Known} {fits : Bool} {equations lengths bou
           stands = under_way s r (omega (arith, l.low));
         })
 
-    pub some_lines_done : (rule line lines : ℕ) {before : List ℕ} (p : LinesListed) → x ≡ moved_to known fits (LinePlace rule p.line lines) p.bytes → LinesThere s.equations rule lines scratch
+    pub some_lines_done : (rule line lines : ℕ) {before : List ℕ} (p : Listed ℕ) → x ≡ moved_to known fits (LinePlace rule p.next lines) p.bytes → LinesThere s.equations rule lines scratch
         → LinesGiven s.equations rule line lines before out p → Progress input (LinePlace rule line lines) equations lengths bounds table scratch out x
     some_lines_done rule line lines p e l g =
         subst (Progress input (LinePlace rule line lines) equations lengths bounds table scratch out) (sym e) (record {
           gives =
-              gives_frames s r.reads tt tt (take (p.line - line) (drop (suc line) (rule_frames 0 s.equations rule)))
-              (some_lines_left s rule line p.line lines (omega (arith, g.some)))
+              gives_frames s r.reads tt tt (take (p.next - line) (drop (suc line) (rule_frames 0 s.equations rule)))
+              (some_lines_left s rule line p.next lines (omega (arith, g.some)))
               g.appended g.within (omega (arith, g.some, g.not_more, l.few));
           stands = under_way s r (l, g.not_more);
         })
@@ -132,7 +131,7 @@ module _ {input : List ℕ} {known : Known} {fits : Bool} {equations lengths bou
   pub steps_low : p.steps ≤ max_steps
   steps_low = its_frames.few_steps
 
-  pub task_done : {table' scratch : List ℕ} {x : Listed} (steps : ℕ) → ((es : List Equation) → EverySolves es → LinesReady fits bounds table es → LinesReady fits bounds table' es)
+  pub task_done : {table' scratch : List ℕ} {x : Listed Cursor} (steps : ℕ) → ((es : List Equation) → EverySolves es → LinesReady fits bounds table es → LinesReady fits bounds table' es)
       → x ≡ moved_to known fits (TaskPlace (task + 1) (steps + p.steps)) p.bytes → steps ≤ max_steps * task
       → Progress input (TaskPlace task steps) equations lengths bounds table' scratch out x
   task_done {table'} {scratch} steps stay e h =

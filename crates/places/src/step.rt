@@ -13,16 +13,11 @@ use tables::table::{list_lines, list_table};
 use tasks::task::list_task;
 
 // The cursor at another place, and how many bytes stand in the buffer.
-fn moved(opened: Opened, place: Place, bytes: usize) -> Listed
-    ensures { result ≡ record { cursor = record { place = place; opened = opened }; bytes = bytes } }
+fn moved(opened: Opened, place: Place, bytes: usize) -> Listed<Cursor>
+    ensures { result ≡ record { next = record { place = place; opened = opened }; bytes = bytes } }
 {
-    Listed {
-        cursor: Cursor {
-            place: place,
-            opened: opened,
-        },
-        bytes: bytes,
-    }
+    let next = Cursor { place, opened };
+    Listed { next, bytes }
 }
 
 // The table of a rule, or the first task behind the last rule.
@@ -34,18 +29,17 @@ pub fn from_table(
     lengths: &[u8],
     scratch: &mut [u8],
     out: &mut [u8],
-) -> Listed
+) -> Listed<Cursor>
     requires has_place { HasPlace input.now opened.known opened.fits equations.now lengths.now scratch.old (Place.Table rule) }
     requires scratch_bytes_in_bounds { (scratch_bytes ≤ length scratch.old) × (line_room ≤ length out.old) }
     ensures { (bounds table : List ℕ) (s : Sheet) → Ready input.now opened.known opened.fits equations.now lengths.now bounds table s → AtPlace s scratch.old (Place.Table rule) → Progress input.now (Place.Table rule) equations.now lengths.now bounds table scratch.new out.new result }
 {
     let known = opened.known;
     if rule == known.equations + known.equations {
-        return moved(opened, Place::Task(0, 0), 0);
+        return moved(opened, Place::Task { task: 0, steps: 0 }, 0);
     }
-    let piece = list_table(rule, equations, lengths, scratch, out);
-    let place = piece.place;
-    moved(opened, place, piece.bytes)
+    let listed = list_table(rule, equations, lengths, scratch, out);
+    moved(opened, listed.next, listed.bytes)
 }
 
 // Lines of a rule, or the table of the next rule behind the last line.
@@ -59,7 +53,7 @@ pub fn from_line(
     lengths: &[u8],
     scratch: &[u8],
     out: &mut [u8],
-) -> Listed
+) -> Listed<Cursor>
     requires has_place { HasPlace input.now opened.known opened.fits equations.now lengths.now scratch.now (Place.Line rule line lines) }
     requires line_room_in_bounds { line_room ≤ length out.old }
     ensures { (bounds table : List ℕ) (s : Sheet) → Ready input.now opened.known opened.fits equations.now lengths.now bounds table s → AtPlace s scratch.now (Place.Line rule line lines) → Progress input.now (Place.Line rule line lines) equations.now lengths.now bounds table scratch.now out.new result }
@@ -68,45 +62,41 @@ pub fn from_line(
         return moved(opened, Place::Table(rule + 1), 0);
     }
     let listed = list_lines(rule, line, lines, equations, lengths, scratch, out);
-    moved(opened, Place::Line(rule, listed.line, lines), listed.bytes)
-}
-
-// The tasks that are printed, and the steps of their runs.
-#[derive(Clone, Copy)]
-pub struct Done {
-    pub tasks: usize,
-    pub steps: usize,
+    let next = Place::Line {
+        rule,
+        line: listed.next,
+        lines,
+    };
+    moved(opened, next, listed.bytes)
 }
 
 // A task, or the last frame behind the last task.
 pub fn from_task(
     input: &[u8],
     opened: Opened,
-    done: Done,
+    task: usize,
+    steps: usize,
     equations: &[u8],
     lengths: &[u8],
     bounds: &[usize],
     table: &mut [u8],
     scratch: &mut [u8],
     out: &mut [u8],
-) -> Listed
-    requires ready { (s : Sheet) × Ready input.now opened.known opened.fits equations.now lengths.now bounds.now table.old s × AtPlace s scratch.old (Place.Task done.tasks done.steps) }
+) -> Listed<Cursor>
+    requires ready { (s : Sheet) × Ready input.now opened.known opened.fits equations.now lengths.now bounds.now table.old s × AtPlace s scratch.old (Place.Task task steps) }
     requires table_bytes_in_bounds { (table_bytes ≤ length table.old) × (scratch_bytes ≤ length scratch.old) × (line_room ≤ length out.old) }
-    ensures { Progress input.now (Place.Task done.tasks done.steps) equations.now lengths.now bounds.now table.new scratch.new out.new result }
+    ensures { Progress input.now (Place.Task task steps) equations.now lengths.now bounds.now table.new scratch.new out.new result }
 {
-    let known = opened.known;
-    let task = done.tasks;
-    let steps = done.steps;
-    if task == known.tasks {
+    if task == opened.known.tasks {
         let bytes = put_total(steps, out, 0);
         return moved(opened, Place::End, bytes);
     }
     let listed = list_task(
         input, opened, task, equations, lengths, bounds, table, scratch, out,
     );
-    moved(
-        opened,
-        Place::Task(task + 1, steps + listed.steps),
-        listed.bytes,
-    )
+    let next = Place::Task {
+        task: task + 1,
+        steps: steps + listed.steps,
+    };
+    moved(opened, next, listed.bytes)
 }

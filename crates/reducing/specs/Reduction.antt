@@ -4,7 +4,8 @@ use Rattle.std.proofs.Math.Option.{some}
 use Rattle.format.specs.Lists.{entry}
 use Rattle.terms.specs.Term.{Term, var, size, Values, inst}
 use Rattle.terms.specs.Position.{subterms, replace}
-use Rattle.terms.specs.Equation.{Equation, Direction, source, target}
+use Rattle.terms.specs.Equation.{Equation, source, target}
+use Rattle.terms.specs.declared.direction.Direction.{Direction}
 use Rattle.path_order.specs.Order.{◌≻◌}
 use Rattle.reducing.specs.Match.{has_variable}
 use Rattle.reducing.specs.Run.{Step}

@@ -7,7 +7,9 @@ use mathlib.Core.List.{List, [], ◌∷◌}
 use Rattle.format.specs.Limits.{variable_count, max_task_nodes}
 use Rattle.terms.specs.Term.{Term, size, Values, inst}
 use Rattle.terms.specs.Position.{subterms, replace}
-use Rattle.terms.specs.Equation.{Equation, Direction, left_right, right_left, source, target}
+use Rattle.terms.specs.Equation.{Equation, source, target}
+use Rattle.terms.specs.declared.direction.Direction.{Direction}
+use Rattle.terms.specs.declared.direction.Direction.TheVariants.{LeftRight as left_right, RightLeft as right_left}
 use Rattle.path_order.specs.Order.{◌≻◌}
 pub use Rattle.reducing.specs.declared.ending.Ending.{Ending}
 pub use Rattle.reducing.specs.declared.ending.Ending.TheVariants.{NoneFound as none_found, LimitReached as limit_reached, ResultTooLarge as result_too_large}

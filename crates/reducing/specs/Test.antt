@@ -4,7 +4,8 @@ use Rattle.std.proofs.Math.Dec.{ltb}
 use Rattle.format.specs.Limits.{variable_count}
 use Rattle.format.specs.Lists.{Every}
 use Rattle.terms.specs.Term.{Term, Terms, var, nth, Values, inst}
-use Rattle.terms.specs.Equation.{Equation, Direction, source, target, value}
+use Rattle.terms.specs.Equation.{Equation, source, target, value}
+use Rattle.terms.specs.declared.direction.Direction.{Direction}
 use Rattle.ordering.specs.Theory.Decide.{exceeds?}
 use Rattle.solving.specs.Walk.{Walked, solved, refused, solve_with, solve, Solves}
 use Rattle.solving.specs.Judge.{first_holding}

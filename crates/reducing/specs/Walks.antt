@@ -4,7 +4,8 @@ use Rattle.std.proofs.Math.Option.{Option, none, some}
 use mathlib.Core.List.{List, [], ◌∷◌}
 use Rattle.format.specs.Limits.{variable_count, first_equation_line}
 use Rattle.format.specs.declared.refusal.Refusal.{Refusal}
-use Rattle.terms.specs.Equation.{Equation, left_right, right_left}
+use Rattle.terms.specs.Equation.{Equation}
+use Rattle.terms.specs.declared.direction.Direction.TheVariants.{LeftRight as left_right, RightLeft as right_left}
 use Rattle.solving.specs.Walk.{solved, refused, solve_with, solve}
 
 -- 8 to 10: "The line is the equation's."

@@ -1,6 +1,6 @@
 -- The walk of a rule over its equation's row, and the lines that are kept of it.
 use Prim.Native.Nat.{ℕ, ◌+◌, ◌*◌, ◌%◌, ◌≤◌}
-use mathlib.Core.Path.{◌≡◌, refl, ap, subst, ◌∙◌}
+use mathlib.Core.Path.{◌≡◌, refl, sym, ap, subst, ◌∙◌}
 use mathlib.Core.Option.{some}
 use mathlib.Core.List.{List, ◌++◌}
 use native.Mathlib.Omega.{arith}
@@ -9,7 +9,9 @@ use lib.Seq.{take-append-le}
 use lib.Dec.{ltb}
 use Rattle.format.specs.Limits.{record_bytes, table_bytes}
 use Rattle.terms.specs.Term.{Values}
-use Rattle.terms.specs.Equation.{Equation, Direction, left_right, right_left, direction_number, direction_of, value}
+use Rattle.terms.specs.Equation.{Equation, direction_number, direction_of, value}
+use Rattle.terms.specs.declared.direction.Direction.{Direction}
+use Rattle.terms.specs.declared.direction.Direction.TheVariants.{LeftRight as left_right, RightLeft as right_left}
 use Rattle.terms.specs.ForContracts.Limits.{WithinLimits}
 use Rattle.solving.specs.Line.{Line}
 use Rattle.solving.specs.Walk.{Walked, solve, Solves, refused}
@@ -28,15 +30,15 @@ use Rattle.rules.specs.Theory.Proper.{walked_proper}
 use Rattle.rules.specs.Theory.Kept.{ends, full_kept, records_there, solves, walked_lines}
 use Rattle.rules.specs.ForContracts.Walks.{RuleKeptAs}
 
--- 1. The walk is given the equation's bytes and sizes, and the direction's number.
+-- 1. The walk is given the equation's bytes and sizes, and the rule's direction.
 numbered_direction : (n i : ℕ) (d : Direction) → n ≡ 2 * i + direction_number d → direction_of (n % 2) ≡ some d
 unfolding direction_number direction_of
 numbered_direction n i left_right h = let x : n % 2 ≡ 0 = omega arith in ap direction_of x
 numbered_direction n i right_left h = let x : n % 2 ≡ 1 = omega arith in ap direction_of x
 
 module _ {equations lengths arities : List ℕ} {rule i : ℕ} {e : Equation} {d : Direction} (is : RuleIs equations lengths arities rule i e d) where
-  pub rule_direction : direction_of (rule % 2) ≡ some d
-  rule_direction = numbered_direction rule i d is.number
+  pub rule_direction : {o : Direction} → direction_of (rule % 2) ≡ some o → o ≡ d
+  rule_direction {o} x = let y : some o ≡ some d = sym x ∙ numbered_direction rule i d is.number in cc
 
 -- The records stand first in a longer memory too.
 pub leaves_longer : {w : Walked} {memory : List ℕ} {told : Result Solved Refusal} → Leaves w memory told → (behind : List ℕ) → length memory ≡ memory_bytes → Leaves w (memory ++ behind) told

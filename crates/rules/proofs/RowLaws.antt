@@ -8,7 +8,9 @@ use Rattle.format.specs.Limits.{position_count}
 use Rattle.terms.specs.Term.{size}
 use Rattle.terms.specs.Position.{subterms}
 use Rattle.terms.specs.Prefix.{prefix, equation_bytes}
-use Rattle.terms.specs.Equation.{Equation, Direction, left_right, right_left, direction_number, source, target}
+use Rattle.terms.specs.Equation.{Equation, direction_number, source, target}
+use Rattle.terms.specs.declared.direction.Direction.{Direction}
+use Rattle.terms.specs.declared.direction.Direction.TheVariants.{LeftRight as left_right, RightLeft as right_left}
 use Rattle.terms.specs.declared.arguments.Arguments.{Arguments}
 use Rattle.terms.specs.ForContracts.Stored.{PartAt}
 use Rattle.terms.specs.Theory.Position.{length_subterms}

@@ -12,7 +12,8 @@ use Rattle.format.specs.Limits.{table_bytes}
 use Rattle.format.specs.Lists.{entry}
 use Rattle.format.specs.declared.refusal.Refusal.{Refusal}
 use Rattle.format.specs.Theory.Lists.{entry_length}
-use Rattle.terms.specs.Equation.{Equation, Direction}
+use Rattle.terms.specs.Equation.{Equation}
+use Rattle.terms.specs.declared.direction.Direction.{Direction}
 use Rattle.solving.specs.Walk.{Solves}
 use Rattle.walking.specs.ForContracts.Walking.{memory_bytes}
 use Rattle.line_bytes.specs.ForContracts.Layout.{placed}

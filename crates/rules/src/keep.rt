@@ -1,7 +1,8 @@
 // The walk of one rule, and its lines kept.
 ghost use Rattle.std.specs.Prelude.{◌≡◌, List, ℕ, ◌≤◌, length, drop};
 ghost use Rattle.format.specs.Limits.{table_bytes};
-ghost use Rattle.terms.specs.Equation.{Equation, Direction};
+ghost use Rattle.terms.specs.Equation.{Equation};
+ghost use Rattle.terms.specs.declared.direction.Direction.{Direction};
 ghost use Rattle.solving.specs.Walk.{solve};
 ghost use Rattle.walking.specs.ForContracts.Walking.{memory_bytes};
 ghost use Rattle.solve_equation.specs.ForContracts.Reports.{Leaves};
@@ -13,6 +14,7 @@ use format::refusal::Refusal;
 use kept_lines::trimmed::keep_lines;
 use solve_equation::positions::{MEMORY, Solved};
 use solve_equation::solve::walk_direction;
+use terms::direction::Direction;
 
 // Walks a rule. The records of its lines stand first in scratch.
 pub fn walk_rule(equations: &[u8], lengths: &[u8], rule: usize, scratch: &mut [u8],
@@ -27,7 +29,7 @@ pub fn walk_rule(equations: &[u8], lengths: &[u8], rule: usize, scratch: &mut [u
     walk_direction(
         &equations[row..end],
         &lengths[row..end],
-        rule % 2,
+        Direction::of_rule(rule),
         &mut scratch[..MEMORY],
     )
 }

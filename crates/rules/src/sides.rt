@@ -1,6 +1,7 @@
 // Where the sides of a rule stand in its equation's row. Rule 2 · e is direction 00 of equation e, and the next is its direction 01.
 ghost use Rattle.std.specs.Prelude.{List, ℕ};
-ghost use Rattle.terms.specs.Equation.{Equation, Direction, source, target};
+ghost use Rattle.terms.specs.Equation.{Equation, source, target};
+ghost use Rattle.terms.specs.declared.direction.Direction.{Direction};
 ghost use Rattle.rules.specs.ForContracts.Rows.{HasRule, RuleIs, SideIs};
 
 use format::limits::Limits;

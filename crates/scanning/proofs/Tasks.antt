@@ -10,7 +10,8 @@ use Rattle.format.specs.declared.kind.FrameKind.TheVariants.{Symbols as symbols_
 use Rattle.format.specs.Refusal.{Result, refuse}
 use Rattle.format.specs.declared.refusal.Refusal.TheVariants.{FrameOrder, FrameBytes, AbsentDirection}
 use Rattle.format.specs.Theory.Lists.{every_entry, entry_found}
-use Rattle.terms.specs.Equation.{Equation, Direction, direction_of}
+use Rattle.terms.specs.Equation.{Equation, direction_of}
+use Rattle.terms.specs.declared.direction.Direction.{Direction}
 use Rattle.scanning.specs.declared.known.Known.{Known}
 use Rattle.std.specs.Prelude.{Result as Outcome}
 use Rattle.format.specs.declared.refusal.Refusal.{Refusal}

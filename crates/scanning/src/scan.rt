@@ -46,6 +46,7 @@ pub fn scan(known: Known, s: &[u8], span: Span, wanted: Wanted) -> Result<Scanne
     let mut need = wanted.terms;
     let mut room = wanted.nodes;
     let mut width = wanted.width;
+    // No `for`: how many bytes are read depends on the arities that are met.
     while 0 < need {
         // Two tests: joined by `||` they take both results into registers, and a long sheet 1.05 times as long.
         if at == span.end {

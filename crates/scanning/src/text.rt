@@ -65,6 +65,7 @@ fn blocks_end(s: &[u8], at: usize) -> usize
     requires { at < length s.now }
     ensures { DigitsTo s.now at result }
 {
+    // No `for`: where the loop stops is the answer.
     let mut i = at;
     while i + BLOCK <= s.len() && i + BLOCK - at <= Limits::LINE_DIGITS && block_digits(s, i) {
         i += BLOCK;

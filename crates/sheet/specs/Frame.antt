@@ -15,7 +15,8 @@ use Rattle.format.specs.declared.byte.Class.{Class}
 use Rattle.format.specs.declared.byte.Class.TheVariants.{Symbol as symbol, Variable as variable, Foreign as foreign}
 use Rattle.format.specs.Lists.{any, all, entry}
 use Rattle.terms.specs.Term.{Term, Terms, var, nth, arity}
-use Rattle.terms.specs.Equation.{Equation, Direction, direction_of}
+use Rattle.terms.specs.Equation.{Equation, direction_of}
+use Rattle.terms.specs.declared.direction.Direction.{Direction}
 use Rattle.terms.specs.Prefix.{terms_of_with, terms_of}
 use Rattle.sheet.specs.Sheet.{Task, run, judgement, comparison, Sheet, equation_width}
 

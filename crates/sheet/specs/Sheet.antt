@@ -1,7 +1,8 @@
 -- What an accepted sheet says (document 01, 'The sheet').
 use Rattle.std.specs.Prelude.{ℕ, suc, max, List}
 use Rattle.terms.specs.Term.{Term, Terms, var, app, nil, cons}
-use Rattle.terms.specs.Equation.{Equation, Direction}
+use Rattle.terms.specs.Equation.{Equation}
+use Rattle.terms.specs.declared.direction.Direction.{Direction}
 
 pub data Task : Type 0 where
   -- "03: a run: step limit k (00 to ff), a ground term."

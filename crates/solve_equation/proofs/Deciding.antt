@@ -7,7 +7,8 @@ use native.Mathlib.Omega.{arith}
 use Rattle.std.proofs.Common.{lt-ltb, le-ltb}
 use Rattle.format.specs.Limits.{max_lines}
 use Rattle.format.specs.declared.refusal.Refusal.{Refusal}
-use Rattle.terms.specs.Equation.{Equation, Direction}
+use Rattle.terms.specs.Equation.{Equation}
+use Rattle.terms.specs.declared.direction.Direction.{Direction}
 use Rattle.solving.specs.Always.{has_empty, always_walk, answered, answer_of, always}
 use Rattle.std.specs.Prelude.{true, ltb, Ok, Err}
 use Rattle.walking.specs.declared.walk.Walk.{Walk}

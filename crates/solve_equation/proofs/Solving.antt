@@ -9,7 +9,9 @@ use lib.Seq.{slice, take_all, take_at, length-take-le}
 use native.Mathlib.Omega.{arith}
 use Rattle.format.specs.Limits.{variable_count, position_count, max_turns}
 use Rattle.terms.specs.Term.{size}
-use Rattle.terms.specs.Equation.{Equation, Direction, left_right, right_left, direction_of, source_position, target_position, view}
+use Rattle.terms.specs.Equation.{Equation, direction_of, source_position, target_position, view}
+use Rattle.terms.specs.declared.direction.Direction.{Direction}
+use Rattle.terms.specs.declared.direction.Direction.TheVariants.{LeftRight as left_right, RightLeft as right_left}
 use Rattle.terms.specs.Prefix.{equation_bytes}
 use Rattle.terms.specs.ForContracts.Limits.{positions}
 use Rattle.terms.specs.Theory.Limits.{positions_few}
@@ -29,15 +31,6 @@ use Rattle.solve_equation.specs.ForContracts.Equation.{EquationIs, SidesAre, End
 use Rattle.solve_equation.specs.declared.solve.Ends.{Ends}
 use Rattle.solve_equation.specs.Theory.Equation.{equation_whole, equation_measured}
 
--- "Direction 00 is left > right, 01 is right > left"
-first_direction : {n : ℕ} {d : Direction} → n ≡ 0 → direction_of n ≡ some d → d ≡ left_right
-unfolding direction_of
-first_direction {n} {d} e h = let x : some left_right ≡ some d = sym (ap direction_of e) ∙ h in cc
-
-second_direction : {n : ℕ} {d : Direction} → n ≡ 1 → direction_of n ≡ some d → d ≡ right_left
-unfolding direction_of
-second_direction {n} {d} e h = let x : some right_left ≡ some d = sym (ap direction_of e) ∙ h in cc
-
 -- The walk over an equation's bytes and sizes is that of the equation.
 module _ {nodes stored_sizes : List ℕ} {e : Equation} (are : SidesAre nodes stored_sizes e) where
   abbrev spelled : nodes ≡ equation_bytes e
@@ -55,13 +48,13 @@ module _ {nodes stored_sizes : List ℕ} {e : Equation} (are : SidesAre nodes st
   pub sides_laid : InPrefixForm nodes stored_sizes
   sides_laid = rw (are.measured, spelled) (equation_form e are.arities are.is.few_symbols are.is.left_fits are.is.right_fits are.is.limits)
 
-  pub ends_left : {n : ℕ} {d : Direction} (right : ℕ) → right ≡ get_or stored_sizes 0 0 → n ≡ 0 → direction_of n ≡ some d → EndsAre e d (record { source = 0; target = right })
+  pub ends_left : (right : ℕ) → right ≡ get_or stored_sizes 0 0 → EndsAre e left_right (record { source = 0; target = right })
   unfolding source_position target_position
-  ends_left right r h x = subst (λ d. EndsAre e d (record { source = 0; target = right })) (sym (first_direction h x)) (record { source_is = refl; target_is = r ∙ right_start })
+  ends_left right r = record { source_is = refl; target_is = r ∙ right_start }
 
-  pub ends_right : {n : ℕ} {d : Direction} (right : ℕ) → right ≡ get_or stored_sizes 0 0 → n ≡ 1 → direction_of n ≡ some d → EndsAre e d (record { source = right; target = 0 })
+  pub ends_right : (right : ℕ) → right ≡ get_or stored_sizes 0 0 → EndsAre e right_left (record { source = right; target = 0 })
   unfolding source_position target_position
-  ends_right right r h x = subst (λ d. EndsAre e d (record { source = right; target = 0 })) (sym (second_direction h x)) (record { source_is = r ∙ right_start; target_is = refl })
+  ends_right right r = record { source_is = r ∙ right_start; target_is = refl }
 
   module _ (d : Direction) (ends : Ends) (at : EndsAre e d ends) where
     -- They are positions of the equation.

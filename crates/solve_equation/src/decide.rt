@@ -1,8 +1,7 @@
 // "says yes as soon as the whole table .. has a finished line with no binding and no element, else no when the walk ends": for one direction of an equation, from
 // the equation's bytes.
 ghost use Rattle.std.specs.Prelude.{◌≡◌, ◌≤◌, ◌<◌, length, drop};
-ghost use Rattle.std.proofs.Math.Option.{some};
-ghost use Rattle.terms.specs.Equation.{Equation, Direction, direction_of};
+ghost use Rattle.terms.specs.Equation.{Equation};
 ghost use Rattle.solving.specs.Always.{always};
 ghost use Rattle.bindings.specs.ForContracts.PrefixForm.{InPrefixForm};
 ghost use Rattle.walking.specs.ForContracts.Walking.{memory_bytes};
@@ -13,6 +12,7 @@ use crate::positions::{MEMORY, walk_between};
 use crate::solve::ends_of;
 use format::limits::Limits;
 use format::refusal::Refusal;
+use terms::direction::Direction;
 use terms::measure::measure;
 
 // Yes or no, with "the turns taken by then".
@@ -47,11 +47,11 @@ fn decide_positions(
 pub fn decide_equation(
     bytes: &[u8],
     arities: &[u8],
-    direction: usize,
+    direction: Direction,
     scratch: &mut [u8],
 ) -> Result<Decision, Refusal>
-    requires { HasEquation bytes.now arities.now × (direction < 2) × (memory_bytes ≤ length scratch.old) }
-    ensures result_value { (e : Equation) (d : Direction) → EquationIs bytes.now arities.now e → direction_of direction ≡ some d → answered_as result ≡ always e d }
+    requires { HasEquation bytes.now arities.now × (memory_bytes ≤ length scratch.old) }
+    ensures result_value { (e : Equation) → EquationIs bytes.now arities.now e → answered_as result ≡ always e direction }
     ensures scratch_unchanged { drop memory_bytes scratch.new ≡ drop memory_bytes scratch.old }
 {
     let mut sizes = [0u8; Limits::POSITIONS];

@@ -6,6 +6,7 @@ ghost use Rattle.stopping.specs.ForContracts.Ends.{WalkEnds};
 ghost use Rattle.solve_equation.specs.ForContracts.Reports.{LeavesWalk};
 
 use crate::variables::collect_variables;
+use bindings::equation::EquationTerms;
 use format::limits::Limits;
 use format::refusal::Refusal;
 use line_bytes::edit::store;
@@ -65,7 +66,12 @@ pub fn walk_between(
     let mut variables = [0u16; Limits::POSITIONS];
     collect_variables(nodes, sizes, &mut variables[..n]);
     let first = begin_walk(nodes, sizes, source, target, memory);
-    go_on(first, stops, nodes, sizes, &variables[..n], memory)
+    let equation = EquationTerms {
+        nodes,
+        sizes,
+        variables: &variables[..n],
+    };
+    go_on(first, stops, &equation, memory)
 }
 
 // Solves source > target over an equation's bytes and sizes. The records of the solved lines stand first in `memory`.

@@ -1,8 +1,7 @@
 // The walk of one direction of an equation, from the equation's bytes.
 ghost use Rattle.std.specs.Prelude.{◌≡◌, List, ℕ, ◌≤◌, ◌<◌, length, drop};
-ghost use Rattle.std.proofs.Math.Option.{some};
 ghost use Rattle.format.specs.Limits.{table_bytes};
-ghost use Rattle.terms.specs.Equation.{Equation, Direction, direction_of};
+ghost use Rattle.terms.specs.Equation.{Equation};
 ghost use Rattle.solving.specs.Walk.{solve};
 ghost use Rattle.solve_equation.specs.ForContracts.Equation.{EquationIs, HasEquation, SidesAre, HasSides, EndsAre};
 ghost use Rattle.walking.specs.ForContracts.Walking.{memory_bytes};
@@ -12,6 +11,7 @@ use crate::positions::{MEMORY, Solved, walk_positions};
 use format::copy::copy_front;
 use format::limits::Limits;
 use format::refusal::Refusal;
+use terms::direction::Direction;
 use terms::measure::measure;
 
 // Where the two sides of a direction stand among the equation's positions. No `Sides` of `treating`, whose names would be wrong: the source may be the right side.
@@ -22,20 +22,20 @@ pub struct Ends {
 }
 
 // "Direction 00 is left > right, 01 is right > left"
-pub fn ends_of(sizes: &[u8], direction: usize) -> Ends
-    requires { (0 < length sizes.now) × (direction < 2) }
-    ensures { (nodes : List ℕ) (e : Equation) (d : Direction) → SidesAre nodes sizes.now e → direction_of direction ≡ some d → EndsAre e d result }
+pub fn ends_of(sizes: &[u8], direction: Direction) -> Ends
+    requires { 0 < length sizes.now }
+    ensures { (nodes : List ℕ) (e : Equation) → SidesAre nodes sizes.now e → EndsAre e direction result }
 {
     let right = usize::from(sizes[0]);
-    if direction == 0 {
-        return Ends {
+    match direction {
+        Direction::LeftRight => Ends {
             source: 0,
             target: right,
-        };
-    }
-    Ends {
-        source: right,
-        target: 0,
+        },
+        Direction::RightLeft => Ends {
+            source: right,
+            target: 0,
+        },
     }
 }
 
@@ -43,11 +43,11 @@ pub fn ends_of(sizes: &[u8], direction: usize) -> Ends
 pub fn walk_direction(
     nodes: &[u8],
     sizes: &[u8],
-    direction: usize,
+    direction: Direction,
     memory: &mut [u8],
 ) -> Result<Solved, Refusal>
-    requires { HasSides nodes.now sizes.now × (direction < 2) × (length memory.old ≡ memory_bytes) }
-    ensures { (e : Equation) (d : Direction) → SidesAre nodes.now sizes.now e → direction_of direction ≡ some d → Leaves (solve e d) memory.new result }
+    requires { HasSides nodes.now sizes.now × (length memory.old ≡ memory_bytes) }
+    ensures { (e : Equation) → SidesAre nodes.now sizes.now e → Leaves (solve e direction) memory.new result }
 {
     let ends = ends_of(sizes, direction);
     walk_positions(nodes, sizes, ends.source, ends.target, memory)
@@ -57,13 +57,13 @@ pub fn walk_direction(
 pub fn solve_equation(
     bytes: &[u8],
     arities: &[u8],
-    direction: usize,
+    direction: Direction,
     table: &mut [u8],
     scratch: &mut [u8],
 ) -> Result<Solved, Refusal>
-    requires has_equation { HasEquation bytes.now arities.now × (direction < 2) }
+    requires has_equation { HasEquation bytes.now arities.now }
     requires table_bytes_in_bounds { (table_bytes ≤ length table.old) × (memory_bytes ≤ length scratch.old) }
-    ensures reports { (e : Equation) (d : Direction) → EquationIs bytes.now arities.now e → direction_of direction ≡ some d → Reports (solve e d) table.old table.new result }
+    ensures reports { (e : Equation) → EquationIs bytes.now arities.now e → Reports (solve e direction) table.old table.new result }
     ensures scratch_unchanged { drop memory_bytes scratch.new ≡ drop memory_bytes scratch.old }
 {
     let mut sizes = [0u8; Limits::POSITIONS];

@@ -11,7 +11,8 @@ use Rattle.format.specs.Buffer.{written}
 use Rattle.format.specs.declared.refusal.Refusal.TheVariants.{AbsentArgument as absent_argument}
 use Rattle.format.specs.Lists.{entry}
 use Rattle.format.specs.Theory.Lists.{entry_none, every_entry}
-use Rattle.terms.specs.Equation.{Equation, Direction, direction_of}
+use Rattle.terms.specs.Equation.{Equation, direction_of}
+use Rattle.terms.specs.declared.direction.Direction.{Direction}
 use Rattle.terms.specs.Prefix.{equation_bytes}
 use Rattle.scanning.specs.declared.known.Known.{Known}
 use Rattle.sheet.specs.Sheet.{Sheet}
@@ -65,12 +66,6 @@ module _ (sheet : List ℕ) (equation : ℕ) (known : Known) (a : Accepts sheet 
   equation_has = let (q, i) = equation_asked sheet known equation a there in record { equation = q; is = equation_is q i }
 
 -- 2. What the call earns there.
-no_direction : (n : ℕ) → 2 ≤ n → direction_of n ≡ none
-unfolding direction_of
-no_direction zero h = absurd (omega arith)
-no_direction (suc zero) h = absurd (omega arith)
-no_direction (suc (suc n)) h = refl
-
 module _ (gives : Directed → TableOutcome) (sheet table scratch : List ℕ) (equation direction : ℕ) where
   answer_of : (s : Sheet) → read sheet ≡ accepted s → (o : Option Equation) (d : Option Direction) → entry s.equations equation ≡ o → direction_of direction ≡ d
       → directed_answered gives sheet table scratch equation direction ≡ directed_answer gives table scratch (found (directed_in o d))
@@ -88,20 +83,19 @@ module _ (gives : Directed → TableOutcome) (sheet table scratch : List ℕ) (e
         answer_of s r none (direction_of direction) (entry_none s.equations equation (omega (arith, g.equations_are))) refl ∙ ap (λ n. table_outcome n table scratch) (sym e)
 
     module _ (there : equation < known.equations) where
-      pub direction_absent : 2 ≤ direction → {n : ℕ} → n ≡ refusal_number absent_argument 0 → directed_answered gives sheet table scratch equation direction ≡ table_outcome n table scratch
+      pub direction_absent : direction_of direction ≡ none → {n : ℕ} → n ≡ refusal_number absent_argument 0 → directed_answered gives sheet table scratch equation direction ≡ table_outcome n table scratch
       unfolding directed_answer found directed_in
       direction_absent h e =
           let (q, (s, r, x)) = equation_asked sheet known equation a there in
-          answer_of s r (some q) none x (no_direction direction h) ∙ ap (λ n. table_outcome n table scratch) (sym e)
+          answer_of s r (some q) none x h ∙ ap (λ n. table_outcome n table scratch) (sym e)
 
-      pub equation_answer : direction < 2 → {o : TableOutcome} (bytes arities : List ℕ) → ((q : Equation) → EquationIn sheet equation q → EquationIs bytes arities q)
-          → ((e : Equation) (d : Direction) → EquationIs bytes arities e → direction_of direction ≡ some d → gives (record { equation = e; direction = d }) ≡ o) → directed_answered gives sheet table scratch equation direction ≡ o
+      pub equation_answer : {d : Direction} → direction_of direction ≡ some d → {o : TableOutcome} (bytes arities : List ℕ) → ((q : Equation) → EquationIn sheet equation q → EquationIs bytes arities q)
+          → ((e : Equation) → EquationIs bytes arities e → gives (record { equation = e; direction = d }) ≡ o) → directed_answered gives sheet table scratch equation direction ≡ o
       unfolding directed_answer found directed_in
-      equation_answer h bytes arities f w =
+      equation_answer {d} y bytes arities f w =
           let (q, i) = equation_asked sheet known equation a there in
-          let (d, y) = some_direction direction h in
           let (s, r, x) = i in
-          answer_of s r (some q) (some d) x y ∙ w q d (f q i) y
+          answer_of s r (some q) (some d) x y ∙ w q (f q i)
 
 -- 3. What is left after a walk.
 pub walk_cleared : (scratch worked last : List ℕ) → drop memory_bytes worked ≡ drop memory_bytes scratch → last ≡ filled scratch_bytes 0 worked → last ≡ cleared scratch

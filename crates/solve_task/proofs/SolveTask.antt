@@ -6,7 +6,8 @@ use native.Mathlib.Omega.{arith}
 use Rattle.format.specs.Limits.{no_position, table_bytes}
 use Rattle.format.specs.Buffer.{written}
 use Rattle.format.specs.declared.refusal.Refusal.{Refusal}
-use Rattle.terms.specs.Equation.{Equation, Direction}
+use Rattle.terms.specs.Equation.{Equation}
+use Rattle.terms.specs.declared.direction.Direction.{Direction}
 use Rattle.solving.specs.Line.{records}
 use Rattle.solving.specs.Walk.{Walked, solve, refused}
 use Rattle.solving.proofs.Theory.Solve.{solved_line_count}

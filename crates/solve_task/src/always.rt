@@ -6,6 +6,7 @@ use format::limits::Limits;
 use outcomes::buffer::fill;
 use outcomes::number::{fields_number, refusal_number};
 use solve_equation::decide::decide_equation;
+use terms::direction::Direction;
 
 pub struct Always;
 
@@ -16,7 +17,7 @@ impl DirectedCall for Always {
         bytes: &[u8],
         arities: &[u8],
         equation: usize,
-        direction: usize,
+        direction: Direction,
         table: &mut [u8],
         scratch: &mut [u8],
     ) -> u64 {

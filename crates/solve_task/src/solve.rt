@@ -6,6 +6,7 @@ use format::limits::Limits;
 use outcomes::buffer::fill;
 use outcomes::number::{fields_number, refusal_number};
 use solve_equation::solve::solve_equation;
+use terms::direction::Direction;
 
 pub struct Solve;
 
@@ -16,7 +17,7 @@ impl DirectedCall for Solve {
         bytes: &[u8],
         arities: &[u8],
         equation: usize,
-        direction: usize,
+        direction: Direction,
         table: &mut [u8],
         scratch: &mut [u8],
     ) -> u64 {

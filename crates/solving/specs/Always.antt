@@ -5,7 +5,8 @@ use Rattle.format.specs.Limits.{variable_count, max_turns}
 use Rattle.format.specs.declared.refusal.Refusal.{Refusal}
 use Rattle.format.specs.Lists.{any, all}
 use Rattle.terms.specs.Position.{Node}
-use Rattle.terms.specs.Equation.{Equation, Direction, view, source_position, target_position}
+use Rattle.terms.specs.Equation.{Equation, view, source_position, target_position}
+use Rattle.terms.specs.declared.direction.Direction.{Direction}
 use Rattle.solving.specs.Line.{Line, line}
 use Rattle.solving.specs.Walk.{Fuel, enough, Walked, solved, refused, over_limit, walk_within}
 use Rattle.solving.specs.Turns.{table_after}

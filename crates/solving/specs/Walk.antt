@@ -11,7 +11,8 @@ use Rattle.format.specs.declared.refusal.Refusal.{Refusal}
 use Rattle.format.specs.declared.refusal.Refusal.TheVariants.{TooManyTurns as too_many_turns, TooManyElements as too_many_elements, TooManyLines as too_many_lines}
 use Rattle.format.specs.Lists.{any}
 use Rattle.terms.specs.Position.{Node, var_node, app_node}
-use Rattle.terms.specs.Equation.{Equation, Direction, view, source_position, target_position}
+use Rattle.terms.specs.Equation.{Equation, view, source_position, target_position}
+use Rattle.terms.specs.declared.direction.Direction.{Direction}
 use Rattle.solving.specs.Line.{Bindings, unbound, lookup, bind, Element, equal, greater, Line, line}
 
 -- How deep the recursions through the bindings may go. `enough` is what the walk takes: a variable is bound to a term or to a higher

@@ -15,7 +15,8 @@ use Rattle.format.specs.Limits.{max_symbols, max_equations, first_variable}
 use Rattle.format.specs.Lists.{entry}
 use Rattle.terms.specs.Term.{Term, Terms, var, app}
 use Rattle.terms.specs.Prefix.{prefix}
-use Rattle.terms.specs.Equation.{Equation, Direction, source, value}
+use Rattle.terms.specs.Equation.{Equation, source, value}
+use Rattle.terms.specs.declared.direction.Direction.{Direction}
 use Rattle.terms.specs.ForContracts.Stored.{PartAt}
 use Rattle.terms.specs.declared.arguments.Arguments.{Arguments}
 use Rattle.terms.specs.Theory.Position.{size_pos}

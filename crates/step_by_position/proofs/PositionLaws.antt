@@ -12,7 +12,8 @@ use Rattle.format.specs.Lists.{entry}
 use Rattle.terms.specs.Term.{Term, Terms, var, app, size}
 use Rattle.terms.specs.Prefix.{prefix}
 use Rattle.terms.specs.Filling.{filling}
-use Rattle.terms.specs.Equation.{Equation, Direction}
+use Rattle.terms.specs.Equation.{Equation}
+use Rattle.terms.specs.declared.direction.Direction.{Direction}
 use Rattle.terms.specs.ForContracts.Stored.{GroundStored, SubjectIs}
 use Rattle.terms.specs.Theory.Stored.{stored_head, ground_size}
 use Rattle.reducing.specs.Run.{Step, try, step}

@@ -17,7 +17,8 @@ use Rattle.format.specs.Theory.Lists.{entry_length, every_entry}
 use Rattle.format.specs.Theory.Behind.{behind_more, cells_behind}
 use Rattle.terms.specs.Term.{Term, size, sizes}
 use Rattle.terms.specs.Filling.{filling}
-use Rattle.terms.specs.Equation.{Equation, Direction, source}
+use Rattle.terms.specs.Equation.{Equation, source}
+use Rattle.terms.specs.declared.direction.Direction.{Direction}
 use Rattle.terms.specs.declared.arguments.Arguments.{Arguments}
 use Rattle.terms.specs.ForContracts.Stored.{SubjectIs}
 use Rattle.reducing.specs.Match.{Match, no_match, match}

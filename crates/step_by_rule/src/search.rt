@@ -3,7 +3,8 @@
 ghost use Rattle.std.specs.Prelude.{◌≡◌, List, ℕ, ◌≤◌, length, drop};
 ghost use Rattle.format.specs.Limits.{table_bytes, cell_count, scratch_bytes};
 ghost use Rattle.terms.specs.Term.{Term};
-ghost use Rattle.terms.specs.Equation.{Equation, Direction};
+ghost use Rattle.terms.specs.Equation.{Equation};
+ghost use Rattle.terms.specs.declared.direction.Direction.{Direction};
 ghost use Rattle.terms.specs.ForContracts.Stored.{SubjectIs};
 ghost use Rattle.step_by_position.specs.ForContracts.Searching.{FoundIs};
 ghost use Rattle.step_by_rule.specs.ForContracts.Rulewise.{FirstMatch, HasSource, SourceIs, FirstStep, KeptTry, HasKeptTry, UnkeptTry, HasUnkeptTry, AllSolve, HasAllSolve};

@@ -15,7 +15,8 @@ use Rattle.terms.specs.Term.{Term, Terms, var, app, nil, cons, inst}
 use Rattle.terms.specs.Filling.{filling}
 use Rattle.terms.specs.ForContracts.Limits.{VariablesBelow, AllVariablesBelow}
 use Rattle.terms.specs.Position.{replace}
-use Rattle.terms.specs.Equation.{Equation, Direction, source, target}
+use Rattle.terms.specs.Equation.{Equation, source, target}
+use Rattle.terms.specs.declared.direction.Direction.{Direction}
 use Rattle.terms.specs.declared.arguments.Arguments.{Arguments}
 use Rattle.terms.specs.ForContracts.Stored.{GroundStored}
 use Rattle.terms.specs.Theory.Prefix.{fits_variables}

@@ -3,7 +3,8 @@ ghost use Rattle.std.specs.Prelude.{◌≡◌, List, [], ◌∷◌, ◌++◌, �
 ghost use Rattle.format.specs.Limits.{max_byte};
 ghost use Rattle.format.specs.Buffer.{written};
 ghost use Rattle.terms.specs.Term.{Term};
-ghost use Rattle.terms.specs.Equation.{Equation, Direction};
+ghost use Rattle.terms.specs.Equation.{Equation};
+ghost use Rattle.terms.specs.declared.direction.Direction.{Direction};
 ghost use Rattle.reducing.specs.Run.{Step};
 ghost use Rattle.step_take.specs.ForContracts.Replacing.{ReplacedAs};
 ghost use Rattle.step_take.specs.ForContracts.Stepping.{StepIs, HasStep};

@@ -14,7 +14,8 @@ use Rattle.format.specs.Limits.{variable_count, position_count}
 use Rattle.terms.specs.Term.{Term, Terms, var, app, nil, cons, Values}
 use Rattle.terms.specs.Filling.{filling}
 use Rattle.terms.specs.ForContracts.Limits.{VariablesBelow, AllVariablesBelow}
-use Rattle.terms.specs.Equation.{Equation, Direction, value}
+use Rattle.terms.specs.Equation.{Equation, value}
+use Rattle.terms.specs.declared.direction.Direction.{Direction}
 use Rattle.terms.specs.Prefix.{equation_bytes}
 use Rattle.terms.specs.ForContracts.Stored.{PartAt, GroundStored, SubjectIs}
 use Rattle.terms.specs.Theory.Variables.{VariablesIn, AllVariablesIn}

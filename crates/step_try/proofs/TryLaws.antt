@@ -5,7 +5,8 @@ use mathlib.Core.Bool.{Bool, false}
 use mathlib.Core.Option.{none, some}
 use native.Mathlib.Omega.{arith}
 use Rattle.terms.specs.Term.{Term}
-use Rattle.terms.specs.Equation.{Equation, Direction, source}
+use Rattle.terms.specs.Equation.{Equation, source}
+use Rattle.terms.specs.declared.direction.Direction.{Direction}
 use Rattle.reducing.specs.Match.{Match, no_match, match}
 use Rattle.reducing.specs.Run.{try}
 use Rattle.reducing.specs.Test.{line_test}

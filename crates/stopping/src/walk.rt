@@ -5,6 +5,7 @@ ghost use Rattle.walking.specs.ForContracts.Walking.{Walking};
 ghost use Rattle.stopping.specs.ForContracts.Ends.{NoneEmpty, WalkEnds};
 
 use crate::empty::any_empty;
+use bindings::equation::EquationTerms;
 use format::limits::Limits;
 use format::refusal::Refusal;
 use walking::walk::Walk;
@@ -15,19 +16,17 @@ use walking::walk::Walk;
 pub fn go_on(
     walk: Walk,
     stops: bool,
-    nodes: &[u8],
-    sizes: &[u8],
-    variables: &[u16],
+    equation: &EquationTerms,
     memory: &mut [u8],
 ) -> Result<Walk, Refusal>
-    requires walking { Walking nodes.now sizes.now memory.old walk × HasVariables nodes.now sizes.now variables.now }
-    requires none_empty { stops ≡ true → NoneEmpty nodes.now sizes.now walk }
-    ensures { WalkEnds nodes.now sizes.now memory.new stops walk.source walk.target result }
+    requires walking { Walking equation.now.nodes.now equation.now.sizes.now memory.old walk × HasVariables equation.now.nodes.now equation.now.sizes.now equation.now.variables.now }
+    requires none_empty { stops ≡ true → NoneEmpty equation.now.nodes.now equation.now.sizes.now walk }
+    ensures { WalkEnds equation.now.nodes.now equation.now.sizes.now memory.new stops walk.source walk.target result }
 {
     let mut cursor = walk;
     while cursor.top < Limits::LINES {
         let end = cursor.top + 1;
-        cursor = cursor.turn(nodes, sizes, variables, memory)?;
+        cursor = cursor.turn(equation, memory)?;
         if stops && any_empty(memory, cursor.top, end) {
             return Ok(cursor);
         }

@@ -12,22 +12,23 @@ use Rattle.format.specs.Limits.{max_equations, max_lines, record_bytes}
 use Rattle.format.specs.declared.refusal.Refusal.{Refusal}
 use Rattle.format.specs.Lists.{entry}
 use Rattle.format.specs.Theory.Lists.{every_entry}
-use Rattle.terms.specs.Equation.{Equation, Direction}
+use Rattle.terms.specs.Equation.{Equation}
+use Rattle.terms.specs.declared.direction.Direction.{Direction}
 use Rattle.terms.specs.ForContracts.Limits.{positions}
 use Rattle.solving.specs.Line.{Bindings, Element, Line, line, records}
 use Rattle.solving.specs.Theory.Records.{length_records}
 use Rattle.solving.specs.Walk.{solved, solve}
 use Rattle.solving.proofs.Theory.Solve.{solved_lines}
-use Rattle.solve_equation.specs.declared.positions.WalkEnd.TheVariants.{Solved, Refused}
-use Rattle.solve_equation.specs.declared.positions.WalkResult.{WalkResult as Reported}
-use Rattle.solve_equation.specs.ForContracts.Reports.{LeavesEnd, Leaves}
+use Rattle.std.specs.Prelude.{Result, Ok, Err}
+use Rattle.solve_equation.specs.declared.positions.Solved.{Solved}
+use Rattle.solve_equation.specs.ForContracts.Reports.{LeavesSolved, Leaves}
 use Rattle.reducing.specs.Test.{EverySolves, BothSolve}
 use Rattle.reducing.specs.ForContracts.Rules.{rule_number}
 use Rattle.reducing.specs.Theory.Rules.{RuleOf, rule_of, rule_low, rule_parts}
 use Rattle.rules.specs.ForContracts.Rows.{RuleIs, RowsAre, HasRuleIn}
 use Rattle.listing.specs.Listing.{table_kind, printed, two_bytes, table_frames, line_frame}
 use Rattle.rules.specs.Theory.Rows.{row_start, rule_in}
-use Rattle.rules.specs.Theory.Kept.{leaves_refused, sides_there}
+use Rattle.rules.specs.Theory.Kept.{leaves_refused, leaves_solved, sides_there}
 use Rattle.listing.specs.ForContracts.Appended.{Appended}
 use Rattle.listing.specs.Theory.Printed.{printed_append, length_printed_one}
 use Rattle.listing.specs.Theory.Appended.{appended_none, appended_join, appended_text}
@@ -42,22 +43,18 @@ use Rattle.tables.proofs.RecordLaws.{LineAt, line_at, record_there}
 use Rattle.tables.specs.Theory.Tables.{frames_count}
 
 -- What the walk of a rule ensures.
-abbrev LeavesRule : (equations lengths : List ℕ) (rule : ℕ) (memory : List ℕ) → Reported → Type 0
+abbrev LeavesRule : (equations lengths : List ℕ) (rule : ℕ) (memory : List ℕ) → Result Solved Refusal → Type 0
 LeavesRule equations lengths rule memory told = (arities : List ℕ) (i : ℕ) (e : Equation) (d : Direction) → RuleIs equations lengths arities rule i e d → Leaves (solve e d) memory told
 
 -- 1. The first frame of a table.
-module _ {equations lengths : List ℕ} {rule : ℕ} (has : HasRuleIn equations lengths rule) (memory : List ℕ) (told : Reported) (leaves : LeavesRule equations lengths rule memory told) where
+module _ {equations lengths : List ℕ} {rule : ℕ} (has : HasRuleIn equations lengths rule) (memory : List ℕ) (told : Result Solved Refusal) (leaves : LeavesRule equations lengths rule memory told) where
   pub rule_few : rule < 2 * max_equations
   rule_few = omega (arith, has.is.number, rule_low has.number has.direction has.is.row.inside)
 
-  module _ (e : told.ending ≡ Solved) where
-    ends : LeavesEnd (solve has.equation has.direction) memory Solved told.lines told.turns
-    ends = subst (λ x. LeavesEnd (solve has.equation has.direction) memory x told.lines told.turns) e (leaves has.arities has.number has.equation has.direction has.is).ends
+  pub lines_few : {walked : Solved} → told ≡ Ok walked → walked.lines ≤ max_lines
+  lines_few e = (leaves_solved (leaves has.arities has.number has.equation has.direction has.is) e).3
 
-    pub lines_few : told.lines ≤ max_lines
-    lines_few = ends.3
-
-module _ {equations lengths : List ℕ} {rule : ℕ} (memory : List ℕ) (told : Reported) (leaves : LeavesRule equations lengths rule memory told)
+module _ {equations lengths : List ℕ} {rule : ℕ} (memory : List ℕ) (told : Result Solved Refusal) (leaves : LeavesRule equations lengths rule memory told)
     {arities : List ℕ} (es : List Equation) (rows : RowsAre equations lengths arities es) (low : rule < 2 * length es) where
   this : RuleOf es rule
   this = rule_of es rule low
@@ -65,7 +62,7 @@ module _ {equations lengths : List ℕ} {rule : ℕ} (memory : List ℕ) (told :
   leaves_it : (i : ℕ) (e : Equation) (d : Direction) → entry es i ≡ some e → rule ≡ rule_number i d → Leaves (solve e d) memory told
   leaves_it i e d x y = leaves arities i e d (rule_in rows x y)
 
-  pub never_refused : {why : Refusal} → EverySolves es → told.ending ≡ Refused why → ⊥
+  pub never_refused : {why : Refusal} → EverySolves es → told ≡ Err why → ⊥
   never_refused {why} s e =
       let o = this in
       let a = every_entry BothSolve es o.number s o.numbered o.direction in
@@ -74,22 +71,22 @@ module _ {equations lengths : List ℕ} {rule : ℕ} (memory : List ℕ) (told :
       let z : ◌≡◌ {A = ℕ} 0 1 = cc in
       omega arith
 
-  module _ (e : told.ending ≡ Solved) where
-    solved_ends : (i : ℕ) (q : Equation) (d : Direction) → entry es i ≡ some q → rule ≡ rule_number i d → LeavesEnd (solve q d) memory Solved told.lines told.turns
-    solved_ends i q d x y = subst (λ z. LeavesEnd (solve q d) memory z told.lines told.turns) e (leaves_it i q d x y).ends
+  module _ {walked : Solved} (e : told ≡ Ok walked) where
+    solved_ends : (i : ℕ) (q : Equation) (d : Direction) → entry es i ≡ some q → rule ≡ rule_number i d → LeavesSolved (solve q d) memory walked
+    solved_ends i q d x y = leaves_solved (leaves_it i q d x y) e
 
-    its_ends : LeavesEnd (solve this.equation this.direction) memory Solved told.lines told.turns
+    its_ends : LeavesSolved (solve this.equation this.direction) memory walked
     its_ends = solved_ends this.number this.equation this.direction this.numbered this.is
 
-    its_lines : LinesThere es rule told.lines memory
+    its_lines : LinesThere es rule walked.lines memory
     its_lines = record {
       low = low;
       few = its_ends.3;
-      there = λ i q d x y. let s = solved_ends i q d x y in (s.0, told.turns, s.1, s.2, s.4);
+      there = λ i q d x y. let s = solved_ends i q d x y in (s.0, walked.turns, s.1, s.2, s.4);
     }
 
     abbrev first_frame : List ℕ
-    first_frame = table_kind ∷ rule / 2 ∷ rule % 2 ∷ told.lines ∷ two_bytes told.turns
+    first_frame = table_kind ∷ rule / 2 ∷ rule % 2 ∷ walked.lines ∷ two_bytes walked.turns
 
     frames_are : rule_frames 0 es rule ≡ first_frame ∷ map (line_frame this.equation) its_ends.0
     unfolding table_frames
@@ -101,14 +98,14 @@ module _ {equations lengths : List ℕ} {rule : ℕ} (memory : List ℕ) (told :
         ap (rule_frames 0 es) o.is
         ∙ (rule_frames_are es o.number o.direction o.numbered
         ∙ (ap (table_frames o.number o.equation o.direction) s.1
-        ∙ ap₂ (λ a b. (table_kind ∷ a ∷ b ∷ length s.0 ∷ two_bytes told.turns) ∷ rest) (sym p) (sym q)
-        ∙ ap (λ n. (table_kind ∷ rule / 2 ∷ rule % 2 ∷ n ∷ two_bytes told.turns) ∷ rest) (sym s.2)))
+        ∙ ap₂ (λ a b. (table_kind ∷ a ∷ b ∷ length s.0 ∷ two_bytes walked.turns) ∷ rest) (sym p) (sym q)
+        ∙ ap (λ n. (table_kind ∷ rule / 2 ∷ rule % 2 ∷ n ∷ two_bytes walked.turns) ∷ rest) (sym s.2)))
 
     pub table_given : {before after : List ℕ} {bytes : ℕ} → table_room ≤ length before → Appended before 0 (printed (first_frame ∷ [])) after bytes
-        → TableGiven es rule memory before after (record { place = LinePlace rule 0 told.lines; bytes = bytes })
+        → TableGiven es rule memory before after (record { next = LinePlace rule 0 walked.lines; bytes = bytes })
     unfolding two_bytes
     table_given h a = record {
-      lines = told.lines;
+      lines = walked.lines;
       next = refl;
       records_there = its_lines;
       first = first_frame;
@@ -224,5 +221,11 @@ module _ {equations lengths : List ℕ} {rule first lines : ℕ} {scratch before
   begun room full = elim (ℕ_discrete k first) [ yes e ↦ absurd (omega (arith, p.at_first e, p.same_length)) | no n ↦ omega (arith, p.from_first) ]
 
   pub lines_given : first < k → (arities : List ℕ) (es : List Equation) → RowsAre equations lengths arities es → LinesThere es rule lines scratch
-      → LinesGiven es rule first lines before out (record { line = k; bytes = at })
+      → LinesGiven es rule first lines before out (record { next = k; bytes = at })
   lines_given h arities es rows there = record { some = h; not_more = p.not_more; appended = p.so_far arities es rows there; within = omega (arith, p.within, p.same_length) }
+
+  pub all_given : lines ≤ k → first < lines → (arities : List ℕ) (es : List Equation) → RowsAre equations lengths arities es → LinesThere es rule lines scratch
+      → LinesGiven es rule first lines before out (record { next = lines; bytes = at })
+  all_given all more arities es rows there =
+      let e : k ≡ lines = omega (arith, p.not_more) in
+      subst (λ n. LinesGiven es rule first lines before out (record { next = n; bytes = at })) e (lines_given (omega (arith, p.not_more)) arities es rows there)

@@ -11,13 +11,11 @@ ghost use Rattle.cursor.specs.ForContracts.Rest.{rule_frames};
 ghost use Rattle.cursor.specs.ForContracts.Stands.{LinesThere};
 ghost use Rattle.tables.specs.ForContracts.Table.{TableGiven, HasLine, HasLines, LinesGiven};
 
-use cursor::place::{Piece, Place};
-use format::byte::wide;
+use cursor::place::{Listed, Place};
 use format::limits::Limits;
 use frames::fixed::put_table;
 use frames::line::{LINE_ROOM, put_line};
 use rules::keep::walk_rule;
-use solve_equation::positions::WalkEnd;
 
 // "for each equation and direction '11'": walks the rule, whose lines come next.
 pub fn list_table(
@@ -26,23 +24,25 @@ pub fn list_table(
     lengths: &[u8],
     scratch: &mut [u8],
     out: &mut [u8],
-) -> Piece
+) -> Listed<Place>
     requires { HasRuleIn equations.now lengths.now rule × (memory_bytes ≤ length scratch.old) × (table_room ≤ length out.old) }
     ensures { (arities : List ℕ) (es : List Equation) → RowsAre equations.now lengths.now arities es → EverySolves es → rule < 2 * length es → TableGiven es rule scratch.new out.old out.new result }
 {
-    let walked = walk_rule(equations, lengths, rule, scratch);
-    let ending = walked.ending;
-    match ending {
-        WalkEnd::Solved => {
+    match walk_rule(equations, lengths, rule, scratch) {
+        Ok(walked) => {
             let bytes = put_table(rule, walked.lines, walked.turns, out, 0);
-            Piece {
-                place: Place::Line(rule, 0, walked.lines),
-                bytes: bytes,
+            Listed {
+                next: Place::Line {
+                    rule,
+                    line: 0,
+                    lines: walked.lines,
+                },
+                bytes,
             }
         }
         // Not met: every direction of a sheet that is listed solves.
-        WalkEnd::Refused(_) => Piece {
-            place: Place::End,
+        Err(_) => Listed {
+            next: Place::End,
             bytes: 0,
         },
     }
@@ -63,8 +63,8 @@ fn list_line(
     ensures upper_bound { result ≤ at + line_room }
 {
     let row = rule / 2 * Limits::POSITIONS;
-    let right = row + wide(lengths[row]);
-    let end = right + wide(lengths[right]);
+    let right = row + usize::from(lengths[row]);
+    let end = right + usize::from(lengths[right]);
     let from = line * Limits::RECORD;
     let next = from + Limits::RECORD;
     put_line(
@@ -76,13 +76,6 @@ fn list_line(
     )
 }
 
-// The next line, and how many bytes stand in the buffer.
-#[derive(Clone, Copy)]
-pub struct LinesListed {
-    pub line: usize,
-    pub bytes: usize,
-}
-
 // "then per line '12'": the lines from `first` on that the buffer has room for, one at least.
 pub fn list_lines(
     rule: usize,
@@ -92,21 +85,22 @@ pub fn list_lines(
     lengths: &[u8],
     scratch: &[u8],
     out: &mut [u8],
-) -> LinesListed
+) -> Listed<usize>
     requires { HasLines equations.now lengths.now rule lines scratch.now × (first < lines) × (line_room ≤ length out.old) }
     ensures { (arities : List ℕ) (es : List Equation) → RowsAre equations.now lengths.now arities es → LinesThere es rule lines scratch.now → LinesGiven es rule first lines out.old out.new result }
 {
     let mut at = 0;
-    let mut line = first;
-    while line < lines {
+    for line in first..lines {
         if out.len() < at + LINE_ROOM {
-            break;
+            return Listed {
+                next: line,
+                bytes: at,
+            };
         }
         at = list_line(rule, line, equations, lengths, scratch, out, at);
-        line = line + 1;
     }
-    LinesListed {
-        line: line,
+    Listed {
+        next: lines,
         bytes: at,
     }
 }

@@ -11,7 +11,8 @@ use Rattle.format.specs.Lists.{entry}
 use Rattle.format.specs.Theory.Lists.{entry_found, every_entry}
 use Rattle.terms.specs.Term.{Term, Terms, size, Ground, Grounds}
 use Rattle.terms.specs.Prefix.{prefix}
-use Rattle.terms.specs.Equation.{Equation, Direction}
+use Rattle.terms.specs.Equation.{Equation}
+use Rattle.terms.specs.declared.direction.Direction.{Direction}
 use Rattle.ordering.specs.declared.decision.Decision.{Decision}
 use Rattle.ordering.specs.Decision.{decision}
 use Rattle.sheet.specs.Sheet.{Task, run, judgement, comparison, Sheet}
@@ -78,14 +79,14 @@ module _ {sheet : List ℕ} {known : Known} {equations lengths bounds : List ℕ
       valid_task : ValidTask s.arities s.equations t
       valid_task = every_entry (ValidTask s.arities s.equations) s.tasks task ready.knows.valid.tasks x
 
-      terms_of : {u : Task} → t ≡ u → Spans sheet place.from place.end (task_terms u)
-      terms_of e = subst (λ u. Spans sheet place.from place.end (task_terms u)) e there.1
+      terms_of : {u : Task} → t ≡ u → Spans sheet place.terms.from place.terms.end (task_terms u)
+      terms_of e = subst (λ u. Spans sheet place.terms.from place.terms.end (task_terms u)) e there.1
 
       valid_as : {u : Task} → t ≡ u → ValidTask s.arities s.equations u
       valid_as e = subst (ValidTask s.arities s.equations) e valid_task
 
       found_run : {k : ℕ} → place.head ≡ Run k
-          → (u : Term) × (t ≡ run k u) × RunTermIs sheet known place.from place.end equations lengths bounds s.equations u × (k ≤ max_steps)
+          → (u : Term) × (t ≡ run k u) × RunTermIs sheet known place.terms.from place.terms.end equations lengths bounds s.equations u × (k ≤ max_steps)
       unfolding task_terms prefix size
       found_run {k} h =
           let (u, e) = is_run t (sym there.0 ∙ h) in
@@ -97,7 +98,7 @@ module _ {sheet : List ℕ} {known : Known} {equations lengths bounds : List ℕ
               counted = ready.knows.equations_are;
               bounds_length = ready.bounds_length;
               term_in = record {
-                spans = subst (Spans sheet place.from place.end) (sym (append-nil (prefix u))) (terms_of e);
+                spans = subst (Spans sheet place.terms.from place.terms.end) (sym (append-nil (prefix u))) (terms_of e);
                 is_ground = (subst (λ a. Ground a u) (sym its_arities) is_ground, tt);
                 few_nodes = omega arith;
                 few_symbols = few_symbols;
@@ -108,7 +109,7 @@ module _ {sheet : List ℕ} {known : Known} {equations lengths bounds : List ℕ
           )
 
       found_judgement : {k d : ℕ} → place.head ≡ Judgement k d
-          → (o : Direction) × (ts : Terms) × (t ≡ judgement k o ts) × (e : Equation) × (entry s.equations k ≡ some e) × JudgementAt sheet known place.from place.end equations lengths (k + k + d) k e o ts
+          → (o : Direction) × (ts : Terms) × (t ≡ judgement k o ts) × (e : Equation) × (entry s.equations k ≡ some e) × JudgementAt sheet known place.terms.from place.terms.end equations lengths (k + k + d) k e o ts
       unfolding task_terms
       found_judgement {k} {d} h =
           let (o, ts, y, n) = is_judgement t (sym there.0 ∙ h) in
@@ -127,7 +128,7 @@ module _ {sheet : List ℕ} {known : Known} {equations lengths bounds : List ℕ
             },
           )
 
-      found_comparison : place.head ≡ Comparison → (u v : Term) × (t ≡ comparison u v) × PairIn sheet (known_arities known) place.from place.end u v
+      found_comparison : place.head ≡ Comparison → (u v : Term) × (t ≡ comparison u v) × PairIn sheet (known_arities known) place.terms.from place.terms.end u v
       unfolding task_terms prefix size
       found_comparison h =
           let (u, v, e) = is_comparison t (sym there.0 ∙ h) in
@@ -136,7 +137,7 @@ module _ {sheet : List ℕ} {known : Known} {equations lengths bounds : List ℕ
             v,
             e,
             record {
-              spans = subst (Spans sheet place.from place.end) (ap (prefix u ++◌) (sym (append-nil (prefix v)))) (terms_of e);
+              spans = subst (Spans sheet place.terms.from place.terms.end) (ap (prefix u ++◌) (sym (append-nil (prefix v)))) (terms_of e);
               is_ground = (subst (λ a. Ground a u) (sym its_arities) first, (subst (λ a. Ground a v) (sym its_arities) second, tt));
               few_nodes = omega arith;
               few_symbols = few_symbols;
@@ -146,7 +147,7 @@ module _ {sheet : List ℕ} {known : Known} {equations lengths bounds : List ℕ
       -- What is printed of it.
       module _ {before after : List ℕ} where
         pub run_printed : {k : ℕ} {r : TaskListed} → place.head ≡ Run k
-            → ((es : List Equation) (subject : Term) → RunTermIs sheet known place.from place.end equations lengths bounds es subject → LinesReady fits bounds table es
+            → ((es : List Equation) (subject : Term) → RunTermIs sheet known place.terms.from place.terms.end equations lengths bounds es subject → LinesReady fits bounds table es
             → TaskGiven (known_arities known) es (run k subject) before after r)
             → TaskGiven s.arities s.equations t before after r
         run_printed {k} {r} h given =
@@ -154,14 +155,14 @@ module _ {sheet : List ℕ} {known : Known} {equations lengths bounds : List ℕ
             subst (λ t. TaskGiven s.arities s.equations t before after r) (sym e) (subst (λ a. TaskGiven a s.equations (run k u) before after r) its_arities (given s.equations u is ready.lines))
 
         pub judgement_printed : {k d end : ℕ} → place.head ≡ Judgement k d
-            → ((i : ℕ) (e : Equation) (o : Direction) (ts : Terms) → JudgementAt sheet known place.from place.end equations lengths (k + k + d) i e o ts
+            → ((i : ℕ) (e : Equation) (o : Direction) (ts : Terms) → JudgementAt sheet known place.terms.from place.terms.end equations lengths (k + k + d) i e o ts
             → Appended before 0 (printed (judgement_frame (holding_line e o (given_values ts)) ∷ [])) after end)
             → TaskGiven s.arities s.equations t before after (record { bytes = end; steps = 0 })
         judgement_printed {k} {end = end} h given =
             let (o, ts, y, e, is, at) = found_judgement h in
             subst (λ t. TaskGiven s.arities s.equations t before after (record { bytes = end; steps = 0 })) (sym y) (judgement_given is (given k e o ts at))
 
-        pub comparison_printed : {w : Decision} {end : ℕ} → place.head ≡ Comparison → ((u v : Term) → PairIn sheet (known_arities known) place.from place.end u v → w ≡ decision u v)
+        pub comparison_printed : {w : Decision} {end : ℕ} → place.head ≡ Comparison → ((u v : Term) → PairIn sheet (known_arities known) place.terms.from place.terms.end u v → w ≡ decision u v)
             → Appended before 0 (printed (comparison_frame w ∷ [])) after end → TaskGiven s.arities s.equations t before after (record { bytes = end; steps = 0 })
         comparison_printed {end = end} h told a =
             let (u, v, e, is) = found_comparison h in
@@ -172,15 +173,15 @@ module _ {sheet : List ℕ} {known : Known} {equations lengths bounds : List ℕ
       abbrev this : (t : Task) × (entry h.content.tasks task ≡ some t)
       this = entry_found h.content.tasks task h.low
 
-      pub run_has : {k : ℕ} → place.head ≡ Run k → HasRunTerm sheet known place.from place.end equations lengths bounds fits table × (k ≤ max_steps)
+      pub run_has : {k : ℕ} → place.head ≡ Run k → HasRunTerm sheet known place.terms.from place.terms.end equations lengths bounds fits table × (k ≤ max_steps)
       run_has x = let (u, e, is, low) = found_run h.ready this.1 x in (record { those = h.content.equations; subject = u; is = is; ready = h.ready.lines }, low)
 
       module _ {k d : ℕ} (x : place.head ≡ Judgement k d) where
-        pub judgement_has : HasJudgementAt sheet known place.from place.end equations lengths (k + k + d)
+        pub judgement_has : HasJudgementAt sheet known place.terms.from place.terms.end equations lengths (k + k + d)
         judgement_has = let (o, ts, y, e, is, at) = found_judgement h.ready this.1 x in record { number = k; equation = e; direction = o; terms = ts; are = at }
 
         pub rule_low : k + k + d < 2 * max_equations
         rule_low = let (o, ts, y, e, is, at) = found_judgement h.ready this.1 x in omega (arith, at.rule_is.number, rule_below h.content.equations k o is, h.ready.rows.few)
 
-      pub comparison_has : place.head ≡ Comparison → (u : Term) × (v : Term) × PairIn sheet (known_arities known) place.from place.end u v
+      pub comparison_has : place.head ≡ Comparison → (u : Term) × (v : Term) × PairIn sheet (known_arities known) place.terms.from place.terms.end u v
       comparison_has x = let (u, v, e, is) = found_comparison h.ready this.1 x in (u, v, is)

@@ -4,7 +4,8 @@ ghost use Rattle.std.proofs.Math.Option.{some};
 ghost use Rattle.format.specs.Limits.{max_steps, table_bytes, scratch_bytes};
 ghost use Rattle.format.specs.Lists.{entry};
 ghost use Rattle.terms.specs.Term.{Term, Terms};
-ghost use Rattle.terms.specs.Equation.{Equation, Direction};
+ghost use Rattle.terms.specs.Equation.{Equation};
+ghost use Rattle.terms.specs.declared.direction.Direction.{Direction};
 ghost use Rattle.sheet.specs.Sheet.{Task, Sheet, run};
 ghost use Rattle.scanning.specs.ForContracts.Scan.{known_arities};
 ghost use Rattle.reducing.specs.Test.{EverySolves, holding_line, given_values};
@@ -21,14 +22,13 @@ use format::limits::Limits;
 use frames::fixed::{put_comparison, put_judgement};
 use frames::steps::{put_run, put_steps};
 use judge_task::task::judge_values;
-use kept_lines::trimmed::{Kept, keep_lines};
+use kept_lines::trimmed::keep_lines;
 use reading::seek::{TaskHead, find_task};
 use rules::keep::walk_rule;
 use rules::opened::Opened;
 use run_term::term::{RunAsked, run_course};
 use scanning::known::Known;
 use scanning::text::Span;
-use solve_equation::positions::WalkEnd;
 
 // The bytes that stand in the buffer, and the steps of a run.
 #[derive(Clone, Copy)]
@@ -42,32 +42,24 @@ fn list_judgement(
     sheet: &[u8],
     known: Known,
     rule: usize,
-    from: usize,
-    end: usize,
+    digits: Span,
     equations: &[u8],
     lengths: &[u8],
     scratch: &mut [u8],
     out: &mut [u8],
 ) -> usize
-    requires has_judgement_at { HasJudgementAt sheet.now known from end equations.now lengths.now rule }
+    requires has_judgement_at { HasJudgementAt sheet.now known digits.from digits.end equations.now lengths.now rule }
     requires scratch_bytes_in_bounds { (scratch_bytes ≤ length scratch.old) × (judgement_room ≤ length out.old) }
-    ensures { (i : ℕ) (e : Equation) (d : Direction) (ts : Terms) → JudgementAt sheet.now known from end equations.now lengths.now rule i e d ts → Appended out.old 0 (printed (judgement_frame (holding_line e d (given_values ts)) ∷ [])) out.new result }
+    ensures { (i : ℕ) (e : Equation) (d : Direction) (ts : Terms) → JudgementAt sheet.now known digits.from digits.end equations.now lengths.now rule i e d ts → Appended out.old 0 (printed (judgement_frame (holding_line e d (given_values ts)) ∷ [])) out.new result }
 {
-    let walked = walk_rule(equations, lengths, rule, scratch);
-    let ending = walked.ending;
     // Not met: every direction of a sheet that is listed solves.
-    let WalkEnd::Solved = ending else {
+    let Ok(walked) = walk_rule(equations, lengths, rule, scratch) else {
         return 0;
     };
     let mut lines = [0u8; Limits::TABLE];
-    let kept = keep_lines(scratch, walked.lines, &mut lines, 0);
     // Not met: the table has room for the lines of one rule.
-    let Kept::End(filled) = kept else {
+    let Some(filled) = keep_lines(scratch, walked.lines, &mut lines, 0) else {
         return 0;
-    };
-    let digits = Span {
-        from: from,
-        end: end,
     };
     let holding = judge_values(
         sheet, known, digits, equations, lengths, rule, &lines, filled, scratch,
@@ -86,9 +78,9 @@ fn list_run(
     scratch: &mut [u8],
     out: &mut [u8],
 ) -> TaskListed
-    requires has_run_term { HasRunTerm sheet.now asked.opened.known asked.from asked.end equations.now lengths.now bounds.now asked.opened.fits table.old × (asked.limit ≤ max_steps) }
+    requires has_run_term { HasRunTerm sheet.now asked.opened.known asked.digits.from asked.digits.end equations.now lengths.now bounds.now asked.opened.fits table.old × (asked.limit ≤ max_steps) }
     requires table_bytes_in_bounds { (table_bytes ≤ length table.old) × (scratch_bytes ≤ length scratch.old) × (task_room ≤ length out.old) }
-    ensures task_given { (es : List Equation) (subject : Term) → RunTermIs sheet.now asked.opened.known asked.from asked.end equations.now lengths.now bounds.now es subject → LinesReady asked.opened.fits bounds.now table.old es → TaskGiven (known_arities asked.opened.known) es (run asked.limit subject) out.old out.new result }
+    ensures task_given { (es : List Equation) (subject : Term) → RunTermIs sheet.now asked.opened.known asked.digits.from asked.digits.end equations.now lengths.now bounds.now es subject → LinesReady asked.opened.fits bounds.now table.old es → TaskGiven (known_arities asked.opened.known) es (run asked.limit subject) out.old out.new result }
     ensures lines_ready { (es : List Equation) → EverySolves es → LinesReady asked.opened.fits bounds.now table.old es → LinesReady asked.opened.fits bounds.now table.new es }
 {
     let mut term = [0u8; Limits::TERM];
@@ -96,14 +88,11 @@ fn list_run(
     let course = run_course(
         sheet, asked, equations, lengths, bounds, table, scratch, &mut term, &mut log,
     );
-    let behind = put_steps(&log, course.steps, out, 0);
-    let ending = course.ending;
-    let size = course.size;
-    let bytes = put_run(ending, course.steps, &term[..size], out, behind);
-    TaskListed {
-        bytes: bytes,
-        steps: course.steps,
-    }
+    let steps = course.steps;
+    let behind = put_steps(&log, steps, out, 0);
+    let last = &term[..course.size];
+    let bytes = put_run(course.ending, steps, last, out, behind);
+    TaskListed { bytes, steps }
 }
 
 // Task `task`.
@@ -125,43 +114,32 @@ pub fn list_task(
 {
     let known = opened.known;
     let found = find_task(sheet, known, task);
-    let head = found.head;
-    match head {
-        TaskHead::Run(limit) => {
+    let digits = found.terms;
+    match found.head {
+        TaskHead::Run { limit } => {
             let asked = RunAsked {
-                opened: opened,
-                limit: limit,
-                from: found.from,
-                end: found.end,
+                opened,
+                limit,
+                digits,
             };
             list_run(
                 sheet, asked, equations, lengths, bounds, table, scratch, out,
             )
         }
-        TaskHead::Judgement(e, d) => {
+        TaskHead::Judgement {
+            equation,
+            direction,
+        } => {
+            let rule = equation + equation + direction;
             let bytes = list_judgement(
-                sheet,
-                known,
-                e + e + d,
-                found.from,
-                found.end,
-                equations,
-                lengths,
-                scratch,
-                out,
+                sheet, known, rule, digits, equations, lengths, scratch, out,
             );
-            TaskListed {
-                bytes: bytes,
-                steps: 0,
-            }
+            TaskListed { bytes, steps: 0 }
         }
         TaskHead::Comparison => {
-            let decision = compare_terms(sheet, known, found.from, found.end, scratch);
+            let decision = compare_terms(sheet, known, digits, scratch);
             let bytes = put_comparison(decision, out, 0);
-            TaskListed {
-                bytes: bytes,
-                steps: 0,
-            }
+            TaskListed { bytes, steps: 0 }
         }
     }
 }

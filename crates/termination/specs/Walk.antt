@@ -3,7 +3,8 @@ use Rattle.std.specs.Prelude.{ℕ, suc, max, ◌≤◌, ◌≡◌, false, List}
 use Rattle.std.proofs.Math.Option.{Option, none}
 use Rattle.format.specs.Limits.{variable_count}
 use Rattle.format.specs.declared.refusal.Refusal.{Refusal}
-use Rattle.terms.specs.Equation.{Equation, Direction, view, source_position, target_position}
+use Rattle.terms.specs.Equation.{Equation, view, source_position, target_position}
+use Rattle.terms.specs.declared.direction.Direction.{Direction}
 use Rattle.terms.specs.ForContracts.Limits.{positions}
 use Rattle.sheet.specs.Sheet.{equation_width}
 use Rattle.solving.specs.Line.{Line}

@@ -3,16 +3,14 @@ use Rattle.std.specs.Prelude.{ℕ, zero, suc, ◌++◌, get_or}
 use Rattle.std.proofs.Math.Option.{Option, none, some}
 use Rattle.terms.specs.Term.{Term, var, size, Values, inst}
 use Rattle.terms.specs.Position.{subterms, Node, node_at}
+-- "Direction 00 is left > right, 01 is right > left"
+pub use Rattle.terms.specs.declared.direction.Direction.{Direction}
+pub use Rattle.terms.specs.declared.direction.Direction.TheVariants.{LeftRight as left_right, RightLeft as right_left}
 
 -- "an equation, left term then right term"
 pub record Equation : Type 0 where
   pub left : Term
   pub right : Term
-
--- "Direction 00 is left > right, 01 is right > left"
-pub data Direction : Type 0 where
-  left_right : Direction
-  right_left : Direction
 
 unfoldable pub direction_number : Direction → ℕ
 direction_number left_right = 0

@@ -1,4 +1,5 @@
 -- Laws of terms and positions.
+pub mod Directions
 pub mod Induction
 pub mod Position
 pub mod Subterms

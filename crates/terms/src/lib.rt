@@ -3,4 +3,5 @@
 #![tactic(auto)]
 
 pub mod arguments;
+pub mod direction;
 pub mod measure;

@@ -9,7 +9,7 @@ use Rattle.terms.specs.Position.{var_node, app_node}
 use Rattle.solving.specs.Line.{greater, line}
 use Rattle.solving.specs.Walk.{enough, reach, occurs, Treatment, fully_reduced, becomes, treat_greater, treat}
 use Rattle.solving.specs.ForContracts.Within.{Within}
-use Rattle.line_bytes.specs.declared.element.Element.TheVariants.{Equal, Greater}
+use Rattle.line_bytes.specs.declared.element.Relation.TheVariants.{Equal, Greater}
 use Rattle.line_bytes.specs.declared.element.Element.{Element as Held}
 use Rattle.treating.specs.declared.treat.Sides.{Sides}
 use Rattle.treating.specs.declared.treat.Treatment.{Treatment as Found}
@@ -54,11 +54,11 @@ module _ (nodes sizes bs : List ℕ) (p q s : ℕ) (at_p : s ≡ reach enough (v
 
 -- What an element asks for, by its relation.
 module _ (e : Held) (p q : ℕ) (d : Sides) (x : d ≡ record { left = p; right = q }) where
-  pub asks_unify : (nodes sizes bs : List ℕ) → e ≡ Equal p q → Treated nodes sizes bs (meaning e) (Unify d)
+  pub asks_unify : (nodes sizes bs : List ℕ) → e.relation ≡ Equal p q → Treated nodes sizes bs (meaning e) (Unify d)
   asks_unify nodes sizes bs y = record { asks = says_equal e p q y ∙ rw x }
 
-  pub asks_as_greater : (nodes sizes bs : List ℕ) (r : Found) → e ≡ Greater p q → Treated nodes sizes bs (greater d.left d.right) r → Treated nodes sizes bs (meaning e) r
+  pub asks_as_greater : (nodes sizes bs : List ℕ) (r : Found) → e.relation ≡ Greater p q → Treated nodes sizes bs (greater d.left d.right) r → Treated nodes sizes bs (meaning e) r
   asks_as_greater nodes sizes bs r y t = rw (says_greater e p q y) (rw x at t)
 
-  pub greater_within : (n : ℕ) → e ≡ Greater p q → Within n (meaning e) → (d.left < n) × (d.right < n)
+  pub greater_within : (n : ℕ) → e.relation ≡ Greater p q → Within n (meaning e) → (d.left < n) × (d.right < n)
   greater_within n y w = let h : Within n (greater p q) = rw (says_greater e p q y) at w in rw x h

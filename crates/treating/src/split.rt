@@ -5,6 +5,7 @@ ghost use Rattle.treating.specs.ForContracts.Splitting.{CountsLastChoices, TooLo
 use crate::choices::{fill_exceeding, push_arguments, push_lexicographic};
 use crate::treat::Sides;
 use bindings::count::row_count;
+use bindings::equation::EquationTerms;
 use format::limits::Limits;
 use line_bytes::edit::{make_room, store};
 use line_bytes::layout::{FIRST_ELEMENT, REDUCED};
@@ -63,14 +64,14 @@ pub struct Choices {
     pub last: usize,
 }
 
-pub fn choices_of(nodes: &[u8], sizes: &[u8], at: usize, sides: Sides, terms: Sides) -> Choices
-    requires { HasChoices nodes.now sizes.now sides terms }
-    ensures { ChoicesOf nodes.now sizes.now at sides terms result }
+pub fn choices_of(equation: &EquationTerms, at: usize, sides: Sides, terms: Sides) -> Choices
+    requires { HasChoices equation.now.nodes.now equation.now.sizes.now sides terms }
+    ensures { ChoicesOf equation.now.nodes.now equation.now.sizes.now at sides terms result }
 {
-    let f = nodes[terms.left];
-    let g = nodes[terms.right];
-    let left = counted_arguments(sizes, terms.left);
-    let right = counted_arguments(sizes, terms.right);
+    let f = equation.nodes[terms.left];
+    let g = equation.nodes[terms.right];
+    let left = counted_arguments(equation.sizes, terms.left);
+    let right = counted_arguments(equation.sizes, terms.right);
     let last = count_last_choices(f, g, left.count, right.count);
     Choices {
         at,

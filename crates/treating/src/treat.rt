@@ -7,10 +7,9 @@ ghost use Rattle.bindings.specs.ForContracts.Sets.{HasVariables};
 ghost use Rattle.line_bytes.specs.ForContracts.Resting.{meaning};
 ghost use Rattle.treating.specs.ForContracts.Treatment.{Treated};
 
-use bindings::occurs::occurs_at;
-use bindings::reach::reached;
+use bindings::equation::EquationTerms;
 use format::limits::Limits;
-use line_bytes::element::Element;
+use line_bytes::element::{Element, Relation};
 
 // The positions of an element's two sides, or of the terms reached from them.
 #[derive(Clone, Copy)]
@@ -39,45 +38,25 @@ fn element_sides(p: u8, q: u8) -> Sides
 }
 
 // "Inequality l > r", by what l and r are.
-fn inequality_treatment(
-    nodes: &[u8],
-    sizes: &[u8],
-    variables: &[u16],
-    bindings: &[u8],
-    sides: Sides,
-) -> Treatment
-    requires readable { Readable nodes.now sizes.now bindings.now × HasVariables nodes.now sizes.now variables.now }
-    requires left_in_bounds { (sides.left < length nodes.now) × (sides.right < length nodes.now) }
-    ensures { Treated nodes.now sizes.now bindings.now (greater sides.left sides.right) result }
+fn inequality_treatment(equation: &EquationTerms, bindings: &[u8], sides: Sides) -> Treatment
+    requires readable { Readable equation.now.nodes.now equation.now.sizes.now bindings.now × HasVariables equation.now.nodes.now equation.now.sizes.now equation.now.variables.now }
+    requires left_in_bounds { (sides.left < length equation.now.nodes.now) × (sides.right < length equation.now.nodes.now) }
+    ensures { Treated equation.now.nodes.now equation.now.sizes.now bindings.now (greater sides.left sides.right) result }
 {
     let p = sides.left;
     let q = sides.right;
-    let s = reached(nodes, sizes, bindings, p);
-    let t = reached(nodes, sizes, bindings, q);
-    let f = nodes[s];
+    let s = equation.reached(bindings, p);
+    let t = equation.reached(bindings, q);
+    let f = equation.nodes[s];
     if Limits::FIRST_VARIABLE <= f {
-        if occurs_at(
-            nodes,
-            sizes,
-            variables,
-            bindings,
-            usize::from(f - Limits::FIRST_VARIABLE),
-            q,
-        ) {
+        if equation.occurs_at(bindings, usize::from(f - Limits::FIRST_VARIABLE), q) {
             return Treatment::DropLine;
         }
         return Treatment::Reduced;
     }
-    let g = nodes[t];
+    let g = equation.nodes[t];
     if Limits::FIRST_VARIABLE <= g {
-        if occurs_at(
-            nodes,
-            sizes,
-            variables,
-            bindings,
-            usize::from(g - Limits::FIRST_VARIABLE),
-            p,
-        ) {
+        if equation.occurs_at(bindings, usize::from(g - Limits::FIRST_VARIABLE), p) {
             return Treatment::DropElement;
         }
         return Treatment::Reduced;
@@ -86,25 +65,13 @@ fn inequality_treatment(
     Treatment::Split(sides, terms)
 }
 
-pub fn treatment_of(
-    nodes: &[u8],
-    sizes: &[u8],
-    variables: &[u16],
-    bindings: &[u8],
-    element: Element,
-) -> Treatment
-    requires readable { Readable nodes.now sizes.now bindings.now × HasVariables nodes.now sizes.now variables.now }
-    requires within { Within (length nodes.now) (meaning element) }
-    ensures { Treated nodes.now sizes.now bindings.now (meaning element) result }
+pub fn treatment_of(equation: &EquationTerms, bindings: &[u8], element: Element) -> Treatment
+    requires readable { Readable equation.now.nodes.now equation.now.sizes.now bindings.now × HasVariables equation.now.nodes.now equation.now.sizes.now equation.now.variables.now }
+    requires within { Within (length equation.now.nodes.now) (meaning element) }
+    ensures { Treated equation.now.nodes.now equation.now.sizes.now bindings.now (meaning element) result }
 {
-    match element {
-        Element::Greater(p, q) => inequality_treatment(
-            nodes,
-            sizes,
-            variables,
-            bindings,
-            element_sides(p, q),
-        ),
-        Element::Equal(p, q) => Treatment::Unify(element_sides(p, q)),
+    match element.relation {
+        Relation::Greater(p, q) => inequality_treatment(equation, bindings, element_sides(p, q)),
+        Relation::Equal(p, q) => Treatment::Unify(element_sides(p, q)),
     }
 }

@@ -12,8 +12,7 @@ ghost use Rattle.unifying.specs.ForContracts.Links.{Linked};
 ghost use Rattle.unifying.specs.ForContracts.Unify.{answered, FreeAt, HasRows, BindsTo, UnifiesSymbols, UnifiesTo, UnifiesRows};
 
 use crate::links::linked;
-use bindings::occurs::occurs_at;
-use bindings::reach::reached;
+use bindings::equation::EquationTerms;
 use format::limits::Limits;
 use terms::arguments::{Arguments, arguments_of, other_arguments};
 
@@ -34,19 +33,12 @@ fn bind_variables(bindings: &mut [u8], v: usize, w: usize, p: usize, q: usize)
 }
 
 // "Variable and term: bind to the term's position unless it occurs there."
-fn bind_term(
-    nodes: &[u8],
-    sizes: &[u8],
-    variables: &[u16],
-    bindings: &mut [u8],
-    v: usize,
-    p: usize,
-) -> Option<()>
-    requires readable { Readable nodes.now sizes.now bindings.old × HasVariables nodes.now sizes.now variables.now × (p < length nodes.now) }
+fn bind_term(equation: &EquationTerms, bindings: &mut [u8], v: usize, p: usize) -> Option<()>
+    requires readable { Readable equation.now.nodes.now equation.now.sizes.now bindings.old × HasVariables equation.now.nodes.now equation.now.sizes.now equation.now.variables.now × (p < length equation.now.nodes.now) }
     requires v_lt_variable_count { (v < variable_count) × (lookup (bindings_of bindings.old) v ≡ none) }
-    ensures { bind_unless (occurs enough (view_of nodes.now sizes.now) enough.occurs_depth (bindings_of bindings.old) v p) (bindings_of bindings.old) v p ≡ answered result (bindings_of bindings.new) }
+    ensures { bind_unless (occurs enough (view_of equation.now.nodes.now equation.now.sizes.now) enough.occurs_depth (bindings_of bindings.old) v p) (bindings_of bindings.old) v p ≡ answered result (bindings_of bindings.new) }
 {
-    if occurs_at(nodes, sizes, variables, bindings, v, p) {
+    if equation.occurs_at(bindings, v, p) {
         return None;
     }
     bindings[v] = p as u8;
@@ -54,26 +46,17 @@ fn bind_term(
 }
 
 // Binds a variable at one of two positions that are reached.
-fn bind_reached(
-    nodes: &[u8],
-    sizes: &[u8],
-    variables: &[u16],
-    bindings: &mut [u8],
-    s: usize,
-    t: usize,
-) -> Option<()>
-    requires readable { Readable nodes.now sizes.now bindings.old × HasVariables nodes.now sizes.now variables.now }
-    requires free_at { FreeAt nodes.now sizes.now bindings.old s × FreeAt nodes.now sizes.now bindings.old t }
-    requires first_variable_bound { get_or nodes.now s 0 < first_variable → first_variable ≤ get_or nodes.now t 0 }
-    ensures { BindsTo nodes.now sizes.now (bindings_of bindings.old) s t result (bindings_of bindings.new) }
+fn bind_reached(equation: &EquationTerms, bindings: &mut [u8], s: usize, t: usize) -> Option<()>
+    requires readable { Readable equation.now.nodes.now equation.now.sizes.now bindings.old × HasVariables equation.now.nodes.now equation.now.sizes.now equation.now.variables.now }
+    requires free_at { FreeAt equation.now.nodes.now equation.now.sizes.now bindings.old s × FreeAt equation.now.nodes.now equation.now.sizes.now bindings.old t }
+    requires first_variable_bound { get_or equation.now.nodes.now s 0 < first_variable → first_variable ≤ get_or equation.now.nodes.now t 0 }
+    ensures { BindsTo equation.now.nodes.now equation.now.sizes.now (bindings_of bindings.old) s t result (bindings_of bindings.new) }
 {
-    let f = nodes[s];
-    let g = nodes[t];
+    let f = equation.nodes[s];
+    let g = equation.nodes[t];
     if f < Limits::FIRST_VARIABLE {
         return bind_term(
-            nodes,
-            sizes,
-            variables,
+            equation,
             bindings,
             usize::from(g - Limits::FIRST_VARIABLE),
             s,
@@ -81,9 +64,7 @@ fn bind_reached(
     }
     if g < Limits::FIRST_VARIABLE {
         return bind_term(
-            nodes,
-            sizes,
-            variables,
+            equation,
             bindings,
             usize::from(f - Limits::FIRST_VARIABLE),
             t,
@@ -103,98 +84,88 @@ fn bind_reached(
 // Terms that were unified are linked, and not gone into again: bindings that double terms would make it long.
 #[cycle(unification)]
 pub fn unify_terms(
-    nodes: &[u8],
-    sizes: &[u8],
-    variables: &[u16],
+    equation: &EquationTerms,
     bindings: &mut [u8],
     links: &mut [u8],
     p: usize,
     q: usize,
     depth: usize,
 ) -> Option<()>
-    requires readable { Readable nodes.now sizes.now bindings.old × HasVariables nodes.now sizes.now variables.now }
-    requires p_in_bounds { (p < length nodes.now) × (q < length nodes.now) }
-    requires linked { Linked nodes.now sizes.now bindings.old links.old }
-    ensures unifies_to { UnifiesTo nodes.now sizes.now depth (bindings_of bindings.old) p q result (bindings_of bindings.new) }
-    ensures linked_2 { IsSome result → Linked nodes.now sizes.now bindings.new links.new }
+    requires readable { Readable equation.now.nodes.now equation.now.sizes.now bindings.old × HasVariables equation.now.nodes.now equation.now.sizes.now equation.now.variables.now }
+    requires p_in_bounds { (p < length equation.now.nodes.now) × (q < length equation.now.nodes.now) }
+    requires linked { Linked equation.now.nodes.now equation.now.sizes.now bindings.old links.old }
+    ensures unifies_to { UnifiesTo equation.now.nodes.now equation.now.sizes.now depth (bindings_of bindings.old) p q result (bindings_of bindings.new) }
+    ensures linked_2 { IsSome result → Linked equation.now.nodes.now equation.now.sizes.now bindings.new links.new }
 {
     if depth == 0 {
         return None;
     }
-    let s = reached(nodes, sizes, bindings, p);
-    let t = reached(nodes, sizes, bindings, q);
+    let s = equation.reached(bindings, p);
+    let t = equation.reached(bindings, q);
     if s == t {
         return Some(());
     }
-    if nodes[s] < Limits::FIRST_VARIABLE && nodes[t] < Limits::FIRST_VARIABLE {
+    if equation.nodes[s] < Limits::FIRST_VARIABLE && equation.nodes[t] < Limits::FIRST_VARIABLE {
         let a = linked(links, s);
         let b = linked(links, t);
         if a == b {
             return Some(());
         }
-        unify_symbols(nodes, sizes, variables, bindings, links, s, t, depth - 1)?;
+        unify_symbols(equation, bindings, links, s, t, depth - 1)?;
         links[a] = b as u8;
         links[s] = b as u8;
         return Some(());
     }
-    bind_reached(nodes, sizes, variables, bindings, s, t)
+    bind_reached(equation, bindings, s, t)
 }
 
 // Unifies two terms that are no variables, their arguments at most `depth` deep.
 #[cycle(unification)]
 fn unify_symbols(
-    nodes: &[u8],
-    sizes: &[u8],
-    variables: &[u16],
+    equation: &EquationTerms,
     bindings: &mut [u8],
     links: &mut [u8],
     s: usize,
     t: usize,
     depth: usize,
 ) -> Option<()>
-    requires readable { Readable nodes.now sizes.now bindings.old × HasVariables nodes.now sizes.now variables.now }
-    requires s_in_bounds { (s < length nodes.now) × (get_or nodes.now s 0 < first_variable) }
-    requires t_in_bounds { (t < length nodes.now) × (get_or nodes.now t 0 < first_variable) }
-    requires linked { Linked nodes.now sizes.now bindings.old links.old }
-    ensures unifies_symbols { UnifiesSymbols nodes.now sizes.now depth (bindings_of bindings.old) s t result (bindings_of bindings.new) }
-    ensures linked_2 { IsSome result → Linked nodes.now sizes.now bindings.new links.new }
+    requires readable { Readable equation.now.nodes.now equation.now.sizes.now bindings.old × HasVariables equation.now.nodes.now equation.now.sizes.now equation.now.variables.now }
+    requires s_in_bounds { (s < length equation.now.nodes.now) × (get_or equation.now.nodes.now s 0 < first_variable) }
+    requires t_in_bounds { (t < length equation.now.nodes.now) × (get_or equation.now.nodes.now t 0 < first_variable) }
+    requires linked { Linked equation.now.nodes.now equation.now.sizes.now bindings.old links.old }
+    ensures unifies_symbols { UnifiesSymbols equation.now.nodes.now equation.now.sizes.now depth (bindings_of bindings.old) s t result (bindings_of bindings.new) }
+    ensures linked_2 { IsSome result → Linked equation.now.nodes.now equation.now.sizes.now bindings.new links.new }
 {
-    if nodes[s] != nodes[t] {
+    if equation.nodes[s] != equation.nodes[t] {
         return None;
     }
-    let left = arguments_of(sizes, s);
-    let right = arguments_of(sizes, t);
-    unify_rows(nodes, sizes, variables, bindings, links, left, right, depth)
+    let left = arguments_of(equation.sizes, s);
+    let right = arguments_of(equation.sizes, t);
+    unify_rows(equation, bindings, links, left, right, depth)
 }
 
 // Unifies the terms of two rows, one by one.
 #[cycle(unification)]
 fn unify_rows(
-    nodes: &[u8],
-    sizes: &[u8],
-    variables: &[u16],
+    equation: &EquationTerms,
     bindings: &mut [u8],
     links: &mut [u8],
     left: Arguments,
     right: Arguments,
     depth: usize,
 ) -> Option<()>
-    requires readable { Readable nodes.now sizes.now bindings.old × HasVariables nodes.now sizes.now variables.now }
-    requires has_rows { HasRows nodes.now sizes.now left right }
-    requires linked { Linked nodes.now sizes.now bindings.old links.old }
-    ensures unifies_rows { UnifiesRows nodes.now sizes.now depth (bindings_of bindings.old) left right result (bindings_of bindings.new) }
-    ensures linked_2 { IsSome result → Linked nodes.now sizes.now bindings.new links.new }
+    requires readable { Readable equation.now.nodes.now equation.now.sizes.now bindings.old × HasVariables equation.now.nodes.now equation.now.sizes.now equation.now.variables.now }
+    requires has_rows { HasRows equation.now.nodes.now equation.now.sizes.now left right }
+    requires linked { Linked equation.now.nodes.now equation.now.sizes.now bindings.old links.old }
+    ensures unifies_rows { UnifiesRows equation.now.nodes.now equation.now.sizes.now depth (bindings_of bindings.old) left right result (bindings_of bindings.new) }
+    ensures linked_2 { IsSome result → Linked equation.now.nodes.now equation.now.sizes.now bindings.new links.new }
 {
     if left.from < left.end {
         if right.from < right.end {
-            unify_terms(
-                nodes, sizes, variables, bindings, links, left.from, right.from, depth,
-            )?;
-            let others = other_arguments(sizes, left);
-            let opposite = other_arguments(sizes, right);
-            return unify_rows(
-                nodes, sizes, variables, bindings, links, others, opposite, depth,
-            );
+            unify_terms(equation, bindings, links, left.from, right.from, depth)?;
+            let others = other_arguments(equation.sizes, left);
+            let opposite = other_arguments(equation.sizes, right);
+            return unify_rows(equation, bindings, links, others, opposite, depth);
         }
         return None;
     }

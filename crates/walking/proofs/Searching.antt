@@ -19,7 +19,7 @@ use Rattle.bindings.specs.ForContracts.PrefixForm.{view_of}
 use Rattle.line_bytes.specs.declared.element.Element.{Element as Held}
 use Rattle.lines.specs.declared.line.Line.{Line as LineValue}
 use Rattle.line_bytes.specs.ForContracts.Layout.{count_place, first_element, reduced_place, line_bytes}
-use Rattle.line_bytes.specs.ForContracts.Resting.{meaning, marked, RestingLine, line_of, resting_bytes}
+use Rattle.line_bytes.specs.ForContracts.Resting.{said, meaning, marked, RestingLine, line_of, resting_bytes}
 use Rattle.lines.specs.ForContracts.Line.{HasHead, elements_from, Carries}
 use Rattle.line_bytes.specs.Theory.Resting.{count_there, reduced_there, element_there}
 use Rattle.lines.specs.Theory.Line.{unfilled, elements_hold}
@@ -150,7 +150,7 @@ searching_start nodes sizes memory place line = record {
 
 -- The element that is looked at.
 looked_at : {l : LineValue} {s : RestingLine} {i : ℕ} → Carries l s → s.reduced ≤ i → i < l.count → meaning (get_or l.elements i unfilled) ≡ get_or s.elements i (greater 0 0)
-unfolding elements_from meaning
+unfolding elements_from meaning said
 looked_at {l = l} {s = s} {i = i} h a b =
     let part = slice i l.count l.elements in
     let e : i + 0 ≡ i = omega arith in

@@ -15,10 +15,12 @@ use Rattle.solving.specs.Line.{Bindings, Element, equal, greater, line as line_w
 use Rattle.solving.specs.Walk.{enough, becomes, unified, unify, treat, treat_line}
 use Rattle.solving.specs.ForContracts.Written.{Inequalities}
 use Rattle.solving.specs.ForContracts.Within.{Within, AllWithin}
-use Rattle.std.specs.Prelude.{Option as Answer, Some, None}
+use Rattle.std.specs.Prelude.{⊤, Some, None}
 use Rattle.bindings.specs.ForContracts.PrefixForm.{view_of}
 use Rattle.bindings.specs.ForContracts.Bindings.{bindings_of, Readable}
-use Rattle.unifying.specs.ForContracts.Unifier.{unifier_of, Unifies}
+use Rattle.unifying.specs.declared.unifier.Unifier.{Unifier}
+use Rattle.unifying.specs.ForContracts.Unify.{answered}
+use Rattle.unifying.specs.ForContracts.Unifier.{Unifies}
 use Rattle.bindings.specs.Theory.Bindings.{readable_slots}
 use Rattle.unifying.specs.Theory.Unify.{unified_readable}
 use Rattle.lines.specs.declared.line.Line.{Line as LineValue}
@@ -218,45 +220,45 @@ module _ {nodes sizes memory : List ℕ} {w : Walk} {l : LineValue} {at : ℕ} {
       unfolding treat
       treated_equal o e = ap (treat enough (view_of nodes sizes) (bindings_of g.first.bindings)) element_equal ∙ ap unified e
 
-      told : (r : Answer (List ℕ)) → Unifies nodes sizes l.bindings sides.left sides.right r
-          → unify enough (view_of nodes sizes) enough.unify_depth (bindings_of g.first.bindings) sides.left sides.right ≡ unifier_of r
-      told r u = ap (λ b. unify enough (view_of nodes sizes) enough.unify_depth (bindings_of b) sides.left sides.right) (sym own_bindings) ∙ u.tells
+      module _ (r : Unifier) (u : Unifies nodes sizes l.bindings sides.left sides.right r) where
+        told : unify enough (view_of nodes sizes) enough.unify_depth (bindings_of g.first.bindings) sides.left sides.right ≡ answered r.answer (bindings_of r.bindings)
+        told = ap (λ b. unify enough (view_of nodes sizes) enough.unify_depth (bindings_of b) sides.left sides.right) (sym own_bindings) ∙ u.tells
 
-      -- "Failure deletes the line".
-      pub unify_failed : Unifies nodes sizes l.bindings sides.left sides.right None → GoesOn nodes sizes memory w (after_turn w (w.top + 1))
-      unfolding unified unifier_of
-      unify_failed u = goes_without g below (treated_equal none (told None u))
+        -- "Failure deletes the line".
+        pub unify_failed : r.answer ≡ None → GoesOn nodes sizes memory w (after_turn w (w.top + 1))
+        unfolding unified answered
+        unify_failed a = goes_without g below (treated_equal none (told ∙ ap (λ o. answered o (bindings_of r.bindings)) a))
 
-      module _ (bs : List ℕ) (u : Unifies nodes sizes l.bindings sides.left sides.right (Some bs)) where
-        some_unifier : unify enough (view_of nodes sizes) enough.unify_depth (bindings_of g.first.bindings) sides.left sides.right ≡ some (bindings_of bs)
-        unfolding unifier_of
-        some_unifier = told (Some bs) u
+        module _ {found : ⊤} (a : r.answer ≡ Some found) where
+          some_unifier : unify enough (view_of nodes sizes) enough.unify_depth (bindings_of g.first.bindings) sides.left sides.right ≡ some (bindings_of r.bindings)
+          unfolding answered
+          some_unifier = told ∙ ap (λ o. answered o (bindings_of r.bindings)) a
 
-        treated_some : treat_line enough (view_of nodes sizes) (line_of g.first) ≡ some (line_with (bindings_of bs) (g.pre ++ g.post) ∷ [])
-        unfolding unified around
-        treated_some =
-            first_treated nodes sizes g.first g.pre g.element g.post (line_with (bindings_of bs) [] ∷ []) g.split g.pre_reduced
-            (treated_equal (some (bindings_of bs)) some_unifier)
+          treated_some : treat_line enough (view_of nodes sizes) (line_of g.first) ≡ some (line_with (bindings_of r.bindings) (g.pre ++ g.post) ∷ [])
+          unfolding unified around
+          treated_some =
+              first_treated nodes sizes g.first g.pre g.element g.post (line_with (bindings_of r.bindings) [] ∷ []) g.split g.pre_reduced
+              (treated_equal (some (bindings_of r.bindings)) some_unifier)
 
-        -- "success the element", with the bindings that were there,
-        pub unify_kept : (memory' : List ℕ) → slice (w.top * line_bytes) (w.top * line_bytes + variable_count) memory ≡ bs → Removes l (w.top * line_bytes) at memory memory'
-            → GoesOn nodes sizes memory' w (after_turn w w.top)
-        unfolding line_of
-        unify_kept memory' e v =
-            goes_with g below memory' (shorter g below) (shorter_well_formed g below)
-            (treated_some ∙ ap (λ b. some (line_with (bindings_of b) (g.pre ++ g.post) ∷ [])) (sym e ∙ first_bindings g.holds))
-            (removed memory' v)
+          -- "success the element", with the bindings that were there,
+          pub unify_kept : (memory' : List ℕ) → slice (w.top * line_bytes) (w.top * line_bytes + variable_count) memory ≡ r.bindings → Removes l (w.top * line_bytes) at memory memory'
+              → GoesOn nodes sizes memory' w (after_turn w w.top)
+          unfolding line_of
+          unify_kept memory' e v =
+              goes_with g below memory' (shorter g below) (shorter_well_formed g below)
+              (treated_some ∙ ap (λ b. some (line_with (bindings_of b) (g.pre ++ g.post) ∷ [])) (sym e ∙ first_bindings g.holds))
+              (removed memory' v)
 
-        -- or with others, under which no element has been looked at.
-        pub unify_changed : (memory' memory'' : List ℕ) → Removes l (w.top * line_bytes) at memory memory'
-            → memory'' ≡ set (placed (w.top * line_bytes) bs memory') (w.top * line_bytes + reduced_place) 0 → GoesOn nodes sizes memory'' w (after_turn w w.top)
-        unfolding line_of
-        unify_changed memory' memory'' v e =
-            let place = w.top * line_bytes in
-            let s = shorter_well_formed g below in
-            let read : Readable nodes sizes bs = unified_readable bs (well_formed_first g).readable sides.left sides.right enough.unify_depth equal_within.0 equal_within.1 some_unifier in
-            goes_with g below memory'' (record { bindings = bs; elements = g.pre ++ g.post; reduced = 0 })
-            (rebound_well_formed g.first (well_formed_first g) g.pre g.element g.post g.split bs read)
-            treated_some
-            (e ∙ (ap (λ m. set (placed place bs m) (place + reduced_place) 0) (removed memory' v)
-            ∙ rebound place bs (record { bindings = g.first.bindings; elements = g.pre ++ g.post; reduced = length g.pre }) memory (treating_place g) (readable_slots s.readable) s.few u.whole))
+          -- or with others, under which no element has been looked at.
+          pub unify_changed : (memory' memory'' : List ℕ) → Removes l (w.top * line_bytes) at memory memory'
+              → memory'' ≡ set (placed (w.top * line_bytes) r.bindings memory') (w.top * line_bytes + reduced_place) 0 → GoesOn nodes sizes memory'' w (after_turn w w.top)
+          unfolding line_of
+          unify_changed memory' memory'' v e =
+              let place = w.top * line_bytes in
+              let s = shorter_well_formed g below in
+              let read : Readable nodes sizes r.bindings = unified_readable r.bindings (well_formed_first g).readable sides.left sides.right enough.unify_depth equal_within.0 equal_within.1 some_unifier in
+              goes_with g below memory'' (record { bindings = r.bindings; elements = g.pre ++ g.post; reduced = 0 })
+              (rebound_well_formed g.first (well_formed_first g) g.pre g.element g.post g.split r.bindings read)
+              treated_some
+              (e ∙ (ap (λ m. set (placed place r.bindings m) (place + reduced_place) 0) (removed memory' v)
+              ∙ rebound place r.bindings (record { bindings = g.first.bindings; elements = g.pre ++ g.post; reduced = length g.pre }) memory (treating_place g) (readable_slots s.readable) s.few u.whole))

@@ -17,6 +17,7 @@ ghost use Rattle.bindings.specs.ForContracts.Sets.{HasVariables};
 ghost use Rattle.treating.specs.declared.treat.Treatment.TheVariants.{DropElement, Reduced, Split, Unify};
 ghost use Rattle.walking.specs.ForContracts.Walking.{Walking, Finishing, TreatingLine, TreatingCount, GoesOn, Advances};
 
+use bindings::equation::EquationTerms;
 use format::limits::Limits;
 use format::refusal::Refusal;
 use line_bytes::edit::load;
@@ -41,9 +42,9 @@ pub struct Walk {
 
 impl Walk {
     // The first unfinished line is finished, which costs no turn: its record stands behind those of the others.
-    fn finish(self, nodes: &[u8], sizes: &[u8], memory: &mut [u8]) -> Walk
-        requires { Finishing nodes.now sizes.now memory.old self }
-        ensures { GoesOn nodes.now sizes.now memory.new self result }
+    fn finish(self, equation: &EquationTerms, memory: &mut [u8]) -> Walk
+        requires { Finishing equation.now.nodes.now equation.now.sizes.now memory.old self }
+        ensures { GoesOn equation.now.nodes.now equation.now.sizes.now memory.new self result }
     {
         write_record(memory, self.top * LINE, self.done * Limits::RECORD);
         Walk {
@@ -69,13 +70,12 @@ impl Walk {
     fn drop_element(
         self,
         line: Line,
-        nodes: &[u8],
-        sizes: &[u8],
+        equation: &EquationTerms,
         memory: &mut [u8],
         at: usize,
     ) -> Walk
-        requires { TreatingLine nodes.now sizes.now memory.old self line at DropElement × (self.turns < max_turns) }
-        ensures { GoesOn nodes.now sizes.now memory.new self result }
+        requires { TreatingLine equation.now.nodes.now equation.now.sizes.now memory.old self line at DropElement × (self.turns < max_turns) }
+        ensures { GoesOn equation.now.nodes.now equation.now.sizes.now memory.new self result }
     {
         line.put_without(memory, self.top * LINE, at);
         self.turned(self.top)
@@ -85,32 +85,24 @@ impl Walk {
     fn unify(
         self,
         line: Line,
-        nodes: &[u8],
-        sizes: &[u8],
-        variables: &[u16],
+        equation: &EquationTerms,
         memory: &mut [u8],
         at: usize,
         sides: Sides,
     ) -> Walk
-        requires { TreatingLine nodes.now sizes.now memory.old self line at (Unify sides) × (self.turns < max_turns) × HasVariables nodes.now sizes.now variables.now }
-        ensures { GoesOn nodes.now sizes.now memory.new self result }
+        requires { TreatingLine equation.now.nodes.now equation.now.sizes.now memory.old self line at (Unify sides) × (self.turns < max_turns) × HasVariables equation.now.nodes.now equation.now.sizes.now equation.now.variables.now }
+        ensures { GoesOn equation.now.nodes.now equation.now.sizes.now memory.new self result }
     {
         let place = self.top * LINE;
-        let Some(others) = unify_positions(
-            nodes,
-            sizes,
-            variables,
-            &line.bindings,
-            sides.left,
-            sides.right,
-        ) else {
+        let unifier = unify_positions(equation, &line.bindings, sides.left, sides.right);
+        let Some(()) = unifier.answer else {
             return self.turned(self.top + 1);
         };
         // The bytes at `place` are compared and not `line.bindings`, which they equal: local arrays that are compared the compiler splits into single bytes.
-        let changed = differ(memory, place, &others);
+        let changed = differ(memory, place, &unifier.bindings);
         line.put_without(memory, place, at);
         if changed {
-            rebind(memory, place, &others);
+            rebind(memory, place, &unifier.bindings);
         }
         self.turned(self.top)
     }
@@ -119,17 +111,16 @@ impl Walk {
     fn split(
         self,
         count: usize,
-        nodes: &[u8],
-        sizes: &[u8],
+        equation: &EquationTerms,
         memory: &mut [u8],
         at: usize,
         sides: Sides,
         terms: Sides,
     ) -> Result<Walk, Refusal>
-        requires { TreatingCount nodes.now sizes.now memory.old self count at (Split sides terms) }
-        ensures { Advances nodes.now sizes.now memory.new self result }
+        requires { TreatingCount equation.now.nodes.now equation.now.sizes.now memory.old self count at (Split sides terms) }
+        ensures { Advances equation.now.nodes.now equation.now.sizes.now memory.new self result }
     {
-        let choices = choices_of(nodes, sizes, at, sides, terms);
+        let choices = choices_of(equation, at, sides, terms);
         let left = choices.left.count;
         let right = choices.right.count;
         if too_long(choices.last, count - 1 + right) {
@@ -142,7 +133,7 @@ impl Walk {
         let first = self.top + 1 - number;
         let mut line = [Limits::NO_POSITION; LINE];
         load(memory, self.top * LINE, &mut line);
-        push_choices(sizes, &mut line, memory, choices, first * LINE);
+        push_choices(equation.sizes, &mut line, memory, choices, first * LINE);
         Ok(self.turned(first))
     }
 
@@ -150,15 +141,13 @@ impl Walk {
     fn treat(
         self,
         line: Line,
-        nodes: &[u8],
-        sizes: &[u8],
-        variables: &[u16],
+        equation: &EquationTerms,
         memory: &mut [u8],
         at: usize,
         treatment: Treatment,
     ) -> Result<Walk, Refusal>
-        requires { TreatingLine nodes.now sizes.now memory.old self line at treatment × (treatment ≡ Reduced → ⊥) × HasVariables nodes.now sizes.now variables.now }
-        ensures { Advances nodes.now sizes.now memory.new self result }
+        requires { TreatingLine equation.now.nodes.now equation.now.sizes.now memory.old self line at treatment × (treatment ≡ Reduced → ⊥) × HasVariables equation.now.nodes.now equation.now.sizes.now equation.now.variables.now }
+        ensures { Advances equation.now.nodes.now equation.now.sizes.now memory.new self result }
     {
         if self.turns == Limits::TURNS {
             return Err(Refusal::TooManyTurns);
@@ -166,27 +155,19 @@ impl Walk {
         match treatment {
             Treatment::Reduced => Ok(self),
             Treatment::DropLine => Ok(self.turned(self.top + 1)),
-            Treatment::DropElement => Ok(self.drop_element(line, nodes, sizes, memory, at)),
-            Treatment::Unify(sides) => Ok(self.unify(
-                line, nodes, sizes, variables, memory, at, sides,
-            )),
+            Treatment::DropElement => Ok(self.drop_element(line, equation, memory, at)),
+            Treatment::Unify(sides) => Ok(self.unify(line, equation, memory, at, sides)),
             Treatment::Split(sides, terms) => self.split(
-                line.count, nodes, sizes, memory, at, sides, terms,
+                line.count, equation, memory, at, sides, terms,
             ),
         }
     }
 
     // "Take the first unfinished line and in it the leftmost element that is not fully reduced. Treating it is one turn." A line that has none is finished.
     // The line is filled and searched here, where it is a local: handed to a function it would be copied before each search.
-    pub fn turn(
-        self,
-        nodes: &[u8],
-        sizes: &[u8],
-        variables: &[u16],
-        memory: &mut [u8],
-    ) -> Result<Walk, Refusal>
-        requires { Walking nodes.now sizes.now memory.old self × (self.top < max_lines) × HasVariables nodes.now sizes.now variables.now }
-        ensures { Advances nodes.now sizes.now memory.new self result }
+    pub fn turn(self, equation: &EquationTerms, memory: &mut [u8]) -> Result<Walk, Refusal>
+        requires { Walking equation.now.nodes.now equation.now.sizes.now memory.old self × (self.top < max_lines) × HasVariables equation.now.nodes.now equation.now.sizes.now equation.now.variables.now }
+        ensures { Advances equation.now.nodes.now equation.now.sizes.now memory.new self result }
     {
         let place = self.top * LINE;
         let mut line = Line::head(memory, place);
@@ -194,17 +175,11 @@ impl Walk {
             line.elements[i] = element_at(memory, place + FIRST_ELEMENT + 2 * i);
         }
         for at in line.reduced..line.count {
-            let treatment = treatment_of(
-                nodes,
-                sizes,
-                variables,
-                &line.bindings,
-                line.elements[at],
-            );
+            let treatment = treatment_of(equation, &line.bindings, line.elements[at]);
             let Treatment::Reduced = treatment else {
-                return self.treat(line, nodes, sizes, variables, memory, at, treatment);
+                return self.treat(line, equation, memory, at, treatment);
             };
         }
-        Ok(self.finish(nodes, sizes, memory))
+        Ok(self.finish(equation, memory))
     }
 }

@@ -3,7 +3,8 @@ use Rattle.std.specs.Prelude.{ℕ, ◌*◌, ◌≤◌, ◌<◌, ◌≡◌, Bool,
 use Rattle.std.proofs.Math.Option.{some}
 use Rattle.format.specs.Limits.{max_lines, max_steps, record_bytes}
 use Rattle.format.specs.Lists.{entry}
-use Rattle.terms.specs.Equation.{Equation, Direction}
+use Rattle.terms.specs.Equation.{Equation}
+use Rattle.terms.specs.declared.direction.Direction.{Direction}
 use Rattle.sheet.specs.Sheet.{Sheet}
 use Rattle.sheet.specs.Reading.{accepted, read}
 use Rattle.scanning.specs.declared.known.Known.{Known}
@@ -16,6 +17,7 @@ use Rattle.reducing.specs.ForContracts.Rules.{rule_number}
 use Rattle.rules.specs.ForContracts.Rows.{RowsAre, bound_count}
 use Rattle.rules.specs.ForContracts.Walks.{LinesReady}
 use Rattle.cursor.specs.declared.place.Place.{Place}
+use Rattle.cursor.specs.declared.place.Cursor.{Cursor}
 use Rattle.cursor.specs.declared.place.Listed.{Listed}
 use Rattle.cursor.specs.declared.place.Place.TheVariants.{Start, Table, Line as LinePlace, Task, End}
 use Rattle.cursor.specs.ForContracts.Rest.{Gives}
@@ -50,6 +52,6 @@ pub data StandsAt (input : List ℕ) (known : Known) (fits : Bool) (equations le
   at_end : StandsAt input known fits equations lengths bounds table scratch End
 
 -- A piece is given, and what the next one needs stands in the memory.
-pub record Progress (input : List ℕ) (place : Place) (equations lengths bounds table scratch out : List ℕ) (r : Listed) : Type 0 where
-  pub gives : Gives input place out r.bytes r.cursor.place
-  pub stands : StandsAt input r.cursor.opened.known r.cursor.opened.fits equations lengths bounds table scratch r.cursor.place
+pub record Progress (input : List ℕ) (place : Place) (equations lengths bounds table scratch out : List ℕ) (r : Listed Cursor) : Type 0 where
+  pub gives : Gives input place out r.bytes r.next.place
+  pub stands : StandsAt input r.next.opened.known r.next.opened.fits equations lengths bounds table scratch r.next.place

@@ -11,7 +11,9 @@ use Rattle.format.specs.declared.refusal.Refusal.{Refusal}
 use Rattle.format.specs.Lists.{entry}
 use Rattle.terms.specs.Term.{Term}
 use Rattle.terms.specs.Filling.{filling}
-use Rattle.terms.specs.Equation.{Equation, Direction, left_right, right_left, direction_number}
+use Rattle.terms.specs.Equation.{Equation, direction_number}
+use Rattle.terms.specs.declared.direction.Direction.{Direction}
+use Rattle.terms.specs.declared.direction.Direction.TheVariants.{LeftRight as left_right, RightLeft as right_left}
 use Rattle.sheet.specs.Sheet.{Task, run, judgement, comparison, Sheet}
 use Rattle.sheet.specs.Reading.{refused_at, accepted, read}
 use Rattle.solving.specs.Walk.{solve}

@@ -4,7 +4,8 @@ use Rattle.std.proofs.Math.Option.{none, some}
 use Rattle.format.specs.Limits.{variable_count, position_count}
 use Rattle.format.specs.Lists.{entry}
 use Rattle.terms.specs.Term.{Terms, count}
-use Rattle.terms.specs.Equation.{Equation, Direction}
+use Rattle.terms.specs.Equation.{Equation}
+use Rattle.terms.specs.declared.direction.Direction.{Direction}
 use Rattle.terms.specs.ForContracts.Stored.{GroundStored}
 use Rattle.sheet.specs.Sheet.{equation_width}
 use Rattle.solving.specs.Line.{Line}

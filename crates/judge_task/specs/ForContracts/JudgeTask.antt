@@ -4,7 +4,8 @@ use Rattle.std.proofs.Math.Option.{some}
 use Rattle.format.specs.Limits.{max_equations}
 use Rattle.format.specs.Lists.{entry}
 use Rattle.terms.specs.Term.{Terms, count, Values}
-use Rattle.terms.specs.Equation.{Equation, Direction}
+use Rattle.terms.specs.Equation.{Equation}
+use Rattle.terms.specs.declared.direction.Direction.{Direction}
 use Rattle.sheet.specs.Sheet.{judgement, equation_width}
 use Rattle.scanning.specs.declared.known.Known.{Known}
 use Rattle.scanning.specs.ForContracts.Scan.{known_arities}

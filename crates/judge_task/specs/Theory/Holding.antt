@@ -5,7 +5,8 @@ use Rattle.std.proofs.Math.Path.{sym}
 use Rattle.std.proofs.Common.{subst, ap, ◌∙◌, arith}
 use Rattle.format.specs.Limits.{max_lines}
 use Rattle.terms.specs.Term.{Terms}
-use Rattle.terms.specs.Equation.{Equation, Direction, value}
+use Rattle.terms.specs.Equation.{Equation, value}
+use Rattle.terms.specs.declared.direction.Direction.{Direction}
 use Rattle.solving.specs.Judge.{first_holding}
 use Rattle.solving.proofs.Theory.Solve.{solved_line_count}
 use Rattle.solving.specs.Theory.Judge.{first_holding_low}

@@ -3,14 +3,19 @@
 use Rattle.std.specs.Prelude.{ℕ, ◌+◌, ◌-◌, ◌*◌, ◌<◌, true, false, List, [], ◌∷◌, ◌++◌, length, replicate, ltb}
 use Rattle.format.specs.Limits.{max_elements, no_position}
 use Rattle.solving.specs.Line.{Element, equal, greater, Line, line}
+use Rattle.line_bytes.specs.declared.element.Relation.{Relation}
+use Rattle.line_bytes.specs.declared.element.Relation.TheVariants.{Equal, Greater}
 use Rattle.line_bytes.specs.declared.element.Element.{Element as Held}
-use Rattle.line_bytes.specs.declared.element.Element.TheVariants.{Equal, Greater}
 use Rattle.bindings.specs.ForContracts.Bindings.{bindings_of}
 
 -- What the code's element says.
+unfoldable pub said : Relation → Element
+said (Equal p q) = equal p q
+said (Greater p q) = greater p q
+
 unfoldable pub meaning : Held → Element
-meaning (Equal p q) = equal p q
-meaning (Greater p q) = greater p q
+unfolding said
+meaning e = said e.relation
 
 -- An equality is marked by the high bit of its first position.
 abbrev pub equality_mark : ℕ

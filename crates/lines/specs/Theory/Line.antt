@@ -7,10 +7,10 @@ use Rattle.std.proofs.Math.Seq.{slice, length-slice}
 use Rattle.format.specs.Limits.{max_elements}
 use Rattle.solving.specs.Line.{greater, line, no_bindings}
 use Rattle.bindings.specs.ForContracts.Bindings.{bindings_of}
-use Rattle.line_bytes.specs.declared.element.Element.TheVariants.{Greater}
+use Rattle.line_bytes.specs.declared.element.Relation.TheVariants.{Greater}
 use Rattle.line_bytes.specs.declared.element.Element.{Element as Held}
 use Rattle.lines.specs.declared.line.Line.{Line as LineValue}
-use Rattle.line_bytes.specs.ForContracts.Resting.{meaning, RestingLine, line_of}
+use Rattle.line_bytes.specs.ForContracts.Resting.{said, meaning, RestingLine, line_of}
 use Rattle.lines.specs.ForContracts.Line.{opening_line, elements_from, Carries}
 
 -- The walk's first line.
@@ -20,12 +20,12 @@ opening_means s t = refl
 
 -- What stands in an element's place that was not filled in.
 abbrev pub unfilled : Held
-unfilled = Greater 0 0
+unfilled = record { relation = Greater 0 0 }
 
 -- A line holds what rests if each of its elements from `reduced` on does.
 pub elements_hold : (l : LineValue) (s : RestingLine) → length l.elements ≡ max_elements → length s.elements ≤ max_elements → l.bindings ≡ s.bindings → l.count ≡ length s.elements
     → l.reduced ≡ s.reduced → ((i : ℕ) → s.reduced ≤ i → i < l.count → meaning (get_or l.elements i unfilled) ≡ get_or s.elements i (greater 0 0)) → Carries l s
-unfolding elements_from meaning
+unfolding elements_from meaning said
 elements_hold l s places few b c r e = record {
   bindings_are = b;
   count_is = c;

@@ -7,7 +7,8 @@ use Rattle.std.proofs.Math.Option.{Option, none, some}
 use Rattle.format.specs.declared.refusal.Refusal.TheVariants.{ShortBuffer as short_buffer}
 use Rattle.format.specs.Lists.{entry}
 use Rattle.format.specs.Theory.Lists.{every_entry}
-use Rattle.terms.specs.Equation.{Equation, Direction, direction_of}
+use Rattle.terms.specs.Equation.{Equation, direction_of}
+use Rattle.terms.specs.declared.direction.Direction.{Direction}
 use Rattle.terms.specs.ForContracts.Limits.{WithinLimits}
 use Rattle.sheet.specs.Sheet.{Sheet}
 use Rattle.sheet.specs.Reading.{Reading, refused_at, accepted, read}

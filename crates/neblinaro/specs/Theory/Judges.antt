@@ -8,7 +8,7 @@ use Rattle.format.specs.declared.refusal.Refusal.TheVariants.{ShortBuffer as sho
 use Rattle.format.specs.Lists.{entry}
 use Rattle.format.specs.Theory.Lists.{every_entry}
 use Rattle.terms.specs.Term.{Terms}
-use Rattle.terms.specs.Equation.{Direction}
+use Rattle.terms.specs.declared.direction.Direction.{Direction}
 use Rattle.terms.specs.ForContracts.Limits.{WithinLimits}
 use Rattle.sheet.specs.Sheet.{Task, run, judgement, comparison, Sheet}
 use Rattle.sheet.specs.Reading.{Reading, refused_at, accepted, read}

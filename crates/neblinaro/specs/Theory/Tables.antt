@@ -7,7 +7,8 @@ use Rattle.format.specs.declared.refusal.Refusal.TheVariants.{ShortBuffer as sho
 use Rattle.format.specs.Buffer.{written}
 use Rattle.format.specs.Lists.{entry}
 use Rattle.format.specs.Theory.Lists.{every_entry}
-use Rattle.terms.specs.Equation.{Equation, Direction, direction_of}
+use Rattle.terms.specs.Equation.{Equation, direction_of}
+use Rattle.terms.specs.declared.direction.Direction.{Direction}
 use Rattle.terms.specs.Theory.Limits.{positions_few}
 use Rattle.sheet.specs.ForContracts.Valid.{ValidEquation}
 use Rattle.sheet.specs.Theory.Accepted.{accepted_valid}

@@ -4,7 +4,8 @@ use Rattle.std.proofs.Common.{arith}
 use Rattle.format.specs.Limits.{variable_count, max_turns}
 use Rattle.format.specs.Lists.{Every}
 use Rattle.format.specs.Theory.Lists.{every_map}
-use Rattle.terms.specs.Equation.{Equation, Direction, source_position, target_position, view}
+use Rattle.terms.specs.Equation.{Equation, source_position, target_position, view}
+use Rattle.terms.specs.declared.direction.Direction.{Direction}
 use Rattle.terms.specs.ForContracts.Limits.{WithinLimits}
 use Rattle.sheet.specs.Sheet.{Sheet}
 use Rattle.sheet.specs.Reading.{accepted, read}

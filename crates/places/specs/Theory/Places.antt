@@ -5,6 +5,7 @@ use Rattle.sheet.specs.Sheet.{Sheet}
 use Rattle.scanning.specs.declared.known.Known.{Known}
 use Rattle.cursor.specs.declared.place.Place.{Place}
 use Rattle.cursor.specs.declared.place.Place.TheVariants.{Table, Line as LinePlace, Task as TaskPlace}
+use Rattle.cursor.specs.declared.place.Cursor.{Cursor}
 use Rattle.cursor.specs.declared.place.Listed.{Listed}
 use Rattle.cursor.specs.ForContracts.Stands.{Ready, AtPlace, StandsAt, under_way, Progress}
 use Rattle.places.specs.ForContracts.Step.{HasPlace}
@@ -23,7 +24,7 @@ module _ {input : List ℕ} {known : Known} {fits : Bool} {equations lengths bou
       → (s : Sheet) × Ready input known fits equations lengths bounds table s × AtPlace s scratch (TaskPlace task steps)
   task_stands (under_way s r a) = (s, r, a)
 
-  module _ {scratch' out : List ℕ} {x : Listed} where
+  module _ {scratch' out : List ℕ} {x : Listed Cursor} where
     pub from_the_table : {rule : ℕ} → StandsAt input known fits equations lengths bounds table scratch (Table rule)
         → ((bounds table : List ℕ) (s : Sheet) → Ready input known fits equations lengths bounds table s → AtPlace s scratch (Table rule) → Progress input (Table rule) equations lengths bounds table scratch' out x)
         → Progress input (Table rule) equations lengths bounds table scratch' out x
@@ -35,7 +36,7 @@ module _ {input : List ℕ} {known : Known} {fits : Bool} {equations lengths bou
         → Progress input (LinePlace rule line lines) equations lengths bounds table scratch' out x
     from_the_line (under_way s r a) p = p bounds table s r a
 
-pub at_place : {input : List ℕ} {place place' : Place} {equations lengths bounds table scratch out : List ℕ} {x : Listed} → place ≡ place' → Progress input place' equations lengths bounds table scratch out x
+pub at_place : {input : List ℕ} {place place' : Place} {equations lengths bounds table scratch out : List ℕ} {x : Listed Cursor} → place ≡ place' → Progress input place' equations lengths bounds table scratch out x
     → Progress input place equations lengths bounds table scratch out x
 at_place {input} {equations = equations} {lengths} {bounds} {table} {scratch} {out} {x} e p = subst (λ q. Progress input q equations lengths bounds table scratch out x) (sym e) p
 

@@ -4,7 +4,8 @@ use Rattle.std.proofs.Common.{ap, length-append, arith}
 use Rattle.format.specs.Limits.{max_equations, position_count}
 use Rattle.format.specs.Theory.Lists.{entry_found, every_entry}
 use Rattle.terms.specs.Term.{Term, Terms}
-use Rattle.terms.specs.Equation.{Equation, Direction, direction_number}
+use Rattle.terms.specs.Equation.{Equation, direction_number}
+use Rattle.terms.specs.declared.direction.Direction.{Direction}
 use Rattle.terms.specs.Prefix.{prefix, equation_bytes}
 use Rattle.terms.specs.Theory.Prefix.{length_prefix}
 use Rattle.scanning.specs.declared.known.Known.{Known}

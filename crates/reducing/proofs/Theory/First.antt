@@ -10,7 +10,9 @@ use native.Mathlib.Omega.{arith}
 use Rattle.format.specs.Lists.{entry}
 use Rattle.terms.specs.Term.{Term, var, size, Values}
 use Rattle.terms.specs.Position.{subterms}
-use Rattle.terms.specs.Equation.{Equation, Direction, left_right, right_left, direction_number}
+use Rattle.terms.specs.Equation.{Equation, direction_number}
+use Rattle.terms.specs.declared.direction.Direction.{Direction}
+use Rattle.terms.specs.declared.direction.Direction.TheVariants.{LeftRight as left_right, RightLeft as right_left}
 use Rattle.terms.specs.Theory.Position.{length_subterms}
 use Rattle.reducing.specs.Run.{Step, try, try_equations, try_positions, step}
 use Rattle.reducing.specs.ForContracts.Rules.{rule_number}

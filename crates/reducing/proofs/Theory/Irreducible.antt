@@ -11,7 +11,9 @@ use Rattle.format.specs.Lists.{entry, Every}
 use Rattle.format.specs.Theory.Lists.{every_entry}
 use Rattle.terms.specs.Term.{Term, var, size, Values}
 use Rattle.terms.specs.Position.{subterms}
-use Rattle.terms.specs.Equation.{Equation, Direction, left_right, right_left, source}
+use Rattle.terms.specs.Equation.{Equation, source}
+use Rattle.terms.specs.declared.direction.Direction.{Direction}
+use Rattle.terms.specs.declared.direction.Direction.TheVariants.{LeftRight as left_right, RightLeft as right_left}
 use Rattle.terms.specs.ForContracts.Limits.{WithinLimits}
 use Rattle.terms.specs.Theory.Position.{length_subterms}
 use Rattle.reducing.specs.Match.{values_of, has_variable}

@@ -5,7 +5,9 @@ use Rattle.format.specs.Limits.{variable_count}
 use Rattle.format.specs.Lists.{Every}
 use Rattle.format.specs.Theory.Lists.{every_entry}
 use Rattle.terms.specs.Term.{Term, var, Values, inst}
-use Rattle.terms.specs.Equation.{Equation, Direction, left_right, right_left, source, target, value}
+use Rattle.terms.specs.Equation.{Equation, source, target, value}
+use Rattle.terms.specs.declared.direction.Direction.{Direction}
+use Rattle.terms.specs.declared.direction.Direction.TheVariants.{LeftRight as left_right, RightLeft as right_left}
 use Rattle.terms.specs.ForContracts.Limits.{VariablesBelow, WithinLimits}
 use Rattle.path_order.specs.Order.{◌≻◌}
 use Rattle.ordering.specs.Theory.Decide.{exceeds?}

@@ -12,7 +12,9 @@ use Rattle.format.specs.Lists.{Every}
 use Rattle.format.specs.Theory.Lists.{every_map, entry_length}
 use Rattle.terms.specs.Term.{Term, size, Values, inst}
 use Rattle.terms.specs.Position.{subterms, replace}
-use Rattle.terms.specs.Equation.{Equation, Direction, left_right, right_left, source, target}
+use Rattle.terms.specs.Equation.{Equation, source, target}
+use Rattle.terms.specs.declared.direction.Direction.{Direction}
+use Rattle.terms.specs.declared.direction.Direction.TheVariants.{LeftRight as left_right, RightLeft as right_left}
 use Rattle.reducing.specs.Match.{unmet, match, values_of}
 use Rattle.reducing.specs.Run.{Step, Ending, none_found, limit_reached, result_too_large, ending_number, Run, after_step, try_with, try_equations_with, try_positions_with, step_with, step, run_with, run, last_term}
 use Rattle.reducing.proofs.Theory.Step.{or_else, Taken, step_taken}

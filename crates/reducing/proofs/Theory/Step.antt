@@ -9,7 +9,9 @@ use native.Mathlib.Omega.{arith}
 use Rattle.format.specs.Lists.{entry}
 use Rattle.terms.specs.Term.{Term, var, size, Values, inst}
 use Rattle.terms.specs.Position.{subterms, replace}
-use Rattle.terms.specs.Equation.{Equation, Direction, left_right, right_left, source, target}
+use Rattle.terms.specs.Equation.{Equation, source, target}
+use Rattle.terms.specs.declared.direction.Direction.{Direction}
+use Rattle.terms.specs.declared.direction.Direction.TheVariants.{LeftRight as left_right, RightLeft as right_left}
 use Rattle.terms.specs.Theory.Position.{length_subterms}
 use Rattle.reducing.specs.Match.{Match, no_match, match, values_of}
 use Rattle.reducing.specs.Run.{Step, try, try_equations, try_positions, step}

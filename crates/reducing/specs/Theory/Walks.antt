@@ -5,7 +5,9 @@ use Rattle.std.proofs.Common.{ap, ◌∙◌, arith}
 use Rattle.std.proofs.Math.Option.{Option, none, some}
 use Rattle.format.specs.Lists.{entry}
 use Rattle.format.specs.declared.refusal.Refusal.{Refusal}
-use Rattle.terms.specs.Equation.{Equation, Direction, left_right, right_left, direction_number}
+use Rattle.terms.specs.Equation.{Equation, direction_number}
+use Rattle.terms.specs.declared.direction.Direction.{Direction}
+use Rattle.terms.specs.declared.direction.Direction.TheVariants.{LeftRight as left_right, RightLeft as right_left}
 use Rattle.solving.specs.Walk.{Walked, solved, refused, solve, Solves}
 use Rattle.reducing.specs.Test.{EverySolves}
 use Rattle.reducing.specs.ForContracts.Rules.{rule_number}

@@ -4,7 +4,8 @@ use Rattle.std.proofs.Math.Seq.{slice}
 use Rattle.format.specs.Limits.{table_bytes}
 use Rattle.terms.specs.Term.{Values}
 use Rattle.terms.specs.Position.{Node, var_node}
-use Rattle.terms.specs.Equation.{Equation, Direction, view, value}
+use Rattle.terms.specs.Equation.{Equation, view, value}
+use Rattle.terms.specs.declared.direction.Direction.{Direction}
 use Rattle.terms.specs.ForContracts.Limits.{positions}
 use Rattle.solving.specs.Line.{Element, equal, greater, Line, line}
 use Rattle.solving.specs.Judge.{first_holding}

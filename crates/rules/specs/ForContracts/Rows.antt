@@ -4,7 +4,8 @@ use Rattle.std.proofs.Math.Option.{some}
 use Rattle.format.specs.Limits.{max_symbols, max_equations, max_side_nodes, position_count}
 use Rattle.format.specs.Lists.{entry}
 use Rattle.terms.specs.Term.{Term, size}
-use Rattle.terms.specs.Equation.{Equation, Direction}
+use Rattle.terms.specs.Equation.{Equation}
+use Rattle.terms.specs.declared.direction.Direction.{Direction}
 use Rattle.terms.specs.Prefix.{equation_bytes}
 use Rattle.terms.specs.ForContracts.Limits.{WithinLimits}
 use Rattle.terms.specs.ForContracts.Fits.{Fits}

@@ -4,7 +4,8 @@ use Rattle.std.proofs.Math.Option.{none, some}
 use Rattle.format.specs.declared.refusal.Refusal.{Refusal}
 use Rattle.format.specs.Limits.{table_bytes}
 use Rattle.format.specs.Lists.{entry}
-use Rattle.terms.specs.Equation.{Equation, Direction}
+use Rattle.terms.specs.Equation.{Equation}
+use Rattle.terms.specs.declared.direction.Direction.{Direction}
 use Rattle.solving.specs.Line.{Line}
 use Rattle.solving.specs.Walk.{refused, solve, Solves}
 use Rattle.line_bytes.specs.ForContracts.Layout.{placed}

@@ -2,7 +2,8 @@
 use Rattle.std.specs.Prelude.{ℕ, ◌+◌, ◌≤◌, ◌≡◌, List, length, take, drop}
 use Rattle.std.proofs.Common.{ap, subst, ◌∙◌, arith, take_at}
 use Rattle.format.specs.Limits.{table_bytes}
-use Rattle.terms.specs.Equation.{Equation, Direction}
+use Rattle.terms.specs.Equation.{Equation}
+use Rattle.terms.specs.declared.direction.Direction.{Direction}
 use Rattle.terms.specs.ForContracts.Limits.{WithinLimits}
 use Rattle.solving.specs.Line.{Line}
 use Rattle.solving.specs.Walk.{solved, solve, Solves}

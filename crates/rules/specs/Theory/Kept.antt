@@ -4,7 +4,8 @@ use Rattle.std.proofs.Common.{sym, ap, subst, ◌∙◌, arith, length-append, t
 use Rattle.format.specs.Limits.{record_bytes, table_bytes}
 use Rattle.format.specs.declared.refusal.Refusal.{Refusal}
 use Rattle.terms.specs.Prefix.{equation_bytes}
-use Rattle.terms.specs.Equation.{Equation, Direction}
+use Rattle.terms.specs.Equation.{Equation}
+use Rattle.terms.specs.declared.direction.Direction.{Direction}
 use Rattle.terms.specs.ForContracts.Limits.{WithinLimits, positions}
 use Rattle.solving.specs.Line.{Line, line}
 use Rattle.solving.specs.Walk.{Walked, refused, solve, Solves}

@@ -5,7 +5,9 @@ use Rattle.std.proofs.Math.Option.{some}
 use Rattle.format.specs.Limits.{position_count}
 use Rattle.format.specs.Lists.{entry}
 use Rattle.terms.specs.Term.{size}
-use Rattle.terms.specs.Equation.{Equation, Direction, left_right, right_left, direction_number}
+use Rattle.terms.specs.Equation.{Equation, direction_number}
+use Rattle.terms.specs.declared.direction.Direction.{Direction}
+use Rattle.terms.specs.declared.direction.Direction.TheVariants.{LeftRight as left_right, RightLeft as right_left}
 use Rattle.terms.specs.ForContracts.Limits.{positions}
 use Rattle.terms.specs.Theory.Limits.{positions_few}
 use Rattle.terms.specs.Theory.Position.{size_pos}

@@ -13,7 +13,8 @@ use Rattle.format.specs.declared.refusal.Refusal.TheVariants.{SymbolFrame as sym
 use Rattle.format.specs.Lists.{entry, any, all, Every}
 use Rattle.format.specs.Theory.Lists.{every_append, every_map, and_true, all_true, any_true}
 use Rattle.terms.specs.Term.{Terms, nil, cons, size, sizes, count, Ground, Grounds}
-use Rattle.terms.specs.Equation.{Equation, Direction, direction_of}
+use Rattle.terms.specs.Equation.{Equation, direction_of}
+use Rattle.terms.specs.declared.direction.Direction.{Direction}
 use Rattle.sheet.specs.Text.{TextLine, lines_of, frame_of}
 use Rattle.sheet.specs.Sheet.{Task, run, judgement, comparison, Sheet, equation_width}
 use Rattle.sheet.specs.Frame.{State, start, within, takes_equation, takes_task, in_order, symbols_right, symbols_body, ground_terms, first_term, second_term, equation_body, run_body, values_body, judgement_body, comparison_body, with_equation, with_task, read_body, read_kind, read_frame}

@@ -14,7 +14,9 @@ use Rattle.format.specs.declared.refusal.Refusal.TheVariants.{SymbolFrame as sym
 use Rattle.format.specs.Lists.{entry}
 use Rattle.format.specs.Theory.Lists.{and_true}
 use Rattle.terms.specs.Term.{nil, cons}
-use Rattle.terms.specs.Equation.{Equation, Direction, left_right, right_left, direction_number, direction_of}
+use Rattle.terms.specs.Equation.{Equation, direction_number, direction_of}
+use Rattle.terms.specs.declared.direction.Direction.{Direction}
+use Rattle.terms.specs.declared.direction.Direction.TheVariants.{LeftRight as left_right, RightLeft as right_left}
 use Rattle.terms.specs.Prefix.{prefix, prefixes, equation_bytes}
 use Rattle.sheet.specs.Text.{TextLine, lines_of, frame_of}
 use Rattle.sheet.specs.Sheet.{Task, run, judgement, comparison, Sheet, equation_width}

@@ -1,7 +1,8 @@
 -- What the code of solve cites: an equation's bytes.
 use Rattle.std.specs.Prelude.{ℕ, ◌≤◌, ◌≡◌, List, length}
 use Rattle.format.specs.Limits.{max_symbols}
-use Rattle.terms.specs.Equation.{Equation, Direction, source_position, target_position}
+use Rattle.terms.specs.Equation.{Equation, source_position, target_position}
+use Rattle.terms.specs.declared.direction.Direction.{Direction}
 use Rattle.terms.specs.Prefix.{equation_bytes}
 use Rattle.terms.specs.ForContracts.Limits.{WithinLimits}
 use Rattle.terms.specs.ForContracts.Fits.{Fits}

@@ -8,7 +8,9 @@ use Rattle.format.specs.Limits.{max_symbols}
 use Rattle.terms.specs.Term.{Terms, nil, cons, size}
 use Rattle.terms.specs.Position.{subterms, subterms_of}
 use Rattle.terms.specs.Prefix.{prefix, prefixes, equation_bytes, terms_of}
-use Rattle.terms.specs.Equation.{Equation, Direction, left_right, right_left, direction_of}
+use Rattle.terms.specs.Equation.{Equation, direction_of}
+use Rattle.terms.specs.declared.direction.Direction.{Direction}
+use Rattle.terms.specs.declared.direction.Direction.TheVariants.{LeftRight as left_right, RightLeft as right_left}
 use Rattle.terms.specs.Theory.Prefix.{terms_of_spelled}
 use Rattle.terms.specs.ForContracts.Fits.{AllFit, Fits}
 use Rattle.terms.specs.ForContracts.Sizes.{Whole, node_sizes}

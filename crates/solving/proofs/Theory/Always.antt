@@ -13,7 +13,8 @@ use Rattle.format.specs.declared.refusal.Refusal.{Refusal}
 use Rattle.format.specs.Lists.{any, all}
 use Rattle.terms.specs.Term.{Term, Values, inst}
 use Rattle.terms.specs.Position.{Node}
-use Rattle.terms.specs.Equation.{Equation, Direction, source, target, source_position, target_position, view, value}
+use Rattle.terms.specs.Equation.{Equation, source, target, source_position, target_position, view, value}
+use Rattle.terms.specs.declared.direction.Direction.{Direction}
 use Rattle.terms.specs.ForContracts.Limits.{WithinLimits}
 use Rattle.terms.specs.Theory.Limits.{positions_few}
 use Rattle.terms.specs.Theory.Positions.{source_at, target_at, source_within, target_within}

@@ -3,7 +3,8 @@ use Rattle.std.specs.Prelude.{ℕ, ◌*◌, ◌≤◌, ◌≡◌, refl, ◌↔�
 use Rattle.std.proofs.Common.{arith}
 use Rattle.format.specs.Limits.{variable_count, max_lines, max_turns, record_bytes, table_bytes}
 use Rattle.terms.specs.Term.{Values, inst}
-use Rattle.terms.specs.Equation.{Equation, Direction, source, target, source_position, target_position, view, value}
+use Rattle.terms.specs.Equation.{Equation, source, target, source_position, target_position, view, value}
+use Rattle.terms.specs.declared.direction.Direction.{Direction}
 use Rattle.terms.specs.ForContracts.Limits.{WithinLimits, positions}
 use Rattle.terms.specs.Theory.Limits.{positions_few}
 use Rattle.terms.specs.Theory.Positions.{source_at, target_at, source_within, target_within}

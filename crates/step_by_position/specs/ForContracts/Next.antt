@@ -4,7 +4,8 @@ use Rattle.std.proofs.Math.Option.{none, some}
 use Rattle.format.specs.Limits.{max_symbols, first_variable}
 use Rattle.format.specs.Lists.{entry}
 use Rattle.terms.specs.Term.{Term, Terms, app, size}
-use Rattle.terms.specs.Equation.{Equation, Direction}
+use Rattle.terms.specs.Equation.{Equation}
+use Rattle.terms.specs.declared.direction.Direction.{Direction}
 use Rattle.terms.specs.ForContracts.Stored.{SubjectIs}
 use Rattle.reducing.specs.Run.{try}
 use Rattle.reducing.specs.Test.{line_test}

@@ -5,7 +5,8 @@ use Rattle.format.specs.Limits.{position_count}
 use Rattle.format.specs.Lists.{entry}
 use Rattle.terms.specs.Term.{Term, size}
 use Rattle.terms.specs.Filling.{filling}
-use Rattle.terms.specs.Equation.{Equation, Direction}
+use Rattle.terms.specs.Equation.{Equation}
+use Rattle.terms.specs.declared.direction.Direction.{Direction}
 use Rattle.reducing.specs.Run.{Step, try, step}
 use Rattle.reducing.specs.Test.{line_test}
 use Rattle.reducing.specs.ForContracts.Rules.{rule_number}

@@ -4,7 +4,8 @@ use Rattle.std.proofs.Math.Option.{none, some}
 use Rattle.format.specs.Limits.{position_count}
 use Rattle.terms.specs.Term.{Term, size}
 use Rattle.terms.specs.Filling.{filling}
-use Rattle.terms.specs.Equation.{Equation, Direction}
+use Rattle.terms.specs.Equation.{Equation}
+use Rattle.terms.specs.declared.direction.Direction.{Direction}
 use Rattle.terms.specs.ForContracts.Stored.{SubjectIs}
 use Rattle.terms.specs.declared.arguments.Arguments.{Arguments}
 use Rattle.solving.specs.Line.{Line}

@@ -4,7 +4,8 @@ use Rattle.std.proofs.Common.{sym, ap, ap₂, subst, ◌∙◌, arith}
 use Rattle.std.proofs.Math.Option.{Option, none, some}
 use Rattle.terms.specs.Term.{Term, inst}
 use Rattle.terms.specs.Position.{replace}
-use Rattle.terms.specs.Equation.{Equation, Direction, source, target}
+use Rattle.terms.specs.Equation.{Equation, source, target}
+use Rattle.terms.specs.declared.direction.Direction.{Direction}
 use Rattle.reducing.specs.Match.{Match, no_match, match, values_of}
 use Rattle.reducing.specs.Run.{Step, try}
 use Rattle.reducing.specs.Test.{line_test}

@@ -3,7 +3,8 @@ use Rattle.std.specs.Prelude.{ℕ, ◌+◌, ◌<◌, ◌≡◌, Bool, true, fals
 use Rattle.std.proofs.Math.Option.{none, some}
 use Rattle.format.specs.Limits.{position_count}
 use Rattle.terms.specs.Term.{Term, size}
-use Rattle.terms.specs.Equation.{Equation, Direction, source}
+use Rattle.terms.specs.Equation.{Equation, source}
+use Rattle.terms.specs.declared.direction.Direction.{Direction}
 use Rattle.terms.specs.ForContracts.Stored.{SubjectIs}
 use Rattle.solving.specs.Line.{Line}
 use Rattle.reducing.specs.Match.{Match, no_match, match, values_of}

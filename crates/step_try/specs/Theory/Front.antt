@@ -9,7 +9,8 @@ use Rattle.std.proofs.Math.Seq.{length-take-le, take-append-add, drop_at}
 use Rattle.format.specs.Limits.{position_count, node_count}
 use Rattle.format.specs.Buffer.{written}
 use Rattle.terms.specs.Term.{Term}
-use Rattle.terms.specs.Equation.{Equation, Direction}
+use Rattle.terms.specs.Equation.{Equation}
+use Rattle.terms.specs.declared.direction.Direction.{Direction}
 use Rattle.terms.specs.Prefix.{equation_bytes}
 use Rattle.terms.specs.ForContracts.Stored.{PartAt, GroundStored}
 use Rattle.terms.specs.Theory.Limits.{positions_few}

@@ -4,16 +4,16 @@ use Rattle.terms.specs.Equation.{Equation}
 use Rattle.rules.specs.ForContracts.Rows.{RowsAre}
 use Rattle.listing.specs.Listing.{printed}
 use Rattle.listing.specs.ForContracts.Appended.{Appended}
-use Rattle.cursor.specs.declared.place.Piece.{Piece}
-use Rattle.tables.specs.declared.table.LinesListed.{LinesListed}
+use Rattle.cursor.specs.declared.place.Place.{Place}
+use Rattle.cursor.specs.declared.place.Listed.{Listed}
 use Rattle.cursor.specs.declared.place.Place.TheVariants.{Line}
 use Rattle.cursor.specs.ForContracts.Rest.{rule_frames}
 use Rattle.cursor.specs.ForContracts.Stands.{LinesThere}
 
 -- The first frame of the rule's table is printed, and its lines come next.
-pub record TableGiven (es : List Equation) (rule : ℕ) (scratch before after : List ℕ) (p : Piece) : Type 0 where
+pub record TableGiven (es : List Equation) (rule : ℕ) (scratch before after : List ℕ) (p : Listed Place) : Type 0 where
   pub lines : ℕ
-  pub next : p.place ≡ Line rule 0 lines
+  pub next : p.next ≡ Line rule 0 lines
   pub records_there : LinesThere es rule lines scratch
   pub first : List ℕ
   pub others : List (List ℕ)
@@ -38,8 +38,8 @@ pub record HasLines (equations lengths : List ℕ) (rule lines : ℕ) (scratch :
   pub records_there : LinesThere those rule lines scratch
 
 -- The frames of the lines from `first` to the next one are printed: the first frame of a table stands before its lines.
-pub record LinesGiven (es : List Equation) (rule first lines : ℕ) (before after : List ℕ) (r : LinesListed) : Type 0 where
-  pub some : first < r.line
-  pub not_more : r.line ≤ lines
-  pub appended : Appended before 0 (printed (take (r.line - first) (drop (suc first) (rule_frames 0 es rule)))) after r.bytes
+pub record LinesGiven (es : List Equation) (rule first lines : ℕ) (before after : List ℕ) (r : Listed ℕ) : Type 0 where
+  pub some : first < r.next
+  pub not_more : r.next ≤ lines
+  pub appended : Appended before 0 (printed (take (r.next - first) (drop (suc first) (rule_frames 0 es rule)))) after r.bytes
   pub within : r.bytes ≤ length after

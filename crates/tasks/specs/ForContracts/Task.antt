@@ -3,7 +3,8 @@ use Rattle.std.specs.Prelude.{ℕ, ◌≤◌, ◌<◌, ◌≡◌, Bool, List, le
 use Rattle.format.specs.Limits.{max_steps}
 use Rattle.terms.specs.Term.{Terms, count}
 use Rattle.terms.specs.Filling.{filling}
-use Rattle.terms.specs.Equation.{Equation, Direction}
+use Rattle.terms.specs.Equation.{Equation}
+use Rattle.terms.specs.declared.direction.Direction.{Direction}
 use Rattle.sheet.specs.Sheet.{Task, Sheet, equation_width}
 use Rattle.scanning.specs.declared.known.Known.{Known}
 use Rattle.scanning.specs.ForContracts.Scan.{known_arities}

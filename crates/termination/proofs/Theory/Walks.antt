@@ -6,7 +6,8 @@ use native.Mathlib.Omega.{arith}
 use Rattle.format.specs.Limits.{variable_count, max_turns}
 use Rattle.terms.specs.Term.{count}
 use Rattle.terms.specs.Position.{app_node}
-use Rattle.terms.specs.Equation.{Equation, Direction, view, source_position, target_position}
+use Rattle.terms.specs.Equation.{Equation, view, source_position, target_position}
+use Rattle.terms.specs.declared.direction.Direction.{Direction}
 use Rattle.terms.specs.ForContracts.Limits.{WithinLimits, positions}
 use Rattle.terms.specs.Theory.Limits.{positions_few}
 use Rattle.terms.specs.Theory.Position.{count_few, count_starts}

@@ -3,7 +3,9 @@ use Rattle.std.specs.Prelude.{ℕ, zero, suc, List}
 use Rattle.format.specs.Lists.{Every}
 use Rattle.format.specs.Theory.Lists.{every_entry}
 use Rattle.terms.specs.Term.{Term, var, Ground, inst}
-use Rattle.terms.specs.Equation.{Equation, Direction, left_right, right_left, source, target}
+use Rattle.terms.specs.Equation.{Equation, source, target}
+use Rattle.terms.specs.declared.direction.Direction.{Direction}
+use Rattle.terms.specs.declared.direction.Direction.TheVariants.{LeftRight as left_right, RightLeft as right_left}
 use Rattle.terms.specs.ForContracts.Fits.{Fits}
 use Rattle.terms.specs.Theory.Ground.{part_ground}
 use Rattle.terms.specs.Theory.Replace.{ground_replace}

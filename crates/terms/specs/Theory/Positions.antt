@@ -6,7 +6,9 @@ use Rattle.std.proofs.lemmas.List.{get_or_at}
 use Rattle.std.proofs.Math.Decide.{ℕ_discrete, dec_lt}
 use Rattle.terms.specs.Term.{Term, Terms, var, app, nil, cons, size, sizes}
 use Rattle.terms.specs.Position.{subterms, subterms_of}
-use Rattle.terms.specs.Equation.{Equation, Direction, left_right, right_left, source, target, source_position, target_position, term_at}
+use Rattle.terms.specs.Equation.{Equation, source, target, source_position, target_position, term_at}
+use Rattle.terms.specs.declared.direction.Direction.{Direction}
+use Rattle.terms.specs.declared.direction.Direction.TheVariants.{LeftRight as left_right, RightLeft as right_left}
 use Rattle.terms.specs.Theory.Position.{length_subterms, length_subterms_of, size_pos}
 use Rattle.terms.specs.ForContracts.Limits.{positions}
 

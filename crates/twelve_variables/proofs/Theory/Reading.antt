@@ -21,7 +21,8 @@ use Rattle.format.specs.Byte.{class_of_with}
 use Rattle.format.specs.Lists.{entry, Every}
 use Rattle.format.specs.Theory.Byte.{class_behind_with}
 use Rattle.terms.specs.Term.{Terms}
-use Rattle.terms.specs.Equation.{Equation, Direction, direction_of}
+use Rattle.terms.specs.Equation.{Equation, direction_of}
+use Rattle.terms.specs.declared.direction.Direction.{Direction}
 use Rattle.terms.specs.Prefix.{put_node, terms_of_with}
 use Rattle.sheet.specs.Sheet.{run, judgement, comparison, Sheet, equation_width}
 use Rattle.sheet.specs.Text.{TextLine, lines_of, frame_of}

@@ -2,7 +2,8 @@
 use Rattle.std.specs.Prelude.{ℕ, ◌≡◌, refl, List, [], ◌∷◌}
 use Rattle.format.specs.declared.refusal.Refusal.TheVariants.{FrameBytes as frame_bytes}
 use Rattle.terms.specs.Term.{var}
-use Rattle.terms.specs.Equation.{Equation, left_right}
+use Rattle.terms.specs.Equation.{Equation}
+use Rattle.terms.specs.declared.direction.Direction.TheVariants.{LeftRight as left_right}
 use Rattle.sheet.specs.Reading.{refused_at, read_with}
 use Rattle.solving.specs.Line.{unbound, greater, line}
 use Rattle.solving.specs.Walk.{solved, solve_with}

@@ -10,7 +10,9 @@ use Rattle.format.specs.Limits.{first_variable}
 use Rattle.format.specs.Lists.{entry, Every}
 use Rattle.format.specs.Theory.Lists.{every_entry}
 use Rattle.terms.specs.Term.{Term, Values}
-use Rattle.terms.specs.Equation.{Equation, Direction, left_right, right_left, direction_number, term_at}
+use Rattle.terms.specs.Equation.{Equation, direction_number, term_at}
+use Rattle.terms.specs.declared.direction.Direction.{Direction}
+use Rattle.terms.specs.declared.direction.Direction.TheVariants.{LeftRight as left_right, RightLeft as right_left}
 use Rattle.terms.specs.Prefix.{prefix}
 use Rattle.terms.specs.Filling.{filling}
 use Rattle.sheet.specs.Sheet.{Task, run, judgement, comparison, Sheet}

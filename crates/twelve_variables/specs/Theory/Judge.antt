@@ -6,7 +6,8 @@ use Rattle.std.proofs.Common.{◌∙◌}
 use Rattle.std.proofs.Math.Option.{none, some}
 use mathlib.Core.List.{List, [], ◌∷◌}
 use Rattle.terms.specs.Term.{Term, Values}
-use Rattle.terms.specs.Equation.{Equation, Direction, value}
+use Rattle.terms.specs.Equation.{Equation, value}
+use Rattle.terms.specs.declared.direction.Direction.{Direction}
 use Rattle.solving.specs.Line.{Bindings, Line, line}
 use Rattle.solving.specs.Walk.{Walked, solved, refused, solve_with}
 use Rattle.solving.specs.Holds.{BindingsHold, LineHolds}

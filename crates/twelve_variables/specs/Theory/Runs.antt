@@ -10,7 +10,9 @@ use Rattle.format.specs.Lists.{Every}
 use Rattle.format.specs.Theory.Lists.{every_map}
 use Rattle.terms.specs.Term.{Term, Terms, var, app, nil, cons, identical?, Values, inst}
 use Rattle.terms.specs.Position.{replace}
-use Rattle.terms.specs.Equation.{Equation, Direction, left_right, right_left, source, target}
+use Rattle.terms.specs.Equation.{Equation, source, target}
+use Rattle.terms.specs.declared.direction.Direction.{Direction}
+use Rattle.terms.specs.declared.direction.Direction.TheVariants.{LeftRight as left_right, RightLeft as right_left}
 use Rattle.terms.specs.ForContracts.Limits.{VariablesBelow, AllVariablesBelow}
 use Rattle.reducing.specs.Match.{Match, unmet, meet, match, match_each, values_of}
 use Rattle.reducing.specs.Run.{Step, try_with}

@@ -3,7 +3,8 @@ use Rattle.std.specs.Prelude.{ℕ, ◌+◌, ◌≤◌, ◌<◌, ◌≡◌, refl,
 use Rattle.std.proofs.Math.Path.{ap}
 use Rattle.std.proofs.Common.{◌∙◌, arith}
 use Rattle.format.specs.Limits.{max_turns}
-use Rattle.terms.specs.Equation.{Equation, Direction, view, source_position, target_position}
+use Rattle.terms.specs.Equation.{Equation, view, source_position, target_position}
+use Rattle.terms.specs.declared.direction.Direction.{Direction}
 use Rattle.terms.specs.ForContracts.Limits.{positions}
 use Rattle.terms.specs.Theory.Positions.{source_within, target_within}
 use Rattle.terms.specs.Theory.View.{Layout, layout_below}

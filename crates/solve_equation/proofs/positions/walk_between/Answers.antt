@@ -19,8 +19,8 @@ pub slice_bounds-variables-end-2 : goal.slice_bounds-variables-end-2
 slice_bounds-variables-end-2 c =
     front_fits c.collect_variables.new.variables _ c.collect_variables.ensures.same_length
 
-pub slice_bounds-go_on-end : goal.slice_bounds-go_on-end
-slice_bounds-go_on-end c =
+pub slice_bounds-equation-end : goal.slice_bounds-equation-end
+slice_bounds-equation-end c =
     let same = c.collect_variables.ensures.same_length in
     sym (ap length (take_at c.collect_variables.new.variables _ _ same) ∙ same)
 

@@ -19,11 +19,11 @@ pub on_bytes-requires : goal.on_bytes-requires
 on_bytes-requires g c =
     rw c.symbol_arities.ensures
     (record {
-      has_equation = (equation_has _ _ _ c.requires.accepts.0 c.requires.accepts.1 _ _ _ c.equation_at-n.ensures, equation_low _ _ _ c.requires.accepts.0 c.requires.accepts.1, c.requires.accepts.2);
+      has_equation = (equation_has _ _ _ c.requires.accepts.0 c.requires.accepts.1 _ _ _ c.equation_at-n.ensures, equation_low _ _ _ c.requires.accepts.0 c.requires.accepts.1);
       table_bytes_in_bounds = c.requires.table_bytes_in_bounds;
     })
 
 pub returns : goal.returns
 returns g c =
     let given = rw c.symbol_arities.ensures at c.on_bytes.ensures in
-    equation_answer _ _ _ _ _ _ _ c.requires.accepts.0 c.requires.accepts.1 c.requires.accepts.2 _ _ (equation_is _ _ _ c.requires.accepts.0 c.requires.accepts.1 _ _ _ c.equation_at-n.ensures) given
+    λ n d. equation_answer _ _ _ _ _ n _ c.requires.accepts.0 c.requires.accepts.1 d _ _ (equation_is _ _ _ c.requires.accepts.0 c.requires.accepts.1 _ _ _ c.equation_at-n.ensures) given

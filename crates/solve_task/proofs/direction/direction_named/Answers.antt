@@ -5,5 +5,8 @@ use Rattle.solve_task.proofs.direction.direction_named.Goals as goal
 pub returns-then-known-equation : goal.returns-then-known-equation
 returns-then-known-equation g c = equation_absent _ _ _ _ _ _ _ c.requires.accepts c.if-known-equation.true c.refusal_number.ensures
 
-pub returns-then-direction-ge2 : goal.returns-then-direction-ge2
-returns-then-direction-ge2 g c = direction_absent _ _ _ _ _ _ _ c.requires.accepts c.if-known-equation.false c.if-direction-ge2.true c.refusal_number-then-direction-ge2.ensures
+pub returns-in_default : goal.returns-in_default
+returns-in_default g c = direction_absent _ _ _ _ _ _ _ c.requires.accepts c.if-known-equation.false (rw c.in_default.is at c.from_number.ensures) c.refusal_number-in_default.ensures
+
+pub returns : goal.returns
+returns g c = c.direction_found.ensures c.args.direction (rw c.in-Some.is at c.from_number.ensures)

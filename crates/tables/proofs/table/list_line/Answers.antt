@@ -9,21 +9,21 @@ pub bounds-lengths-row : goal.bounds-lengths-row
 bounds-lengths-row c = let h = c.requires.0 in omega (arith, row_low (its_rule h.rows h.records_there h.low))
 
 pub bounds-lengths-right : goal.bounds-lengths-right
-bounds-lengths-right c = let h = c.requires.0 in second_low (its_rule h.rows h.records_there h.low) c.wide.ensures.value
+bounds-lengths-right c = let h = c.requires.0 in second_low (its_rule h.rows h.records_there h.low) c.from.ensures
 
 pub slice_bounds-put_line-end : goal.slice_bounds-put_line-end
 slice_bounds-put_line-end c = let h = c.requires.0 in omega (arith, record_room h.rows h.records_there h.low)
 
 pub slice_bounds-put_line-end-2 : goal.slice_bounds-put_line-end-2
-slice_bounds-put_line-end-2 c = let h = c.requires.0 in end_in_equations (its_rule h.rows h.records_there h.low) c.wide.ensures.value c.wide-2.ensures.value
+slice_bounds-put_line-end-2 c = let h = c.requires.0 in end_in_equations (its_rule h.rows h.records_there h.low) c.from.ensures c.from-2.ensures
 
 pub slice_bounds-put_line-end-3 : goal.slice_bounds-put_line-end-3
 slice_bounds-put_line-end-3 c =
-    let h = c.requires.0 in end_in_lengths (its_rule h.rows h.records_there h.low) c.wide.ensures.value c.wide-2.ensures.value
+    let h = c.requires.0 in end_in_lengths (its_rule h.rows h.records_there h.low) c.from.ensures c.from-2.ensures
 
 pub put_line-requires : goal.put_line-requires
 put_line-requires c =
-    let h = c.requires.0 in (line_has h.rows h.records_there h.low c.wide.ensures.value c.wide-2.ensures.value, c.requires.1)
+    let h = c.requires.0 in (line_has h.rows h.records_there h.low c.from.ensures c.from-2.ensures, c.requires.1)
 
 pub returns : goal.returns
-returns c = record { by_index = λ arities es lines rows there low. line_printed rows there low c.wide.ensures.value c.wide-2.ensures.value c.put_line.ensures.appended; upper_bound = c.put_line.ensures.upper_bound }
+returns c = record { by_index = λ arities es lines rows there low. line_printed rows there low c.from.ensures c.from-2.ensures c.put_line.ensures.appended; upper_bound = c.put_line.ensures.upper_bound }

@@ -1,10 +1,6 @@
 -- `list_lines` prints the lines that there is room for. The invariant: those before line `line` are printed.
-use Prim.Native.Nat.{◌-◌}
 use Rattle.tables.proofs.TableLaws.{LinesPassed}
 use Rattle.tables.proofs.table.list_lines.Given as goal
 
 abbrev pub invariant-loop-line : goal.invariant-loop-line
 invariant-loop-line l = LinesPassed l.equations l.lengths l.rule l.first l.lines l.scratch l.initial.out l.out l.at l.line
-
-abbrev pub decreases-loop-line : goal.decreases-loop-line
-decreases-loop-line l = l.lines - l.line

@@ -4,15 +4,15 @@ use Rattle.tables.proofs.table.list_table.Goals as goal
 
 pub put_table-bytes-requires : goal.put_table-bytes-requires
 put_table-bytes-requires c =
-    let memory = c.walk_rule-walked.new.scratch in
-    let solves = c.in-Solved.is in
-    (rule_few c.requires.0 memory c.walk_rule-walked.result c.walk_rule-walked.ensures.by_index, lines_few c.requires.0 memory c.walk_rule-walked.result c.walk_rule-walked.ensures.by_index solves, c.requires.2)
+    let memory = c.walk_rule.new.scratch in
+    let walk = c.walk_rule.ensures.by_index in
+    (rule_few c.requires.0 memory c.walk_rule.result walk, lines_few c.requires.0 memory c.walk_rule.result walk c.in-Ok.is, c.requires.2)
 
-pub returns-in-Solved : goal.returns-in-Solved
-returns-in-Solved c =
+pub returns-in-Ok : goal.returns-in-Ok
+returns-in-Ok c =
     λ arities es rows s low.
-    table_given c.walk_rule-walked.new.scratch c.walk_rule-walked.result c.walk_rule-walked.ensures.by_index es rows low c.in-Solved.is c.requires.2 c.put_table-bytes.ensures
+    table_given c.walk_rule.new.scratch c.walk_rule.result c.walk_rule.ensures.by_index es rows low c.in-Ok.is c.requires.2 c.put_table-bytes.ensures
 
-pub returns-in-Refused : goal.returns-in-Refused
-returns-in-Refused c = λ arities es rows s low.
-    absurd (never_refused c.walk_rule-walked.new.scratch c.walk_rule-walked.result c.walk_rule-walked.ensures.by_index es rows low s c.in-Refused.is)
+pub returns-in-Err : goal.returns-in-Err
+returns-in-Err c = λ arities es rows s low.
+    absurd (never_refused c.walk_rule.new.scratch c.walk_rule.result c.walk_rule.ensures.by_index es rows low s c.in-Err.is)

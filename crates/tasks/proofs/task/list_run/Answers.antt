@@ -19,8 +19,8 @@ slice_bounds-term-end c =
     let run = c.run_course-course.ensures.run_course has.those has.subject has.is has.ready in
     omega (arith, run.small, c.run_course-course.auto.term)
 
-pub slice_bounds-put_run-end : goal.slice_bounds-put_run-end
-slice_bounds-put_run-end c =
+pub slice_bounds-last-end : goal.slice_bounds-last-end
+slice_bounds-last-end c =
     let has = c.requires.has_run_term.0 in
     let run = c.run_course-course.ensures.run_course has.those has.subject has.is has.ready in
     sym (length-take-le c.run_course-course.result.size c.run_course-course.new.term (omega (arith, run.small, c.run_course-course.auto.term, c.requires.table_bytes_in_bounds)))

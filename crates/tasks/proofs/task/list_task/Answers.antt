@@ -11,12 +11,12 @@ pub list_run-requires : goal.list_run-requires
 list_run-requires c =
     record { has_run_term = run_has c.args.task c.find_task-found.result c.find_task-found.ensures c.requires.has_task c.in-Run.is; table_bytes_in_bounds = c.requires.table_bytes_in_bounds }
 
-pub overflow_add-e : goal.overflow_add-e
-overflow_add-e c =
+pub overflow_add-rule : goal.overflow_add-rule
+overflow_add-rule c =
     omega (arith, rule_low c.args.task c.find_task-found.result c.find_task-found.ensures c.requires.has_task c.in-Judgement.is)
 
-pub overflow_add-e-in-Judgement : goal.overflow_add-e-in-Judgement
-overflow_add-e-in-Judgement c =
+pub overflow_add-rule-in-Judgement : goal.overflow_add-rule-in-Judgement
+overflow_add-rule-in-Judgement c =
     omega (arith, rule_low c.args.task c.find_task-found.result c.find_task-found.ensures c.requires.has_task c.in-Judgement.is)
 
 pub list_judgement-bytes-requires : goal.list_judgement-bytes-requires

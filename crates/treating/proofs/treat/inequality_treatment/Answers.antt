@@ -13,12 +13,12 @@ occurs_at-requires c =
 pub returns-then-occurs_at : goal.returns-then-occurs_at
 returns-then-occurs_at c =
     let sides = c.args.sides in
-    left_drops c.args.nodes.now c.args.sizes.now c.args.bindings.now sides.left sides.right c.reached-s.result c.reached-s.ensures.value c.reached-s.ensures.upper_bound c.if-f-ge-FIRST_VARIABLE.true c.from.result c.from.ensures (sym c.if-occurs_at.true ∙ c.occurs_at.ensures)
+    left_drops c.args.equation.now.nodes.now c.args.equation.now.sizes.now c.args.bindings.now sides.left sides.right c.reached-s.result c.reached-s.ensures.value c.reached-s.ensures.upper_bound c.if-f-ge-FIRST_VARIABLE.true c.from.result c.from.ensures (sym c.if-occurs_at.true ∙ c.occurs_at.ensures)
 
 pub returns-then-f-ge-FIRST_VARIABLE : goal.returns-then-f-ge-FIRST_VARIABLE
 returns-then-f-ge-FIRST_VARIABLE c =
     let sides = c.args.sides in
-    left_reduced c.args.nodes.now c.args.sizes.now c.args.bindings.now sides.left sides.right c.reached-s.result c.reached-s.ensures.value c.reached-s.ensures.upper_bound c.if-f-ge-FIRST_VARIABLE.true c.from.result c.from.ensures (sym c.if-occurs_at.false ∙ c.occurs_at.ensures)
+    left_reduced c.args.equation.now.nodes.now c.args.equation.now.sizes.now c.args.bindings.now sides.left sides.right c.reached-s.result c.reached-s.ensures.value c.reached-s.ensures.upper_bound c.if-f-ge-FIRST_VARIABLE.true c.from.result c.from.ensures (sym c.if-occurs_at.false ∙ c.occurs_at.ensures)
 
 pub occurs_at-requires-then-g-ge-FIRST_VARIABLE : goal.occurs_at-requires-then-g-ge-FIRST_VARIABLE
 occurs_at-requires-then-g-ge-FIRST_VARIABLE c =
@@ -29,14 +29,14 @@ occurs_at-requires-then-g-ge-FIRST_VARIABLE c =
 pub returns-then-occurs_at-2 : goal.returns-then-occurs_at-2
 returns-then-occurs_at-2 c =
     let sides = c.args.sides in
-    right_drops c.args.nodes.now c.args.sizes.now c.args.bindings.now sides.left sides.right c.reached-s.result c.reached-s.ensures.value c.reached-t.result c.reached-t.ensures.value c.reached-s.ensures.upper_bound c.if-f-ge-FIRST_VARIABLE.false c.reached-t.ensures.upper_bound c.if-g-ge-FIRST_VARIABLE.true c.from-then-g-ge-FIRST_VARIABLE.result c.from-then-g-ge-FIRST_VARIABLE.ensures (sym c.if-occurs_at-2.true ∙ c.occurs_at-then-g-ge-FIRST_VARIABLE.ensures)
+    right_drops c.args.equation.now.nodes.now c.args.equation.now.sizes.now c.args.bindings.now sides.left sides.right c.reached-s.result c.reached-s.ensures.value c.reached-t.result c.reached-t.ensures.value c.reached-s.ensures.upper_bound c.if-f-ge-FIRST_VARIABLE.false c.reached-t.ensures.upper_bound c.if-g-ge-FIRST_VARIABLE.true c.from-then-g-ge-FIRST_VARIABLE.result c.from-then-g-ge-FIRST_VARIABLE.ensures (sym c.if-occurs_at-2.true ∙ c.occurs_at-then-g-ge-FIRST_VARIABLE.ensures)
 
 pub returns-then-g-ge-FIRST_VARIABLE : goal.returns-then-g-ge-FIRST_VARIABLE
 returns-then-g-ge-FIRST_VARIABLE c =
     let sides = c.args.sides in
-    right_reduced c.args.nodes.now c.args.sizes.now c.args.bindings.now sides.left sides.right c.reached-s.result c.reached-s.ensures.value c.reached-t.result c.reached-t.ensures.value c.reached-s.ensures.upper_bound c.if-f-ge-FIRST_VARIABLE.false c.reached-t.ensures.upper_bound c.if-g-ge-FIRST_VARIABLE.true c.from-then-g-ge-FIRST_VARIABLE.result c.from-then-g-ge-FIRST_VARIABLE.ensures (sym c.if-occurs_at-2.false ∙ c.occurs_at-then-g-ge-FIRST_VARIABLE.ensures)
+    right_reduced c.args.equation.now.nodes.now c.args.equation.now.sizes.now c.args.bindings.now sides.left sides.right c.reached-s.result c.reached-s.ensures.value c.reached-t.result c.reached-t.ensures.value c.reached-s.ensures.upper_bound c.if-f-ge-FIRST_VARIABLE.false c.reached-t.ensures.upper_bound c.if-g-ge-FIRST_VARIABLE.true c.from-then-g-ge-FIRST_VARIABLE.result c.from-then-g-ge-FIRST_VARIABLE.ensures (sym c.if-occurs_at-2.false ∙ c.occurs_at-then-g-ge-FIRST_VARIABLE.ensures)
 
 pub returns : goal.returns
 returns c =
     let sides = c.args.sides in
-    splits c.args.nodes.now c.args.sizes.now c.args.bindings.now sides.left sides.right c.reached-s.result c.reached-s.ensures.value c.reached-t.result c.reached-t.ensures.value c.reached-s.ensures.upper_bound c.if-f-ge-FIRST_VARIABLE.false c.reached-t.ensures.upper_bound c.if-g-ge-FIRST_VARIABLE.false
+    splits c.args.equation.now.nodes.now c.args.equation.now.sizes.now c.args.bindings.now sides.left sides.right c.reached-s.result c.reached-s.ensures.value c.reached-t.result c.reached-t.ensures.value c.reached-s.ensures.upper_bound c.if-f-ge-FIRST_VARIABLE.false c.reached-t.ensures.upper_bound c.if-g-ge-FIRST_VARIABLE.false

@@ -5,7 +5,7 @@ use Rattle.unifying.specs.Theory.Unify.{unification_readable, arguments_rows, re
 use Rattle.unifying.specs.Theory.Links.{linked_followed, leads_same, links_meet, linked_later, linked_both}
 use lib.ListN.{length-set}
 use Rattle.unifying.proofs.unify.+unification.Goals as goal
-use Rattle.unifying.proofs.unify.+unification.Goals.{unify_terms-else-nodes-s-lt-FIRST_VARIABLE-via-then-nodes-s-lt-FIRST_VARIABLE+else-nodes-t-lt-FIRST_VARIABLE, unify_terms-else-nodes-s-lt-FIRST_VARIABLE-via-else-nodes-s-lt-FIRST_VARIABLE}
+use Rattle.unifying.proofs.unify.+unification.Goals.{unify_terms-else-equation-s-lt-FIRST_VARIABLE-via-then-equation-s-lt-FIRST_VARIABLE+else-equation-t-lt-FIRST_VARIABLE, unify_terms-else-equation-s-lt-FIRST_VARIABLE-via-else-equation-s-lt-FIRST_VARIABLE}
 
 pub unify_rows-unify_terms-requires : goal.unify_rows-unify_terms-requires
 unify_rows-unify_terms-requires t c =
@@ -46,9 +46,9 @@ pub unify_rows-returns : goal.unify_rows-returns
 unify_rows-returns t c =
     record { unifies_rows = rows_end c.if-left.false c.if-right-2.false; linked_2 = λ z. c.requires.linked }
 
-pub unify_symbols-returns-then-nodes-s : goal.unify_symbols-returns-then-nodes-s
-unify_symbols-returns-then-nodes-s t c =
-    record { unifies_symbols = symbols_differ c.requires.readable.0.laid c.args.s c.args.t c.requires.s_in_bounds.0 c.requires.t_in_bounds.0 c.requires.s_in_bounds.1 c.requires.t_in_bounds.1 _ c.if-nodes-s.true; linked_2 = not_unified }
+pub unify_symbols-returns-then-equation-s : goal.unify_symbols-returns-then-equation-s
+unify_symbols-returns-then-equation-s t c =
+    record { unifies_symbols = symbols_differ c.requires.readable.0.laid c.args.s c.args.t c.requires.s_in_bounds.0 c.requires.t_in_bounds.0 c.requires.s_in_bounds.1 c.requires.t_in_bounds.1 _ c.if-equation-s.true; linked_2 = not_unified }
 
 pub unify_symbols-arguments_of-left-requires : goal.unify_symbols-arguments_of-left-requires
 unify_symbols-arguments_of-left-requires t c =
@@ -66,21 +66,21 @@ unify_symbols-unify_rows-requires t c =
 
 pub unify_symbols-returns : goal.unify_symbols-returns
 unify_symbols-returns t c =
-    record { unifies_symbols = symbols_same c.requires.readable.0.laid c.args.s c.args.t c.requires.s_in_bounds.0 c.requires.t_in_bounds.0 c.requires.s_in_bounds.1 c.requires.t_in_bounds.1 c.if-nodes-s.false (rw (c.arguments_of-left.ensures, c.arguments_of-right.ensures) at c.unify_rows.ensures.unifies_rows); linked_2 = c.unify_rows.ensures.linked_2 }
+    record { unifies_symbols = symbols_same c.requires.readable.0.laid c.args.s c.args.t c.requires.s_in_bounds.0 c.requires.t_in_bounds.0 c.requires.s_in_bounds.1 c.requires.t_in_bounds.1 c.if-equation-s.false (rw (c.arguments_of-left.ensures, c.arguments_of-right.ensures) at c.unify_rows.ensures.unifies_rows); linked_2 = c.unify_rows.ensures.linked_2 }
 
 pub unify_terms-returns-then-depth-eq0 : goal.unify_terms-returns-then-depth-eq0
 unify_terms-returns-then-depth-eq0 t c =
-    record { unifies_to = told _ c.requires.readable.0 c.args.p c.args.q c.args.depth c.requires.p_in_bounds.0 c.requires.p_in_bounds.1 _ (terms_none c.args.nodes.now c.args.sizes.now c.args.bindings.now _ c.args.p c.args.q c.args.depth c.if-depth-eq0.true); linked_2 = not_unified }
+    record { unifies_to = told _ c.requires.readable.0 c.args.p c.args.q c.args.depth c.requires.p_in_bounds.0 c.requires.p_in_bounds.1 _ (terms_none c.args.equation.now.nodes.now c.args.equation.now.sizes.now c.args.bindings.now _ c.args.p c.args.q c.args.depth c.if-depth-eq0.true); linked_2 = not_unified }
 
 pub unify_terms-returns-then-s-t : goal.unify_terms-returns-then-s-t
 unify_terms-returns-then-s-t t c =
     record { unifies_to = same_reached c.requires.readable.0 c.args.p c.args.q c.reached-s.result c.reached-t.result c.args.depth c.reached-s.ensures.value c.reached-t.ensures.value c.if-s-t.true; linked_2 = λ z. c.requires.linked }
 
-pub unify_terms-bounds-nodes-s : goal.unify_terms-bounds-nodes-s
-unify_terms-bounds-nodes-s t c = c.reached-s.ensures.upper_bound
+pub unify_terms-bounds-equation-s : goal.unify_terms-bounds-equation-s
+unify_terms-bounds-equation-s t c = c.reached-s.ensures.upper_bound
 
-pub unify_terms-bounds-nodes-t : goal.unify_terms-bounds-nodes-t
-unify_terms-bounds-nodes-t t c = c.reached-t.ensures.upper_bound
+pub unify_terms-bounds-equation-t : goal.unify_terms-bounds-equation-t
+unify_terms-bounds-equation-t t c = c.reached-t.ensures.upper_bound
 
 pub unify_terms-linked-a-requires : goal.unify_terms-linked-a-requires
 unify_terms-linked-a-requires t c =
@@ -100,11 +100,11 @@ unify_terms-overflow_sub-depth t c =
 
 pub unify_terms-unify_symbols-requires : goal.unify_terms-unify_symbols-requires
 unify_terms-unify_symbols-requires t c =
-    (omega (arith, c.decreases, one_less c.args.depth c.if-depth-eq0.false), (c.requires.readable, ((c.reached-s.ensures.upper_bound, c.if-nodes-s-lt-FIRST_VARIABLE.true), ((c.reached-t.ensures.upper_bound, c.if-nodes-t-lt-FIRST_VARIABLE.true), c.requires.linked))))
+    (omega (arith, c.decreases, one_less c.args.depth c.if-depth-eq0.false), (c.requires.readable, ((c.reached-s.ensures.upper_bound, c.if-equation-s-lt-FIRST_VARIABLE.true), ((c.reached-t.ensures.upper_bound, c.if-equation-t-lt-FIRST_VARIABLE.true), c.requires.linked))))
 
 pub unify_terms-returns-in_err-unify_symbols : goal.unify_terms-returns-in_err-unify_symbols
 unify_terms-returns-in_err-unify_symbols t c =
-    let u = terms_symbols c.requires.readable.0 c.args.p c.args.q c.reached-s.result c.reached-t.result c.args.depth c.reached-s.ensures.value c.reached-t.ensures.value c.if-depth-eq0.false _ c.unify_symbols.result c.reached-s.ensures.upper_bound c.reached-t.ensures.upper_bound c.if-nodes-s-lt-FIRST_VARIABLE.true c.if-nodes-t-lt-FIRST_VARIABLE.true c.unify_symbols.ensures.unifies_symbols in
+    let u = terms_symbols c.requires.readable.0 c.args.p c.args.q c.reached-s.result c.reached-t.result c.args.depth c.reached-s.ensures.value c.reached-t.ensures.value c.if-depth-eq0.false _ c.unify_symbols.result c.reached-s.ensures.upper_bound c.reached-t.ensures.upper_bound c.if-equation-s-lt-FIRST_VARIABLE.true c.if-equation-t-lt-FIRST_VARIABLE.true c.unify_symbols.ensures.unifies_symbols in
     rw c.from_residual.ensures (record { unifies_to = record { found = λ z. not_unified z; none_found = λ z. u.none_found (none_told c.in_err-unify_symbols.was) }; linked_2 = not_unified })
 
 pub unify_terms-overflow_cast-links : goal.unify_terms-overflow_cast-links
@@ -115,23 +115,23 @@ pub unify_terms-bounds-links-a : goal.unify_terms-bounds-links-a
 unify_terms-bounds-links-a t c =
     omega (arith, (leads_same c.requires.readable.0 c.requires.linked c.reached-s.ensures.upper_bound c.linked-a.ensures).0, c.requires.readable.0.laid.few, (c.unify_symbols.ensures.linked_2 (some_told c.in_ok-unify_symbols.was)).each_position)
 
-pub unify_terms-overflow_cast-links-then-nodes-t-lt-FIRST_VARIABLE : goal.unify_terms-overflow_cast-links-then-nodes-t-lt-FIRST_VARIABLE
-unify_terms-overflow_cast-links-then-nodes-t-lt-FIRST_VARIABLE t c =
+pub unify_terms-overflow_cast-links-then-equation-t-lt-FIRST_VARIABLE : goal.unify_terms-overflow_cast-links-then-equation-t-lt-FIRST_VARIABLE
+unify_terms-overflow_cast-links-then-equation-t-lt-FIRST_VARIABLE t c =
     omega (arith, (leads_same c.requires.readable.0 c.requires.linked c.reached-t.ensures.upper_bound c.linked-b.ensures).0, c.requires.readable.0.laid.few)
 
 pub unify_terms-bounds-links-s : goal.unify_terms-bounds-links-s
 unify_terms-bounds-links-s t c =
     omega (arith, c.reached-s.ensures.upper_bound, c.requires.readable.0.laid.few, (c.unify_symbols.ensures.linked_2 (some_told c.in_ok-unify_symbols.was)).each_position, length-set c.unify_symbols.new.links c.linked-a.result c.linked-b.result)
 
-pub unify_terms-returns-then-nodes-t-lt-FIRST_VARIABLE : goal.unify_terms-returns-then-nodes-t-lt-FIRST_VARIABLE
-unify_terms-returns-then-nodes-t-lt-FIRST_VARIABLE t c =
-    let u = terms_symbols c.requires.readable.0 c.args.p c.args.q c.reached-s.result c.reached-t.result c.args.depth c.reached-s.ensures.value c.reached-t.ensures.value c.if-depth-eq0.false _ c.unify_symbols.result c.reached-s.ensures.upper_bound c.reached-t.ensures.upper_bound c.if-nodes-s-lt-FIRST_VARIABLE.true c.if-nodes-t-lt-FIRST_VARIABLE.true c.unify_symbols.ensures.unifies_symbols in
+pub unify_terms-returns-then-equation-t-lt-FIRST_VARIABLE : goal.unify_terms-returns-then-equation-t-lt-FIRST_VARIABLE
+unify_terms-returns-then-equation-t-lt-FIRST_VARIABLE t c =
+    let u = terms_symbols c.requires.readable.0 c.args.p c.args.q c.reached-s.result c.reached-t.result c.args.depth c.reached-s.ensures.value c.reached-t.ensures.value c.if-depth-eq0.false _ c.unify_symbols.result c.reached-s.ensures.upper_bound c.reached-t.ensures.upper_bound c.if-equation-s-lt-FIRST_VARIABLE.true c.if-equation-t-lt-FIRST_VARIABLE.true c.unify_symbols.ensures.unifies_symbols in
     let unified = u.found (some_told c.in_ok-unify_symbols.was) in
     let read = unification_readable c.unify_symbols.new.bindings c.requires.readable.0 c.args.p c.args.q c.requires.p_in_bounds.0 c.requires.p_in_bounds.1 unified in record { unifies_to = record { found = λ z. unified; none_found = λ z. not_failed z }; linked_2 = λ z. linked_both c.requires.readable.0 read c.requires.linked (c.unify_symbols.ensures.linked_2 (some_told c.in_ok-unify_symbols.was)) c.reached-s.ensures.upper_bound c.reached-t.ensures.upper_bound c.reached-s.ensures.value c.reached-t.ensures.value c.linked-a.ensures c.linked-b.ensures unified }
 
 pub unify_terms-bind_reached-requires : goal.unify_terms-bind_reached-requires
 unify_terms-bind_reached-requires t c =
-    record { readable = c.requires.readable; free_at = (reached_free_at c.requires.readable.0 c.args.p c.reached-s.result c.reached-s.ensures.value c.reached-s.ensures.upper_bound, reached_free_at c.requires.readable.0 c.args.q c.reached-t.result c.reached-t.ensures.value c.reached-t.ensures.upper_bound); first_variable_bound = λ h. elim c.else-nodes-s-lt-FIRST_VARIABLE.branch [ unify_terms-else-nodes-s-lt-FIRST_VARIABLE-via-then-nodes-s-lt-FIRST_VARIABLE+else-nodes-t-lt-FIRST_VARIABLE w ↦ w.if-nodes-t-lt-FIRST_VARIABLE.false | unify_terms-else-nodes-s-lt-FIRST_VARIABLE-via-else-nodes-s-lt-FIRST_VARIABLE w ↦ absurd (omega (arith, w.if-nodes-s-lt-FIRST_VARIABLE.false, h)) ] }
+    record { readable = c.requires.readable; free_at = (reached_free_at c.requires.readable.0 c.args.p c.reached-s.result c.reached-s.ensures.value c.reached-s.ensures.upper_bound, reached_free_at c.requires.readable.0 c.args.q c.reached-t.result c.reached-t.ensures.value c.reached-t.ensures.upper_bound); first_variable_bound = λ h. elim c.else-equation-s-lt-FIRST_VARIABLE.branch [ unify_terms-else-equation-s-lt-FIRST_VARIABLE-via-then-equation-s-lt-FIRST_VARIABLE+else-equation-t-lt-FIRST_VARIABLE w ↦ w.if-equation-t-lt-FIRST_VARIABLE.false | unify_terms-else-equation-s-lt-FIRST_VARIABLE-via-else-equation-s-lt-FIRST_VARIABLE w ↦ absurd (omega (arith, w.if-equation-s-lt-FIRST_VARIABLE.false, h)) ] }
 
 pub unify_terms-returns : goal.unify_terms-returns
 unify_terms-returns t c =

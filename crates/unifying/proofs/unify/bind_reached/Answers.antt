@@ -5,12 +5,12 @@ use Rattle.unifying.specs.ForContracts.Unify.{answered}
 use Rattle.unifying.specs.Theory.Unify.{free_variable, variable_slot, nodes_right, nodes_left, nodes_both}
 use Rattle.unifying.proofs.unify.bind_reached.Goals as goal
 
-pub bounds-nodes-s : goal.bounds-nodes-s
-bounds-nodes-s c =
+pub bounds-equation-s : goal.bounds-equation-s
+bounds-equation-s c =
     c.requires.free_at.0.within
 
-pub bounds-nodes-t : goal.bounds-nodes-t
-bounds-nodes-t c =
+pub bounds-equation-t : goal.bounds-equation-t
+bounds-equation-t c =
     c.requires.free_at.1.within
 
 pub overflow_sub-g : goal.overflow_sub-g

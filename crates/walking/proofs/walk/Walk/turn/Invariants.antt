@@ -7,4 +7,4 @@ abbrev pub invariant-loop-i : goal.invariant-loop-i
 invariant-loop-i l = Filling l.memory l.place l.initial.line l.line l.i
 
 abbrev pub invariant-loop-at : goal.invariant-loop-at
-invariant-loop-at l = (l.memory ≡ l.initial.memory) × Searching l.nodes l.sizes l.initial.memory l.place l.line l.at
+invariant-loop-at l = (l.memory ≡ l.initial.memory) × Searching l.equation.nodes.now l.equation.sizes.now l.initial.memory l.place l.line l.at

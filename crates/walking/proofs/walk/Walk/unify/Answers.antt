@@ -8,16 +8,16 @@ use Rattle.walking.proofs.walk.Walk.unify.Goals.{then-changed, else-changed}
 pub overflow_mul-place : goal.overflow_mul-place
 overflow_mul-place c = omega (arith, treating_top c.requires.0.treating)
 
-pub unify_positions-requires : goal.unify_positions-requires
-unify_positions-requires c = record { readable = (line_readable c.requires.0 c.requires.1 _ refl, c.requires.2); p_in_bounds = equal_within c.requires.0 c.requires.1 _ refl }
+pub unify_positions-unifier-requires : goal.unify_positions-unifier-requires
+unify_positions-unifier-requires c = record { readable = (line_readable c.requires.0 c.requires.1 _ refl, c.requires.2); p_in_bounds = equal_within c.requires.0 c.requires.1 _ refl }
 
 pub returns-in_default : goal.returns-in_default
 returns-in_default c =
-    rw c.turned.ensures (unify_failed c.requires.0 c.requires.1 _ refl c.in_default.ensures)
+    rw c.turned.ensures (unify_failed c.requires.0 c.requires.1 _ refl c.unify_positions-unifier.result c.unify_positions-unifier.ensures c.in_default.is)
 
 pub differ-changed-requires : goal.differ-changed-requires
 differ-changed-requires c =
-    (omega (arith, treating_place c.requires.0.treating), c.in-Some.ensures.whole)
+    (omega (arith, treating_place c.requires.0.treating), c.unify_positions-unifier.ensures.whole)
 
 pub put_without-requires : goal.put_without-requires
 put_without-requires c =
@@ -25,11 +25,11 @@ put_without-requires c =
 
 pub rebind-requires : goal.rebind-requires
 rebind-requires c =
-    (omega (arith, treating_place c.requires.0.treating, c.put_without.auto.memory), c.in-Some.ensures.whole)
+    (omega (arith, treating_place c.requires.0.treating, c.put_without.auto.memory), c.unify_positions-unifier.ensures.whole)
 
 pub returns : goal.returns
 returns c =
     rw c.turned-2.ensures (elim c.if-changed.branch [
-      | then-changed w ↦ unify_changed c.requires.0 c.requires.1 _ refl c.in-Some.others c.in-Some.ensures _ _ c.put_without.ensures (w.memory-is ∙ w.rebind.ensures)
-      | else-changed w ↦ unify_kept c.requires.0 c.requires.1 _ refl c.in-Some.others c.in-Some.ensures _ (c.differ-changed.ensures.same w.if-changed.false) (rw w.memory-is c.put_without.ensures)
+      | then-changed w ↦ unify_changed c.requires.0 c.requires.1 _ refl c.unify_positions-unifier.result c.unify_positions-unifier.ensures c.in-Some.is _ _ c.put_without.ensures (w.memory-is ∙ w.rebind.ensures)
+      | else-changed w ↦ unify_kept c.requires.0 c.requires.1 _ refl c.unify_positions-unifier.result c.unify_positions-unifier.ensures c.in-Some.is _ (c.differ-changed.ensures.same w.if-changed.false) (rw w.memory-is c.put_without.ensures)
     ])

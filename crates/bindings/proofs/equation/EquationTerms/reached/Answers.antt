@@ -2,13 +2,13 @@
 use native.Mathlib.Omega.{arith}
 use Rattle.bindings.specs.Theory.Bindings.{not_unbound}
 use Rattle.bindings.proofs.Follow.{following_start, slot_there, reached_symbol, reached_free, following_on, reached_end}
-use Rattle.bindings.proofs.reach.reached.Goals as goal
+use Rattle.bindings.proofs.equation.EquationTerms.reached.Goals as goal
 
 pub loop-hop-init : goal.loop-hop-init
 loop-hop-init c = following_start c.requires.1
 
-pub bounds-nodes-at : goal.bounds-nodes-at
-bounds-nodes-at c = c.loop-hop.invariant.within
+pub bounds-self-at : goal.bounds-self-at
+bounds-self-at c = c.loop-hop.invariant.within
 
 pub returns-then-byte-lt-FIRST_VARIABLE : goal.returns-then-byte-lt-FIRST_VARIABLE
 returns-then-byte-lt-FIRST_VARIABLE c = let f = c.loop-hop.invariant in record { value = reached_symbol f c.if-byte-lt-FIRST_VARIABLE.true; upper_bound = f.within }

@@ -2,18 +2,18 @@
 use native.Mathlib.Omega.{arith}
 use Rattle.std.proofs.Common.{rules}
 use Rattle.bindings.proofs.Occurrence.{Sought, slots, search_start, bound_within, search_free, search_bound, search_false}
-use Rattle.bindings.proofs.occurs.occurs_at.Goals as goal
-use Rattle.bindings.proofs.occurs.occurs_at.Goals.{Start}
+use Rattle.bindings.proofs.equation.EquationTerms.occurs_at.Goals as goal
+use Rattle.bindings.proofs.equation.EquationTerms.occurs_at.Goals.{Start}
 
-sought : (c : Start) → Sought c.args.nodes.now c.args.sizes.now c.args.variables.now c.args.bindings.now c.args.v
+sought : (c : Start) → Sought c.args.self.now.nodes.now c.args.self.now.sizes.now c.args.self.now.variables.now c.args.bindings.now c.args.v
 sought c = record { readable = c.requires.readable.0; sets = c.requires.readable.1; free = c.requires.p_in_bounds.2 }
 
-pub offset_bounds-variables-p : goal.offset_bounds-variables-p
-offset_bounds-variables-p c =
+pub offset_bounds-self-p : goal.offset_bounds-self-p
+offset_bounds-self-p c =
     omega (arith, c.requires.p_in_bounds.0, c.requires.readable.0.laid.few)
 
-pub bounds-variables-p : goal.bounds-variables-p
-bounds-variables-p c =
+pub bounds-self-p : goal.bounds-self-p
+bounds-self-p c =
     omega (arith, c.requires.p_in_bounds.0, c.requires.readable.1.same_length)
 
 pub loop-seen-init : goal.loop-seen-init
@@ -30,9 +30,9 @@ pub bounds-bindings-w : goal.bounds-bindings-w
 bounds-bindings-w c =
     omega (arith, (c.loop-seen.invariant.0.each _ c.lowest_beside-w.ensures.0).low, slots (sought (goal.at.bounds-bindings-w c).Start))
 
-pub bounds-variables-from : goal.bounds-variables-from
-bounds-variables-from c =
-    omega (arith, bound_within (sought (goal.at.bounds-variables-from c).Start) c.requires.p_in_bounds.0 c.loop-seen.invariant.0 c.lowest_beside-w.ensures.0 (search rules), c.from.ensures, c.requires.readable.1.same_length)
+pub bounds-self-from : goal.bounds-self-from
+bounds-self-from c =
+    omega (arith, bound_within (sought (goal.at.bounds-self-from c).Start) c.requires.p_in_bounds.0 c.loop-seen.invariant.0 c.lowest_beside-w.ensures.0 (search rules), c.from.ensures, c.requires.readable.1.same_length)
 
 pub loop-seen-preserved-then-next-lt-NO_POSITION : goal.loop-seen-preserved-then-next-lt-NO_POSITION
 loop-seen-preserved-then-next-lt-NO_POSITION c =
