@@ -3,8 +3,8 @@ ghost use Rattle.std.specs.Prelude.{◌≡◌, ◌≤◌, ◌<◌, length};
 ghost use Rattle.format.specs.Limits.{node_count};
 ghost use Rattle.terms.specs.ForContracts.Arguments.{arguments_at, behind_first};
 
-// The terms from node `from` to node `end`, the last one not among them. They are walked by their sizes, `at += sizes[at]`, in a `while`: the `next` of an iterator can ask nothing of
-// its caller, so that one over sizes would have to test what each caller's contract already says, that a size stands there and is not 0.
+// The terms from node `from` to node `end`, the last one not among them. They are walked by their sizes, `at += sizes[at]`, in a `while`. An iterator over them would be no plainer: that a size
+// stands there and is not 0 is told by what a loop knows of its own terms, and each loop would have to show it once more as what the iterator's `next` asks.
 #[derive(Clone, Copy)]
 pub struct Arguments {
     pub from: usize,
