@@ -7,9 +7,6 @@ use Rattle.frames.proofs.line.count_bindings.Goals.{then-bytes-v-lt-NO_POSITION,
 pub loop-v-init : goal.loop-v-init
 loop-v-init c = none_counted _
 
-pub overflow_add-n : goal.overflow_add-n
-overflow_add-n c = omega (arith, c.loop-v.invariant.low, c.loop-v-test.true)
-
 pub loop-v-preserved : goal.loop-v-preserved
 loop-v-preserved c =
     let h = c.loop-v-test.true in

@@ -12,9 +12,6 @@ loop-v-init c = no_binding_passed _ _ _ _ _
 pub bounds-bytes-v : goal.bounds-bytes-v
 bounds-bytes-v c = omega (arith, all_bytes c.requires.0, c.loop-v-test.true)
 
-pub put_byte-behind-requires : goal.put_byte-behind-requires
-put_byte-behind-requires c = omega (arith, c.loop-v.invariant.reached, c.loop-v.invariant.same_length, c.loop-v-test.true, c.requires.1)
-
 pub put_term-to-requires : goal.put_term-to-requires
 unfolding digits
 put_term-to-requires c =
@@ -28,9 +25,6 @@ loop-v-preserved c =
       | then-p-lt-NO_POSITION w ↦ passed_moved w.out-is w.to-is (bound_passed c.loop-v.invariant h w.if-p-lt-NO_POSITION.true w.from.ensures w.put_byte-behind.ensures w.put_term-to.ensures.appended w.put_term-to.ensures.upper_bound w.put_term-to.auto.out)
       | else-p-lt-NO_POSITION w ↦ passed_moved w.out-is w.to-is (free_passed c.loop-v.invariant h w.if-p-lt-NO_POSITION.false)
     ]
-
-pub shape_of-out : goal.shape_of-out
-shape_of-out c = c.loop-v.invariant.same_length
 
 pub returns : goal.returns
 returns c = record { appended = bindings_passed c.loop-v.invariant c.loop-v-test.false; upper_bound = omega (arith, c.loop-v.invariant.reached, c.loop-v.invariant.within) }

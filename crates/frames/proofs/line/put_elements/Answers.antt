@@ -32,9 +32,6 @@ pub loop-i-preserved : goal.loop-i-preserved
 loop-i-preserved c =
     element_passed c.loop-i.invariant (omega (arith, c.from-count.ensures, c.loop-i-test.true)) c.from.ensures c.put_term-behind.ensures.appended c.put_term-behind.ensures.upper_bound c.put_term-behind.auto.out c.from-in-loop-i.ensures c.put_term-to.ensures.appended c.put_term-to.ensures.upper_bound c.put_term-to.auto.out
 
-pub shape_of-out : goal.shape_of-out
-shape_of-out c = c.loop-i.invariant.same_length
-
 pub returns : goal.returns
 returns c = let n = c.from-count.ensures in
     record { appended = elements_passed c.loop-i.invariant (omega (arith, n, c.loop-i-test.false)); upper_bound = omega (arith, c.loop-i.invariant.reached, c.loop-i.invariant.within, few_elements c.requires.0) }

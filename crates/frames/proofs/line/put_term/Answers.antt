@@ -18,9 +18,6 @@ slice_bounds-put_bytes-end c = let t = c.requires.0 in omega (arith, c.from.ensu
 pub put_bytes-requires : goal.put_bytes-requires
 put_bytes-requires c = let t = c.requires.0 in omega (arith, term_length t.are t.inside c.from.ensures, term_small t.are t.inside, c.requires.1)
 
-pub shape_of-out : goal.shape_of-out
-shape_of-out c = c.put_bytes.ensures.same_length
-
 pub returns : goal.returns
 returns c =
     let t = c.requires.0 in

@@ -4,9 +4,6 @@ use Rattle.rules.specs.Theory.Rows.{rule_there}
 use Rattle.places.proofs.PlaceLaws.{few_equations, equations_counted, its_rows, below, table_low, tables_done, table_done}
 use Rattle.places.proofs.step.from_table.Goals as goal
 
-pub overflow_add-known : goal.overflow_add-known
-overflow_add-known c = let h = c.requires.has_place in omega (arith, equations_counted h.ready, few_equations h.ready)
-
 pub returns-then-rule-known : goal.returns-then-rule-known
 returns-then-rule-known c = λ bounds table s r at. tables_done r _ c.moved.ensures c.if-rule-known.true
 

@@ -7,12 +7,6 @@ pub returns-then-task-opened : goal.returns-then-task-opened
 returns-then-task-opened c =
     let (s, r, at) = c.requires.ready in total_done r _ _ _ c.moved.ensures c.if-task-opened.true (omega (arith, c.requires.table_bytes_in_bounds.2)) c.put_total-bytes.ensures
 
-pub list_task-listed-requires : goal.list_task-listed-requires
-list_task-listed-requires c =
-    let (s, r, at) = c.requires.ready in
-    let p = c.requires.table_bytes_in_bounds in
-    record { has_task = record { content = s; ready = r; low = task_low r at.0 c.if-task-opened.false }; table_bytes_in_bounds = (p.0, p.1, omega (arith, p.2)) }
-
 pub overflow_add-next-2 : goal.overflow_add-next-2
 overflow_add-next-2 c =
     let (s, r, at) = c.requires.ready in

@@ -25,5 +25,5 @@ pub put_line-requires : goal.put_line-requires
 put_line-requires c =
     let h = c.requires.0 in (line_has h.rows h.records_there h.low c.from.ensures c.from-2.ensures, c.requires.1)
 
-pub returns : goal.returns
-returns c = record { by_index = λ arities es lines rows there low. line_printed rows there low c.from.ensures c.from-2.ensures c.put_line.ensures.appended; upper_bound = c.put_line.ensures.upper_bound }
+pub returns-clause-by_index : goal.returns-clause-by_index
+returns-clause-by_index c = λ arities es lines rows there low. line_printed rows there low c.from.ensures c.from-2.ensures c.put_line.ensures.appended

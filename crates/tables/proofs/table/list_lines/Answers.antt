@@ -6,17 +6,8 @@ use Rattle.tables.proofs.table.list_lines.Goals as goal
 pub loop-line-init : goal.loop-line-init
 loop-line-init c = no_line_passed _ _ _ _ _ _ _ c.requires.1
 
-pub overflow_add-at : goal.overflow_add-at
-overflow_add-at c = omega (arith, c.loop-line.invariant.within)
-
-pub list_line-at-requires : goal.list_line-at-requires
-list_line-at-requires c = let h = c.requires.0 in (record { arities = h.arities; those = h.those; lines = c.args.lines; rows = h.rows; records_there = h.records_there; low = c.loop-line-test.true }, c.if-out-at.false)
-
 pub loop-line-preserved : goal.loop-line-preserved
 loop-line-preserved c = line_passed c.loop-line.invariant c.loop-line-test.true c.if-out-at.false c.list_line-at.ensures.upper_bound c.list_line-at.auto.out c.list_line-at.ensures.by_index
-
-pub shape_of-out-then-out-at : goal.shape_of-out-then-out-at
-shape_of-out-then-out-at c = c.loop-line.invariant.same_length
 
 pub returns-then-out-at : goal.returns-then-out-at
 returns-then-out-at c = lines_given c.loop-line.invariant (begun c.loop-line.invariant c.requires.2 c.if-out-at.true)

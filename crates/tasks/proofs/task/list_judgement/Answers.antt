@@ -5,11 +5,8 @@ use native.Mathlib.Omega.{arith}
 use Rattle.format.specs.Limits.{table_bytes}
 use Rattle.reducing.specs.Test.{holding_line, given_values}
 use Rattle.judge_task.specs.Theory.Holding.{holding_few}
-use Rattle.tasks.proofs.JudgementLaws.{judged_rule, never_refused, records_has, never_full, values_kept, values_has}
+use Rattle.tasks.proofs.JudgementLaws.{never_refused, records_has, never_full, values_kept, values_has}
 use Rattle.tasks.proofs.task.list_judgement.Goals as goal
-
-pub walk_rule-requires : goal.walk_rule-requires
-walk_rule-requires c = (judged_rule c.requires.has_judgement_at.are, omega (arith, c.requires.scratch_bytes_in_bounds))
 
 pub returns-in_default : goal.returns-in_default
 returns-in_default c = λ i e d ts at. absurd (never_refused at c.walk_rule.ensures.by_index c.in_default.is)

@@ -33,6 +33,8 @@ put_run-bytes-requires c =
     let size = length-take-le c.run_course-course.result.size c.run_course-course.new.term (omega (arith, run.small, c.run_course-course.auto.term, c.requires.table_bytes_in_bounds)) in
     (few, omega (arith, run.small, size), omega (arith, few, c.put_steps-behind.ensures.value, c.out-1.given, c.requires.table_bytes_in_bounds))
 
-pub returns : goal.returns
-returns c =
-    record { task_given = λ es subject is ready. run_given (c.run_course-course.ensures.run_course es subject is ready) c.requires.has_run_term.1 c.put_steps-behind.ensures.appended c.put_run-bytes.ensures; lines_ready = λ es every ready. lines_stay c.args.asked.opened.fits c.args.bounds.now es c.run_course-course.ensures.table_unchanged ready }
+pub returns-clause-task_given : goal.returns-clause-task_given
+returns-clause-task_given c = λ es subject is ready. run_given (c.run_course-course.ensures.run_course es subject is ready) c.requires.has_run_term.1 c.put_steps-behind.ensures.appended c.put_run-bytes.ensures
+
+pub returns-clause-lines_ready : goal.returns-clause-lines_ready
+returns-clause-lines_ready c = λ es every ready. lines_stay c.args.asked.opened.fits c.args.bounds.now es c.run_course-course.ensures.table_unchanged ready
