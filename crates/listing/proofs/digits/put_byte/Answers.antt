@@ -1,11 +1,6 @@
 -- `put_byte` appends a byte's two digits.
-use native.Mathlib.Omega.{arith}
-use lib.ListN.{length-set}
 use Rattle.listing.proofs.Digit.{two_digits}
 use Rattle.listing.proofs.digits.put_byte.Goals as goal
-
-pub bounds-out-at-2 : goal.bounds-out-at-2
-bounds-out-at-2 c = omega (arith, length-set c.args.out.now c.args.at c.digit.result, c.requires)
 
 pub returns : goal.returns
 returns c = two_digits c.args.out.now c.args.at c.args.byte c.digit.result c.digit-2.result c.requires c.digit.ensures c.digit-2.ensures

@@ -1,6 +1,6 @@
 -- Goals of `put_bytes`.
 use native.Mathlib.Omega.{arith}
-use Rattle.listing.proofs.Digit.{none_passed, reached, byte_passed, all_passed}
+use Rattle.listing.proofs.Digit.{none_passed, reached, byte_passed}
 use Rattle.listing.proofs.digits.put_bytes.Goals as goal
 
 pub loop-byte-init : goal.loop-byte-init
@@ -11,9 +11,3 @@ put_byte-to-requires c = omega (arith, reached c.loop-byte.invariant, c.loop-byt
 
 pub loop-byte-preserved : goal.loop-byte-preserved
 loop-byte-preserved c = byte_passed c.loop-byte.invariant c.loop-byte-test.true c.put_byte-to.ensures
-
-pub shape_of-out : goal.shape_of-out
-shape_of-out c = c.loop-byte.invariant.so_far.same_length
-
-pub returns : goal.returns
-returns c = all_passed c.loop-byte.invariant c.loop-byte-test.false

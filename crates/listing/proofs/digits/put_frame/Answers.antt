@@ -1,13 +1,9 @@
 -- `put_frame` appends bytes and LF.
-use mathlib.Core.Path.{◌∙◌}
 use Rattle.listing.proofs.Digit.{frame_room, frame_ended}
 use Rattle.listing.proofs.digits.put_frame.Goals as goal
 
 pub put_line_feed-requires : goal.put_line_feed-requires
 put_line_feed-requires c = frame_room c.args.bytes.now c.requires c.put_bytes-end.ensures
-
-pub shape_of-out : goal.shape_of-out
-shape_of-out c = c.put_line_feed.ensures.same_length ∙ c.put_bytes-end.ensures.same_length
 
 pub returns : goal.returns
 returns c =

@@ -1,11 +1,7 @@
 -- `refusal_number` puts the line above the refusal's number.
 use native.Mathlib.Omega.{arith}
 use Rattle.outcomes.specs.Buffer.{refusal_number, fields}
-use Rattle.outcomes.specs.Theory.Number.{number_range}
 use Rattle.outcomes.proofs.number.refusal_number.Goals as goal
-
-pub overflow_add-result : goal.overflow_add-result
-overflow_add-result c = omega (arith, c.from.ensures, c.from-2.ensures, number_range c.args.why, c.requires)
 
 pub returns : goal.returns
 unfolding refusal_number fields

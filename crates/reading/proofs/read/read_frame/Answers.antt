@@ -2,17 +2,11 @@
 use mathlib.Core.Path.{refl, ap, ◌∙◌}
 use native.Mathlib.Omega.{arith}
 use Rattle.format.specs.Kind.{kind_of}
-use Rattle.reading.proofs.OneFrame.{few_arities, line_inside, kind_small, line_behind, known_sheet, read_first, read_later}
+use Rattle.reading.proofs.OneFrame.{few_arities, kind_small, line_behind, known_sheet, read_first, read_later}
 use Rattle.reading.proofs.read.read_frame.Goals as goal
-
-pub byte_at-requires : goal.byte_at-requires
-byte_at-requires c = omega (arith, line_inside _ _ c.requires.0 c.requires.1)
 
 pub overflow_cast-byte_at : goal.overflow_cast-byte_at
 overflow_cast-byte_at c = omega (arith, c.byte_at.ensures, kind_small _ _ c.requires.0 c.requires.1)
-
-pub overflow_add-body : goal.overflow_add-body
-overflow_add-body c = omega (arith, line_inside _ _ c.requires.0 c.requires.1)
 
 pub first_frame-requires : goal.first_frame-requires
 first_frame-requires c = line_behind _ _ c.requires.0 c.requires.1

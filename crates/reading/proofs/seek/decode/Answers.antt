@@ -3,14 +3,8 @@ use Prim.Native.Nat.{◌+◌}
 use mathlib.Core.Path.{subst}
 use lib.ListN.{set}
 use native.Mathlib.Omega.{arith}
-use Rattle.reading.proofs.Decode.{Decoding, decoding_start, decoding_done, decoding_inside, decoding_byte, decoding_place, decoding_next}
+use Rattle.reading.proofs.Decode.{Decoding, decoding_done, decoding_byte, decoding_place, decoding_next}
 use Rattle.reading.proofs.seek.decode.Goals as goal
-
-pub loop-n-init : goal.loop-n-init
-loop-n-init c = subst (λ at. Decoding c.args.s.now c.args.digits.from c.args.digits.end c.args.out.now c.args.out.now at 0) (omega arith) (decoding_start _ _ _ _ c.requires)
-
-pub byte_at-requires : goal.byte_at-requires
-byte_at-requires c = omega (arith, decoding_inside _ _ _ _ _ _ _ c.loop-n.invariant (omega (arith, c.loop-n.invariant.ready.even)))
 
 pub overflow_cast-out : goal.overflow_cast-out
 overflow_cast-out c = omega (arith, c.byte_at.ensures, decoding_byte _ _ _ _ _ _ _ c.loop-n.invariant (omega (arith, c.loop-n.invariant.ready.even)))

@@ -1,11 +1,7 @@
 -- `reading::seek::equation_at` finds an equation's frame and decodes what stands behind its kind.
 use native.Mathlib.Omega.{arith}
-use Rattle.reading.specs.Theory.Found.{equation_low}
 use Rattle.reading.proofs.Located.{equation_wanted, equation_inside, equation_spans, equation_room}
 use Rattle.reading.proofs.seek.equation_at.Goals as goal
-
-pub overflow_add-e : goal.overflow_add-e
-overflow_add-e c = omega (arith, equation_low _ _ _ c.requires.0 c.requires.1)
 
 pub frame_at-frame-requires : goal.frame_at-frame-requires
 frame_at-frame-requires c = equation_wanted _ _ _ c.requires.0 c.requires.1

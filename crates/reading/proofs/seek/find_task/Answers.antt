@@ -1,14 +1,7 @@
 -- `reading::seek::find_task` finds a task's frame and takes it apart.
-use native.Mathlib.Omega.{arith}
 use Rattle.reading.specs.Theory.Found.{task_asked}
-use Rattle.reading.proofs.Located.{task_line, task_wanted, task_low}
+use Rattle.reading.proofs.Located.{task_line, task_wanted}
 use Rattle.reading.proofs.seek.find_task.Goals as goal
-
-pub overflow_add-known : goal.overflow_add-known
-overflow_add-known c = omega (arith, task_low _ _ _ c.requires.0 c.requires.1)
-
-pub overflow_add-known-2 : goal.overflow_add-known-2
-overflow_add-known-2 c = omega (arith, task_low _ _ _ c.requires.0 c.requires.1)
 
 pub frame_at-frame-requires : goal.frame_at-frame-requires
 frame_at-frame-requires c = task_wanted _ _ _ c.requires.0 c.requires.1

@@ -1,23 +1,14 @@
 -- Goals of `scan`.
 use Rattle.std.proofs.Common.{arith}
 use Rattle.std.proofs.lemmas.Result.{err_from_is_err_and}
-use Rattle.scanning.proofs.Scanning.{scanning_start, stop_done, stop_early, stop_full, stop_other, next_small, next_inside, scanning_variable, scanning_declared}
+use Rattle.scanning.proofs.Scanning.{stop_done, stop_early, stop_full, stop_other, next_small, scanning_variable, scanning_declared}
 use Rattle.scanning.proofs.scan.scan.Goals as goal
-
-pub loop-need-init : goal.loop-need-init
-loop-need-init c = scanning_start _ _ _ _ c.requires
 
 pub returns-then-at-span : goal.returns-then-at-span
 returns-then-at-span c = stop_early _ _ _ _ c.loop-need.at c.loop-need.need c.loop-need.room c.loop-need.width c.loop-need.invariant c.if-at-span.true c.loop-need-test.true
 
 pub returns-then-room-eq0 : goal.returns-then-room-eq0
 returns-then-room-eq0 c = stop_full _ _ _ _ c.loop-need.at c.loop-need.need c.loop-need.room c.loop-need.width c.loop-need.invariant c.if-at-span.false c.loop-need-test.true c.if-room-eq0.true
-
-pub byte_at-b-requires : goal.byte_at-b-requires
-byte_at-b-requires c = omega (arith, next_inside _ _ _ _ c.loop-need.at c.loop-need.need c.loop-need.room c.loop-need.width c.loop-need.invariant c.if-at-span.false)
-
-pub overflow_add-at : goal.overflow_add-at
-overflow_add-at c = omega (arith, next_inside _ _ _ _ c.loop-need.at c.loop-need.need c.loop-need.room c.loop-need.width c.loop-need.invariant c.if-at-span.false)
 
 pub loop-need-preserved-then-b-symbols : goal.loop-need-preserved-then-b-symbols
 loop-need-preserved-then-b-symbols c =

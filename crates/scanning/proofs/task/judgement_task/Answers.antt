@@ -4,14 +4,8 @@ use Rattle.scanning.proofs.Tasks.{behind_two, judgement_short, equation_absent, 
 use Rattle.scanning.proofs.task.judgement_task.Goals as goal
 use Rattle.scanning.proofs.task.judgement_task.Goals.{then-known-e-via-then-known-e, then-known-e-via-else-known-e+then-byte_at-gt1}
 
-pub overflow_sub-span : goal.overflow_sub-span
-overflow_sub-span c = omega (arith, c.requires.0.body.even)
-
 pub returns-then-span-from-lt4 : goal.returns-then-span-from-lt4
 returns-then-span-from-lt4 c = λ sheet knows. judgement_short _ sheet knows _ _ _ c.requires.0.body c.if-span-from-lt4.true
-
-pub byte_at-e-requires : goal.byte_at-e-requires
-byte_at-e-requires c = omega (arith, c.requires.0.body.inside, c.if-span-from-lt4.false)
 
 pub returns-then-known-e : goal.returns-then-known-e
 returns-then-known-e c = λ sheet knows. elim c.then-known-e.branch [
@@ -20,20 +14,6 @@ returns-then-known-e c = λ sheet knows. elim c.then-known-e.branch [
       direction_absent _ sheet knows _ _ _ c.requires.0.body c.if-span-from-lt4.false _ c.byte_at-e.ensures w.if-known-e.false
       w.byte_at.ensures w.if-byte_at-gt1.true
 ]
-
-pub overflow_add-from : goal.overflow_add-from
-overflow_add-from c = omega (arith, c.requires.0.body.inside, c.if-span-from-lt4.false)
-
-pub byte_at-requires : goal.byte_at-requires
-byte_at-requires c = omega (arith, c.requires.0.body.inside, c.if-span-from-lt4.false)
-
-pub overflow_add-values : goal.overflow_add-values
-overflow_add-values c = omega (arith, c.requires.0.body.inside, c.if-span-from-lt4.false)
-
-pub bounds-known-e : goal.bounds-known-e
-bounds-known-e c =
-    let (sheet, knows) = c.requires.1 in
-    omega (arith, c.if-known-e.false, knows.equations_are, knows.valid.few_equations)
 
 pub ground_terms-requires : goal.ground_terms-requires
 ground_terms-requires c =

@@ -1,14 +1,11 @@
 -- `scanning::task::run_task` is the definition's `run_body`.
 use Rattle.std.proofs.Common.{arith}
-use Rattle.scanning.specs.Theory.Between.{two_more, body_behind}
+use Rattle.scanning.specs.Theory.Between.{body_behind}
 use Rattle.scanning.proofs.Tasks.{run_early, run_read}
 use Rattle.scanning.proofs.task.run_task.Goals as goal
 
 pub returns-then-span : goal.returns-then-span
 returns-then-span c = λ sheet knows. run_early _ sheet knows _ _ _ c.if-span.true
-
-pub overflow_add-term : goal.overflow_add-term
-overflow_add-term c = let ready = c.requires.body in omega (arith, two_more _ _ _ ready c.if-span.false, ready.inside)
 
 pub ground_terms-requires : goal.ground_terms-requires
 ground_terms-requires c =

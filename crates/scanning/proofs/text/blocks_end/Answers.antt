@@ -1,10 +1,7 @@
 -- Goals of `blocks_end`.
 use Rattle.std.proofs.Common.{refl}
-use Rattle.scanning.proofs.Digits.{digits_to_start, digits_to_block}
+use Rattle.scanning.proofs.Digits.{digits_to_block}
 use Rattle.scanning.proofs.text.blocks_end.Goals as goal
-
-pub loop-i-init : goal.loop-i-init
-loop-i-init c = digits_to_start _ _ c.requires
 
 pub loop-i-preserved : goal.loop-i-preserved
 loop-i-preserved c = digits_to_block _ _ _ c.loop-i.invariant c.loop-i-test.true c.if-i-at-le-LINE_DIGITS.true (c.if-block_digits.ensures refl)

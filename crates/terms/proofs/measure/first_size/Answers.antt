@@ -2,7 +2,7 @@
 use mathlib.Core.Path.{◌∙◌}
 use native.Mathlib.Omega.{arith}
 use Rattle.terms.specs.Theory.Sizes.{variable_sizes, symbol_sizes}
-use Rattle.terms.proofs.Added.{added_none, added_zero, added_first, added_few, added_all, added_below, added_more}
+use Rattle.terms.proofs.Added.{added_none, added_zero, added_first, added_few, added_below, added_more}
 use Rattle.terms.proofs.measure.first_size.Goals as goal
 
 pub returns-then-byte-ge-FIRST_VARIABLE : goal.returns-then-byte-ge-FIRST_VARIABLE
@@ -27,11 +27,6 @@ loop-k-init c =
 pub bounds-sizes-next : goal.bounds-sizes-next
 bounds-sizes-next c = added_below c.loop-k.invariant c.loop-k-test.true
 
-pub overflow_add-next : goal.overflow_add-next
-overflow_add-next c =
-    let a = added_more c.loop-k.invariant c.loop-k-test.true in
-    omega (arith, added_few a, c.from-next-in-loop-k.ensures)
-
 pub loop-k-preserved : goal.loop-k-preserved
 loop-k-preserved c = rw c.from-next-in-loop-k.ensures (added_more c.loop-k.invariant c.loop-k-test.true)
 
@@ -40,6 +35,3 @@ overflow_add-result c = omega (arith, added_few c.loop-k.invariant)
 
 pub overflow_cast-result : goal.overflow_cast-result
 overflow_cast-result c = omega (arith, added_few c.loop-k.invariant)
-
-pub returns : goal.returns
-returns c = added_all c.loop-k.invariant c.loop-k-test.false

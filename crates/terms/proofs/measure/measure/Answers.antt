@@ -21,13 +21,6 @@ first_size-size-requires c =
     let behind : (loop.i - 1) + 1 ≡ loop.i = omega (arith, c.loop-i-test.true) in
     rw behind (record { whole = q.0; nodes_nonzero = q.1; sizes_value = (q.2, filled_asks c.requires loop.invariant.0 loop.invariant.1) })
 
-pub bounds-sizes-i : goal.bounds-sizes-i
-bounds-sizes-i c =
-    let loop = c.loop-i in
-    let loop-test = c.loop-i-test in
-    let f = loop.invariant.0 in
-    omega (arith, f.high, filled_same_length c.requires f, c.requires.sizes_room, loop-test.true)
-
 pub loop-i-preserved : goal.loop-i-preserved
 loop-i-preserved c =
     let loop = c.loop-i in
@@ -38,9 +31,3 @@ loop-i-preserved c =
 
 pub shape_of-sizes : goal.shape_of-sizes
 shape_of-sizes c = filled_same_length c.requires c.loop-i.invariant.0
-
-pub returns : goal.returns
-returns c =
-    let f = c.loop-i.invariant.0 in
-    let e : c.loop-i.i ≡ c.args.from = omega (arith, c.loop-i-test.false, f.low) in
-    rw (← e) f.is
