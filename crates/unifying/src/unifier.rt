@@ -19,12 +19,7 @@ pub struct Unifier {
 const DEPTH: usize = Limits::POSITIONS + 1;
 
 // Unifies the terms at two positions. The bindings of the line stay as they are.
-pub fn unify_positions(
-    equation: &EquationTerms,
-    bindings: &[u8],
-    p: usize,
-    q: usize,
-) -> Unifier
+pub fn unify_positions(equation: &EquationTerms, bindings: &[u8], p: usize, q: usize) -> Unifier
     requires readable { Readable equation.now.nodes.now equation.now.sizes.now bindings.now × HasVariables equation.now.nodes.now equation.now.sizes.now equation.now.variables.now }
     requires p_in_bounds { (p < length equation.now.nodes.now) × (q < length equation.now.nodes.now) }
     ensures { Unifies equation.now.nodes.now equation.now.sizes.now bindings.now p q result }

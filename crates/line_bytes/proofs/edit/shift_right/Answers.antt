@@ -1,9 +1,6 @@
 -- Goals of `shift_right`.
-use Rattle.line_bytes.proofs.Shifting.{right_start, right_next, right_done}
+use Rattle.line_bytes.proofs.Shifting.{right_next, right_done}
 use Rattle.line_bytes.proofs.edit.shift_right.Goals as goal
-
-pub loop-i-init : goal.loop-i-init
-loop-i-init c = right_start _ _ _ _ c.requires.0 c.requires.1
 
 pub loop-i-preserved : goal.loop-i-preserved
 loop-i-preserved c = right_next c.loop-i.invariant c.loop-i-test.true

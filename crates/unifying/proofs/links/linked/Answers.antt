@@ -7,18 +7,9 @@ use Rattle.unifying.proofs.links.linked.Goals as goal
 pub loop-hop-init : goal.loop-hop-init
 loop-hop-init c = (stays, c.requires.1)
 
-pub bounds-links-at : goal.bounds-links-at
-bounds-links-at c = omega (arith, c.loop-hop.invariant.1, c.requires.0.each_position)
-
-pub returns-then-next : goal.returns-then-next
-returns-then-next c = c.loop-hop.invariant.0
-
 pub loop-hop-preserved : goal.loop-hop-preserved
 loop-hop-preserved c =
     let followed = c.requires.0 in
     let inv = c.loop-hop.invariant in
     let less = not_unbound c.from-at.ensures (omega (arith, c.type_inv.links c.loop-hop.at)) c.if-next.false in
     (goes inv.0 c.from-at.ensures less, omega (arith, c.from-at.ensures, less, followed.within c.loop-hop.at (omega (arith, inv.1, followed.each_position)) (omega (arith, c.from-at.ensures, less))))
-
-pub returns : goal.returns
-returns c = c.loop-hop.invariant.0

@@ -1,27 +1,14 @@
 -- Goals of the cycle `unification`.
 use mathlib.Core.Path.{refl}
 use native.Mathlib.Omega.{arith}
-use Rattle.unifying.specs.Theory.Unify.{unification_readable, arguments_rows, reached_free_at, one_less, terms_bind, terms_symbols, terms_none, symbols_differ, symbols_same, same_reached, told, some_told, none_told, not_unified, not_failed, rows_end, rows_left, rows_right, rows_fail, rows_more, rows_first, rows_rest, rows_first_some}
-use Rattle.unifying.specs.Theory.Links.{linked_followed, leads_same, links_meet, linked_later, linked_both}
-use lib.ListN.{length-set}
+use Rattle.unifying.specs.Theory.Unify.{unification_readable, reached_free_at, terms_bind, terms_symbols, terms_none, symbols_differ, symbols_same, same_reached, told, some_told, none_told, not_unified, not_failed, rows_end, rows_left, rows_right, rows_fail, rows_more, rows_first, rows_rest, rows_first_some}
+use Rattle.unifying.specs.Theory.Links.{leads_same, links_meet, linked_later, linked_both}
 use Rattle.unifying.proofs.unify.+unification.Goals as goal
 use Rattle.unifying.proofs.unify.+unification.Goals.{unify_terms-else-equation-s-lt-FIRST_VARIABLE-via-then-equation-s-lt-FIRST_VARIABLE+else-equation-t-lt-FIRST_VARIABLE, unify_terms-else-equation-s-lt-FIRST_VARIABLE-via-else-equation-s-lt-FIRST_VARIABLE}
-
-pub unify_rows-unify_terms-requires : goal.unify_rows-unify_terms-requires
-unify_rows-unify_terms-requires t c =
-    (omega (arith, c.decreases), (c.requires.readable, (rows_first c.requires.has_rows c.if-left.true c.if-right.true, c.requires.linked)))
 
 pub unify_rows-returns-in_err-unify_terms : goal.unify_rows-returns-in_err-unify_terms
 unify_rows-returns-in_err-unify_terms t c =
     rw c.from_residual.ensures (record { unifies_rows = rows_fail _ _ c.unify_terms.result c.if-left.true c.if-right.true c.unify_terms.ensures.unifies_to (none_told c.in_err-unify_terms.was); linked_2 = not_unified })
-
-pub unify_rows-other_arguments-others-requires : goal.unify_rows-other_arguments-others-requires
-unify_rows-other_arguments-others-requires t c =
-    omega (arith, (rows_first c.requires.has_rows c.if-left.true c.if-right.true).0, c.requires.readable.0.laid.same_length, c.requires.readable.0.laid.few)
-
-pub unify_rows-other_arguments-opposite-requires : goal.unify_rows-other_arguments-opposite-requires
-unify_rows-other_arguments-opposite-requires t c =
-    omega (arith, (rows_first c.requires.has_rows c.if-left.true c.if-right.true).1, c.requires.readable.0.laid.same_length, c.requires.readable.0.laid.few)
 
 pub unify_rows-unify_rows-requires : goal.unify_rows-unify_rows-requires
 unify_rows-unify_rows-requires t c =
@@ -50,20 +37,6 @@ pub unify_symbols-returns-then-equation-s : goal.unify_symbols-returns-then-equa
 unify_symbols-returns-then-equation-s t c =
     record { unifies_symbols = symbols_differ c.requires.readable.0.laid c.args.s c.args.t c.requires.s_in_bounds.0 c.requires.t_in_bounds.0 c.requires.s_in_bounds.1 c.requires.t_in_bounds.1 _ c.if-equation-s.true; linked_2 = not_unified }
 
-pub unify_symbols-arguments_of-left-requires : goal.unify_symbols-arguments_of-left-requires
-unify_symbols-arguments_of-left-requires t c =
-    omega (arith, c.requires.s_in_bounds.0, c.requires.readable.0.laid.same_length, c.requires.readable.0.laid.few)
-
-pub unify_symbols-arguments_of-right-requires : goal.unify_symbols-arguments_of-right-requires
-unify_symbols-arguments_of-right-requires t c =
-    omega (arith, c.requires.t_in_bounds.0, c.requires.readable.0.laid.same_length, c.requires.readable.0.laid.few)
-
-pub unify_symbols-unify_rows-requires : goal.unify_symbols-unify_rows-requires
-unify_symbols-unify_rows-requires t c =
-    let laid = c.requires.readable.0.laid in
-    let ends = laid.ends_within c.args.s c.requires.s_in_bounds.0 in
-    rw (c.arguments_of-left.ensures, c.arguments_of-right.ensures) (omega (arith, c.decreases, ends, laid.few), (c.requires.readable, (arguments_rows laid c.args.s c.args.t c.requires.s_in_bounds.0 c.requires.t_in_bounds.0 c.requires.s_in_bounds.1 c.requires.t_in_bounds.1, c.requires.linked)))
-
 pub unify_symbols-returns : goal.unify_symbols-returns
 unify_symbols-returns t c =
     record { unifies_symbols = symbols_same c.requires.readable.0.laid c.args.s c.args.t c.requires.s_in_bounds.0 c.requires.t_in_bounds.0 c.requires.s_in_bounds.1 c.requires.t_in_bounds.1 c.if-equation-s.false (rw (c.arguments_of-left.ensures, c.arguments_of-right.ensures) at c.unify_rows.ensures.unifies_rows); linked_2 = c.unify_rows.ensures.linked_2 }
@@ -76,52 +49,18 @@ pub unify_terms-returns-then-s-t : goal.unify_terms-returns-then-s-t
 unify_terms-returns-then-s-t t c =
     record { unifies_to = same_reached c.requires.readable.0 c.args.p c.args.q c.reached-s.result c.reached-t.result c.args.depth c.reached-s.ensures.value c.reached-t.ensures.value c.if-s-t.true; linked_2 = λ z. c.requires.linked }
 
-pub unify_terms-bounds-equation-s : goal.unify_terms-bounds-equation-s
-unify_terms-bounds-equation-s t c = c.reached-s.ensures.upper_bound
-
-pub unify_terms-bounds-equation-t : goal.unify_terms-bounds-equation-t
-unify_terms-bounds-equation-t t c = c.reached-t.ensures.upper_bound
-
-pub unify_terms-linked-a-requires : goal.unify_terms-linked-a-requires
-unify_terms-linked-a-requires t c =
-    (linked_followed c.requires.readable.0 c.requires.linked, omega (arith, c.reached-s.ensures.upper_bound, c.requires.readable.0.laid.few))
-
-pub unify_terms-linked-b-requires : goal.unify_terms-linked-b-requires
-unify_terms-linked-b-requires t c =
-    (linked_followed c.requires.readable.0 c.requires.linked, omega (arith, c.reached-t.ensures.upper_bound, c.requires.readable.0.laid.few))
-
 pub unify_terms-returns-then-a-b : goal.unify_terms-returns-then-a-b
 unify_terms-returns-then-a-b t c =
     record { unifies_to = links_meet c.requires.readable.0 c.args.depth c.requires.linked c.reached-s.ensures.upper_bound c.reached-t.ensures.upper_bound c.reached-s.ensures.value c.reached-t.ensures.value c.linked-a.ensures c.linked-b.ensures c.if-a-b.true; linked_2 = λ z. c.requires.linked }
-
-pub unify_terms-overflow_sub-depth : goal.unify_terms-overflow_sub-depth
-unify_terms-overflow_sub-depth t c =
-    omega (arith, one_less c.args.depth c.if-depth-eq0.false)
-
-pub unify_terms-unify_symbols-requires : goal.unify_terms-unify_symbols-requires
-unify_terms-unify_symbols-requires t c =
-    (omega (arith, c.decreases, one_less c.args.depth c.if-depth-eq0.false), (c.requires.readable, ((c.reached-s.ensures.upper_bound, c.if-equation-s-lt-FIRST_VARIABLE.true), ((c.reached-t.ensures.upper_bound, c.if-equation-t-lt-FIRST_VARIABLE.true), c.requires.linked))))
 
 pub unify_terms-returns-in_err-unify_symbols : goal.unify_terms-returns-in_err-unify_symbols
 unify_terms-returns-in_err-unify_symbols t c =
     let u = terms_symbols c.requires.readable.0 c.args.p c.args.q c.reached-s.result c.reached-t.result c.args.depth c.reached-s.ensures.value c.reached-t.ensures.value c.if-depth-eq0.false _ c.unify_symbols.result c.reached-s.ensures.upper_bound c.reached-t.ensures.upper_bound c.if-equation-s-lt-FIRST_VARIABLE.true c.if-equation-t-lt-FIRST_VARIABLE.true c.unify_symbols.ensures.unifies_symbols in
     rw c.from_residual.ensures (record { unifies_to = record { found = λ z. not_unified z; none_found = λ z. u.none_found (none_told c.in_err-unify_symbols.was) }; linked_2 = not_unified })
 
-pub unify_terms-overflow_cast-links : goal.unify_terms-overflow_cast-links
-unify_terms-overflow_cast-links t c =
-    omega (arith, (leads_same c.requires.readable.0 c.requires.linked c.reached-t.ensures.upper_bound c.linked-b.ensures).0, c.requires.readable.0.laid.few)
-
 pub unify_terms-bounds-links-a : goal.unify_terms-bounds-links-a
 unify_terms-bounds-links-a t c =
     omega (arith, (leads_same c.requires.readable.0 c.requires.linked c.reached-s.ensures.upper_bound c.linked-a.ensures).0, c.requires.readable.0.laid.few, (c.unify_symbols.ensures.linked_2 (some_told c.in_ok-unify_symbols.was)).each_position)
-
-pub unify_terms-overflow_cast-links-then-equation-t-lt-FIRST_VARIABLE : goal.unify_terms-overflow_cast-links-then-equation-t-lt-FIRST_VARIABLE
-unify_terms-overflow_cast-links-then-equation-t-lt-FIRST_VARIABLE t c =
-    omega (arith, (leads_same c.requires.readable.0 c.requires.linked c.reached-t.ensures.upper_bound c.linked-b.ensures).0, c.requires.readable.0.laid.few)
-
-pub unify_terms-bounds-links-s : goal.unify_terms-bounds-links-s
-unify_terms-bounds-links-s t c =
-    omega (arith, c.reached-s.ensures.upper_bound, c.requires.readable.0.laid.few, (c.unify_symbols.ensures.linked_2 (some_told c.in_ok-unify_symbols.was)).each_position, length-set c.unify_symbols.new.links c.linked-a.result c.linked-b.result)
 
 pub unify_terms-returns-then-equation-t-lt-FIRST_VARIABLE : goal.unify_terms-returns-then-equation-t-lt-FIRST_VARIABLE
 unify_terms-returns-then-equation-t-lt-FIRST_VARIABLE t c =

@@ -5,18 +5,6 @@ use Rattle.unifying.specs.ForContracts.Unify.{answered}
 use Rattle.unifying.specs.Theory.Unify.{free_variable, variable_slot, nodes_right, nodes_left, nodes_both}
 use Rattle.unifying.proofs.unify.bind_reached.Goals as goal
 
-pub bounds-equation-s : goal.bounds-equation-s
-bounds-equation-s c =
-    c.requires.free_at.0.within
-
-pub bounds-equation-t : goal.bounds-equation-t
-bounds-equation-t c =
-    c.requires.free_at.1.within
-
-pub overflow_sub-g : goal.overflow_sub-g
-overflow_sub-g c =
-    omega (arith, c.requires.first_variable_bound c.if-f-lt-FIRST_VARIABLE.true)
-
 pub bind_term-requires : goal.bind_term-requires
 bind_term-requires c =
     record { readable = (c.requires.readable.0, c.requires.readable.1, c.requires.free_at.0.within); v_lt_variable_count = free_variable c.requires.readable.0 c.args.t c.from.result c.requires.free_at.1 (c.requires.first_variable_bound c.if-f-lt-FIRST_VARIABLE.true) c.from.ensures }

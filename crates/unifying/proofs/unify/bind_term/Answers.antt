@@ -5,14 +5,8 @@ use Rattle.bindings.specs.Theory.Bindings.{length_bindings}
 use Rattle.unifying.specs.Theory.Unify.{term_fails, term_binds}
 use Rattle.unifying.proofs.unify.bind_term.Goals as goal
 
-pub occurs_at-requires : goal.occurs_at-requires
-occurs_at-requires c = record { readable = (c.requires.readable.0, c.requires.readable.1); p_in_bounds = (c.requires.readable.2, c.requires.v_lt_variable_count.0, c.requires.v_lt_variable_count.1) }
-
 pub returns-then-occurs_at : goal.returns-then-occurs_at
 returns-then-occurs_at c = term_fails c.args.bindings.now c.args.v c.args.p _ _ (sym c.if-occurs_at.true ∙ c.occurs_at.ensures)
-
-pub overflow_cast-bindings : goal.overflow_cast-bindings
-overflow_cast-bindings c = omega (arith, c.requires.readable.2, c.requires.readable.0.laid.few)
 
 pub bounds-bindings-v : goal.bounds-bindings-v
 bounds-bindings-v c = omega (arith, c.requires.v_lt_variable_count.0, c.requires.readable.0.proper.slots, length_bindings c.args.bindings.now)

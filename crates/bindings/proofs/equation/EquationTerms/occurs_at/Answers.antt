@@ -8,23 +8,9 @@ use Rattle.bindings.proofs.equation.EquationTerms.occurs_at.Goals.{Start}
 sought : (c : Start) → Sought c.args.self.now.nodes.now c.args.self.now.sizes.now c.args.self.now.variables.now c.args.bindings.now c.args.v
 sought c = record { readable = c.requires.readable.0; sets = c.requires.readable.1; free = c.requires.p_in_bounds.2 }
 
-pub offset_bounds-self-p : goal.offset_bounds-self-p
-offset_bounds-self-p c =
-    omega (arith, c.requires.p_in_bounds.0, c.requires.readable.0.laid.few)
-
-pub bounds-self-p : goal.bounds-self-p
-bounds-self-p c =
-    omega (arith, c.requires.p_in_bounds.0, c.requires.readable.1.same_length)
-
 pub loop-seen-init : goal.loop-seen-init
 loop-seen-init c =
     (search_start (sought (goal.at.loop-seen-init c).Start) c.requires.p_in_bounds.0, omega arith)
-
-pub lowest_beside-w-requires : goal.lowest_beside-w-requires
-lowest_beside-w-requires c = (c.loop-seen.invariant.0.within, c.loop-seen-test.true)
-
-pub singleton-requires : goal.singleton-requires
-singleton-requires c = (c.loop-seen.invariant.0.each _ c.lowest_beside-w.ensures.0).low
 
 pub bounds-bindings-w : goal.bounds-bindings-w
 bounds-bindings-w c =

@@ -7,9 +7,6 @@ use Rattle.bindings.proofs.equation.EquationTerms.reached.Goals as goal
 pub loop-hop-init : goal.loop-hop-init
 loop-hop-init c = following_start c.requires.1
 
-pub bounds-self-at : goal.bounds-self-at
-bounds-self-at c = c.loop-hop.invariant.within
-
 pub returns-then-byte-lt-FIRST_VARIABLE : goal.returns-then-byte-lt-FIRST_VARIABLE
 returns-then-byte-lt-FIRST_VARIABLE c = let f = c.loop-hop.invariant in record { value = reached_symbol f c.if-byte-lt-FIRST_VARIABLE.true; upper_bound = f.within }
 

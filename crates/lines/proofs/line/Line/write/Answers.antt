@@ -1,7 +1,6 @@
 -- `Line::write` writes a line's bytes: the bindings and the counts, the elements, and what fills their places up.
 use mathlib.Core.Path.{refl, ◌∙◌}
 use lib.ListN.{length-set}
-use native.Mathlib.Omega.{arith}
 use Rattle.line_bytes.specs.ForContracts.Layout.{count_place}
 use Rattle.lines.proofs.Writing.{written_elements, line_written}
 use Rattle.lines.proofs.Sizes.{elements_places, bindings_slots}
@@ -9,14 +8,6 @@ use Rattle.lines.proofs.line.Line.write.Goals as goal
 
 pub put_elements-requires : goal.put_elements-requires
 put_elements-requires c = written_elements c.args.self c.requires.0 _ (length-set c.rebind.new.memory count_place c.args.self.count ∙ (c.rebind.auto.memory ∙ c.requires.1))
-
-pub pad-requires : goal.pad-requires
-pad-requires c =
-    (omega (arith, c.requires.0.few), c.put_elements.auto.bytes ∙ (length-set c.rebind.new.memory count_place c.args.self.count ∙ (c.rebind.auto.memory ∙ c.requires.1)))
-
-pub shape_of-line : goal.shape_of-line
-shape_of-line c =
-    c.pad.auto.line ∙ (c.put_elements.auto.bytes ∙ (length-set c.rebind.new.memory count_place c.args.self.count ∙ c.rebind.auto.memory))
 
 pub returns : goal.returns
 returns c =
