@@ -5,7 +5,7 @@ use mathlib.Core.List.{List, [], ◌∷◌, ◌++◌, map, map-append}
 use native.Mathlib.Numerals.{add-one}
 use native.Mathlib.Omega.{arith}
 use lib.ListN.{length, get_or, take}
-use lib.Seq.{get_or-take, take_all}
+use lib.Seq.{get_or-take}
 use Rattle.terms.specs.Equation.{direction_number}
 use Rattle.reducing.specs.Run.{Step}
 use Rattle.outcomes.specs.Outcome.{log_of}
@@ -75,6 +75,3 @@ module _ {log before : List ℕ} {at steps : ℕ} {out : List ℕ} {to i : ℕ} 
           sym (printed_append (map step_frame (take i taken)) (step_frame s.this ∷ []))
           ∙ ap printed (sym (map-append step_frame (take i taken) (s.this ∷ [])) ∙ (ap (map step_frame) (sym s.next) ∙ ap (λ n. map step_frame (take n taken)) (sym (add-one i)))) in
           appended_text all (appended_join (printed (map step_frame (take i taken))) (printed (step_frame s.this ∷ [])) (p.so_far taken e l) (appended_text (ap (λ f. printed (f ∷ [])) frame) x))
-
-  pub all_steps_passed : steps ≤ i → (taken : List Step) → steps ≡ length taken → take (3 * steps) log ≡ log_of taken → Appended before at (printed (map step_frame taken)) out to
-  all_steps_passed h taken e l = appended_text (ap (λ ss. printed (map step_frame ss)) (take_all i taken (omega arith))) (p.so_far taken e l)

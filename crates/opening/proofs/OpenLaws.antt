@@ -18,7 +18,7 @@ use Rattle.reading.specs.declared.read.RefusedAt.{RefusedAt}
 use Rattle.reading.specs.ForContracts.Read.{SheetRead}
 use Rattle.reading.specs.ForContracts.Seek.{Accepts}
 use Rattle.rules.specs.declared.walks.RefusedWalk.{RefusedWalk}
-use Rattle.rules.specs.ForContracts.Rows.{RowsAre, HasRows, bound_count}
+use Rattle.rules.specs.ForContracts.Rows.{RowsAre, bound_count}
 use Rattle.rules.specs.ForContracts.Walks.{WalksAs, LinesReady}
 use Rattle.reducing.specs.Theory.Walks.{refusal_low}
 use Rattle.reducing.specs.Test.{EverySolves}
@@ -43,9 +43,6 @@ abbrev WalksOf : (known : Known) (equations lengths bounds table : List ℕ) →
 WalksOf known equations lengths bounds table walks = (arities : List ℕ) (es : List Equation) → RowsAre equations lengths arities es → known.equations ≡ length es → WalksAs es bounds table walks
 
 module _ (input : List ℕ) (known : Known) (a : Accepts input known) (equations lengths : List ℕ) (rows : RowsOf input known equations lengths) where
-  pub rows_there : HasRows equations lengths known.equations
-  rows_there = let (s, r, k) = a in record { arities = known_arities known; those = s.equations; are = rows s r; counted = k.equations_are }
-
   module _ (bounds table : List ℕ) (walks : Result Bool RefusedWalk) (w : WalksOf known equations lengths bounds table walks) where
     walked : WalksAs a.0.equations bounds table walks
     walked = let (s, r, k) = a in w (known_arities known) s.equations (rows s r) k.equations_are

@@ -25,9 +25,6 @@ use Rattle.tasks.specs.ForContracts.Task.{JudgementAt}
 
 module _ {sheet : List ℕ} {known : Known} {from end : ℕ} {equations lengths : List ℕ} {rule i : ℕ} {e : Equation} {d : Direction} {ts : Terms}
     (j : JudgementAt sheet known from end equations lengths rule i e d ts) where
-  pub judged_rule : HasRuleIn equations lengths rule
-  judged_rule = record { arities = known_arities known; number = i; equation = e; direction = d; is = j.rule_is }
-
   module _ {memory : List ℕ} {told : Result Solved Refusal} (leaves : (arities : List ℕ) (i : ℕ) (e : Equation) (d : Direction) → RuleIs equations lengths arities rule i e d → Leaves (solve e d) memory told) where
     its_walk : Leaves (solve e d) memory told
     its_walk = leaves (known_arities known) i e d j.rule_is

@@ -57,13 +57,6 @@ module _ {arities : List ℕ} {es : List Equation} {before after : List ℕ} {en
       record { appended = b; steps_are = refl; few_steps = omega arith; within = appended_within b }
 
 module _ {sheet : List ℕ} {known : Known} {equations lengths bounds : List ℕ} {fits : Bool} {table : List ℕ} where
-  module _ {task : ℕ} (h : HasTask sheet known task equations lengths bounds fits table) where
-    pub task_accepted : Accepts sheet known
-    task_accepted = (h.content, h.ready.reads, h.ready.knows)
-
-    pub task_low : task < known.tasks
-    task_low = omega (arith, h.low, h.ready.knows.tasks_are)
-
   -- The task by its head.
   module _ (task : ℕ) (place : TaskFound) (each : (t : Task) → TaskIn sheet task t → TaskAt sheet t place) where
     module _ {s : Sheet} (ready : Ready sheet known fits equations lengths bounds table s) {t : Task} (x : entry s.tasks task ≡ some t) where
