@@ -19,6 +19,7 @@ use format::limits::Limits;
 use kept_lines::holding::first_holding;
 use kept_lines::trimmed::{KeptLines, keep_lines};
 use rules::keep::walk_rule;
+use rules::rows::Rows;
 use rules::walks::RefusedWalk;
 
 // The node of each value, where the values stand from the subject's first node to `end`.
@@ -37,8 +38,7 @@ fn place_values(sizes: &[u8], end: usize, values: &mut [u8])
 
 // The first of the kept lines of a rule that holds at the values, which have `n` nodes, counted from 1.
 pub fn judge_lines(
-    equations: &[u8],
-    lengths: &[u8],
+    rows: &Rows,
     rule: usize,
     table: &[u8],
     lines: KeptLines,
@@ -47,14 +47,14 @@ pub fn judge_lines(
     cells: &mut [u8],
     n: usize,
 ) -> Option<usize>
-    requires { HasJudge equations.now lengths.now rule table.now lines nodes.old sizes.old n × (length cells.old ≡ cell_count) }
-    ensures { (arities : List ℕ) (i : ℕ) (e : Equation) (d : Direction) (ls : List Line) (ts : Terms) → JudgeIs equations.now lengths.now rule table.now lines nodes.old sizes.old n arities i e d ls ts → LineTold result (first_holding (given_values ts) (value e (given_values ts)) ls) }
+    requires { HasJudge rows.now.equations.now rows.now.lengths.now rule table.now lines nodes.old sizes.old n × (length cells.old ≡ cell_count) }
+    ensures { (arities : List ℕ) (i : ℕ) (e : Equation) (d : Direction) (ls : List Line) (ts : Terms) → JudgeIs rows.now.equations.now rows.now.lengths.now rule table.now lines nodes.old sizes.old n arities i e d ls ts → LineTold result (first_holding (given_values ts) (value e (given_values ts)) ls) }
 {
     let mut values = [0u8; Limits::VARIABLES];
     place_values(sizes, Limits::SUBJECT + n, &mut values);
     let row = rule / 2 * Limits::POSITIONS;
-    copy_front(&equations[row..], nodes, Limits::POSITIONS);
-    copy_front(&lengths[row..], sizes, Limits::POSITIONS);
+    copy_front(&rows.equations[row..], nodes, Limits::POSITIONS);
+    copy_front(&rows.lengths[row..], sizes, Limits::POSITIONS);
     let mut ready = [0u8; Limits::NODES];
     let compared = Compared {
         nodes,
@@ -66,22 +66,21 @@ pub fn judge_lines(
 
 // Walks every rule of the `count` equations in order, and keeps the lines of the one that is judged: where they end.
 pub fn walk_judged(
-    equations: &[u8],
-    lengths: &[u8],
+    rows: &Rows,
     count: usize,
     judged: usize,
     table: &mut [u8],
     scratch: &mut [u8],
 ) -> Result<usize, RefusedWalk>
-    requires { HasRows equations.now lengths.now count × (table_bytes ≤ length table.old) × (memory_bytes ≤ length scratch.old) }
-    ensures by_index { (arities : List ℕ) (es : List Equation) → RowsAre equations.now lengths.now arities es → count ≡ length es → JudgedAs es judged table.new result }
+    requires { HasRows rows.now.equations.now rows.now.lengths.now count × (table_bytes ≤ length table.old) × (memory_bytes ≤ length scratch.old) }
+    ensures by_index { (arities : List ℕ) (es : List Equation) → RowsAre rows.now.equations.now rows.now.lengths.now arities es → count ≡ length es → JudgedAs es judged table.new result }
     ensures table_unchanged { drop table_bytes table.new ≡ drop table_bytes table.old }
     ensures scratch_unchanged { drop memory_bytes scratch.new ≡ drop memory_bytes scratch.old }
 {
     let rules = count + count;
     let mut end = 0;
     for rule in 0..rules {
-        match walk_rule(equations, lengths, rule, scratch) {
+        match walk_rule(rows, rule, scratch) {
             Err(why) => {
                 let equation = rule / 2;
                 return Err(RefusedWalk { why, equation });

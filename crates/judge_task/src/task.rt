@@ -19,7 +19,7 @@ use outcomes::buffer::fill;
 use outcomes::number::{fields_number, refusal_number};
 use reading::load::load_terms;
 use reading::seek::{TaskHead, find_task};
-use rules::rows::{ROWS, store_equations};
+use rules::rows::{ROWS, Rows, store_equations};
 use rules::walks::RefusedWalk;
 use scanning::known::Known;
 use scanning::text::Span;
@@ -40,6 +40,7 @@ pub fn judge_values(
     ensures by_index { (i : ℕ) (e : Equation) (d : Direction) (ts : Terms) → ValuesIn sheet.now known digits.from digits.end equations.now lengths.now rule table.now filled i e d ts → LineTold result (holding_line e d (given_values ts)) }
     ensures scratch_unchanged { drop scratch_bytes scratch.new ≡ drop scratch_bytes scratch.old }
 {
+    let rows = Rows { equations, lengths };
     let mut nodes = [0u8; Limits::NODES];
     let mut sizes = [0u8; Limits::NODES];
     let arities = known.arities;
@@ -55,8 +56,7 @@ pub fn judge_values(
         end: filled,
     };
     judge_lines(
-        equations,
-        lengths,
+        &rows,
         rule,
         table,
         lines,
@@ -72,25 +72,29 @@ fn judge_walked(
     sheet: &[u8],
     known: Known,
     digits: Span,
-    equations: &[u8],
-    lengths: &[u8],
+    rows: &Rows,
     rule: usize,
     judged: Result<usize, RefusedWalk>,
     table: &[u8],
     scratch: &mut [u8],
 ) -> u64
-    requires { HasJudged sheet.now known digits.from digits.end equations.now lengths.now rule judged table.now × (scratch_bytes ≤ length scratch.old) }
-    ensures judged_number { (es : List Equation) (i : ℕ) (e : Equation) (d : Direction) (ts : Terms) → JudgedIn sheet.now known digits.from digits.end equations.now lengths.now rule judged table.now es i e d ts → JudgedNumber judged e d (given_values ts) result }
+    requires { HasJudged sheet.now known digits.from digits.end rows.now.equations.now rows.now.lengths.now rule judged table.now × (scratch_bytes ≤ length scratch.old) }
+    ensures judged_number { (es : List Equation) (i : ℕ) (e : Equation) (d : Direction) (ts : Terms) → JudgedIn sheet.now known digits.from digits.end rows.now.equations.now rows.now.lengths.now rule judged table.now es i e d ts → JudgedNumber judged e d (given_values ts) result }
     ensures scratch_unchanged { drop scratch_bytes scratch.new ≡ drop scratch_bytes scratch.old }
 {
     match judged {
-        Err(stopped) => refusal_number(
-            stopped.why,
-            stopped.equation + Limits::FIRST_EQUATION_LINE,
-        ),
+        Err(stopped) => refusal_number(stopped.why, stopped.equation + Limits::FIRST_EQUATION_LINE),
         Ok(filled) => {
             match judge_values(
-                sheet, known, digits, equations, lengths, rule, table, filled, scratch,
+                sheet,
+                known,
+                digits,
+                rows.equations,
+                rows.lengths,
+                rule,
+                table,
+                filled,
+                scratch,
             ) {
                 None => 0,
                 Some(line) => fields_number(1, line as u16, 0),
@@ -114,10 +118,12 @@ fn judge_found(
     let mut equations = [0u8; ROWS];
     let mut lengths = [0u8; ROWS];
     store_equations(sheet, known, &mut equations, &mut lengths);
-    let judged = walk_judged(&equations, &lengths, known.equations, rule, table, scratch);
-    let number = judge_walked(
-        sheet, known, digits, &equations, &lengths, rule, judged, table, scratch,
-    );
+    let rows = Rows {
+        equations: &equations,
+        lengths: &lengths,
+    };
+    let judged = walk_judged(&rows, known.equations, rule, table, scratch);
+    let number = judge_walked(sheet, known, digits, &rows, rule, judged, table, scratch);
     fill(table, Limits::TABLE, Limits::NO_POSITION);
     fill(scratch, Limits::SCRATCH, 0);
     number

@@ -12,7 +12,7 @@ use format::limits::Limits;
 use frames::fixed::put_refusal;
 use reading::read::read_sheet;
 use rules::opened::Opened;
-use rules::rows::store_equations;
+use rules::rows::{Rows, store_equations};
 use rules::walks::keep_rules;
 use scanning::known::Known;
 
@@ -56,7 +56,13 @@ fn open_accepted(
     ensures { Progress input.now Start equations.new lengths.new bounds.new table.new scratch.new out.new result }
 {
     store_equations(input, known, equations, lengths);
-    match keep_rules(equations, lengths, known.equations, bounds, table, scratch) {
+    match keep_rules(
+        &Rows { equations, lengths },
+        known.equations,
+        bounds,
+        table,
+        scratch,
+    ) {
         Err(stopped) => {
             let line = stopped.equation + Limits::FIRST_EQUATION_LINE;
             let bytes = put_refusal(stopped.why, line, out, 0);

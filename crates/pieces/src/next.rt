@@ -8,6 +8,7 @@ ghost use Rattle.cursor.specs.ForContracts.Stands.{StandsAt, Progress};
 use cursor::place::{Cursor, Listed, Place};
 use opening::open::open_sheet;
 use places::step::{from_line, from_table, from_task};
+use rules::rows::Rows;
 
 // From a place that is not the end to the next one: what is printed between them stands first in `out`. Between two pieces the equations, the sizes of their terms, the bounds and the lines of all rules, and scratch are kept.
 pub fn next_piece(
@@ -28,12 +29,36 @@ pub fn next_piece(
     let opened = cursor.opened;
     match cursor.place {
         Place::Start => open_sheet(input, equations, lengths, bounds, table, scratch, out),
-        Place::Table(rule) => { from_table(input, opened, rule, equations, lengths, scratch, out) }
+        Place::Table(rule) => {
+            from_table(
+                input,
+                opened,
+                rule,
+                &Rows { equations, lengths },
+                scratch,
+                out,
+            )
+        }
         Place::Line { rule, line, lines } => from_line(
-            input, opened, rule, line, lines, equations, lengths, scratch, out,
+            input,
+            opened,
+            rule,
+            line,
+            lines,
+            &Rows { equations, lengths },
+            scratch,
+            out,
         ),
         Place::Task { task, steps } => from_task(
-            input, opened, task, steps, equations, lengths, bounds, table, scratch, out,
+            input,
+            opened,
+            task,
+            steps,
+            &Rows { equations, lengths },
+            bounds,
+            table,
+            scratch,
+            out,
         ),
         // Not met: nothing is left to print there.
         Place::End => Listed {

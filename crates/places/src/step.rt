@@ -9,6 +9,7 @@ ghost use Rattle.places.specs.ForContracts.Step.{HasPlace};
 use cursor::place::{Cursor, Listed, Place};
 use frames::fixed::put_total;
 use rules::opened::Opened;
+use rules::rows::Rows;
 use tables::table::{list_lines, list_table};
 use tasks::task::list_task;
 
@@ -25,20 +26,19 @@ pub fn from_table(
     input: &[u8],
     opened: Opened,
     rule: usize,
-    equations: &[u8],
-    lengths: &[u8],
+    rows: &Rows,
     scratch: &mut [u8],
     out: &mut [u8],
 ) -> Listed<Cursor>
-    requires has_place { HasPlace input.now opened.known opened.fits equations.now lengths.now scratch.old (Place.Table rule) }
+    requires has_place { HasPlace input.now opened.known opened.fits rows.now.equations.now rows.now.lengths.now scratch.old (Place.Table rule) }
     requires scratch_bytes_in_bounds { (scratch_bytes ≤ length scratch.old) × (line_room ≤ length out.old) }
-    ensures { (bounds table : List ℕ) (s : Sheet) → Ready input.now opened.known opened.fits equations.now lengths.now bounds table s → AtPlace s scratch.old (Place.Table rule) → Progress input.now (Place.Table rule) equations.now lengths.now bounds table scratch.new out.new result }
+    ensures { (bounds table : List ℕ) (s : Sheet) → Ready input.now opened.known opened.fits rows.now.equations.now rows.now.lengths.now bounds table s → AtPlace s scratch.old (Place.Table rule) → Progress input.now (Place.Table rule) rows.now.equations.now rows.now.lengths.now bounds table scratch.new out.new result }
 {
     let known = opened.known;
     if rule == known.equations + known.equations {
         return moved(opened, Place::Task { task: 0, steps: 0 }, 0);
     }
-    let listed = list_table(rule, equations, lengths, scratch, out);
+    let listed = list_table(rule, rows.equations, rows.lengths, scratch, out);
     moved(opened, listed.next, listed.bytes)
 }
 
@@ -49,19 +49,18 @@ pub fn from_line(
     rule: usize,
     line: usize,
     lines: usize,
-    equations: &[u8],
-    lengths: &[u8],
+    rows: &Rows,
     scratch: &[u8],
     out: &mut [u8],
 ) -> Listed<Cursor>
-    requires has_place { HasPlace input.now opened.known opened.fits equations.now lengths.now scratch.now (Place.Line rule line lines) }
+    requires has_place { HasPlace input.now opened.known opened.fits rows.now.equations.now rows.now.lengths.now scratch.now (Place.Line rule line lines) }
     requires line_room_in_bounds { line_room ≤ length out.old }
-    ensures { (bounds table : List ℕ) (s : Sheet) → Ready input.now opened.known opened.fits equations.now lengths.now bounds table s → AtPlace s scratch.now (Place.Line rule line lines) → Progress input.now (Place.Line rule line lines) equations.now lengths.now bounds table scratch.now out.new result }
+    ensures { (bounds table : List ℕ) (s : Sheet) → Ready input.now opened.known opened.fits rows.now.equations.now rows.now.lengths.now bounds table s → AtPlace s scratch.now (Place.Line rule line lines) → Progress input.now (Place.Line rule line lines) rows.now.equations.now rows.now.lengths.now bounds table scratch.now out.new result }
 {
     if line == lines {
         return moved(opened, Place::Table(rule + 1), 0);
     }
-    let listed = list_lines(rule, line, lines, equations, lengths, scratch, out);
+    let listed = list_lines(rule, line, lines, rows, scratch, out);
     let next = Place::Line {
         rule,
         line: listed.next,
@@ -76,24 +75,21 @@ pub fn from_task(
     opened: Opened,
     task: usize,
     steps: usize,
-    equations: &[u8],
-    lengths: &[u8],
+    rows: &Rows,
     bounds: &[usize],
     table: &mut [u8],
     scratch: &mut [u8],
     out: &mut [u8],
 ) -> Listed<Cursor>
-    requires ready { (s : Sheet) × Ready input.now opened.known opened.fits equations.now lengths.now bounds.now table.old s × AtPlace s scratch.old (Place.Task task steps) }
+    requires ready { (s : Sheet) × Ready input.now opened.known opened.fits rows.now.equations.now rows.now.lengths.now bounds.now table.old s × AtPlace s scratch.old (Place.Task task steps) }
     requires table_bytes_in_bounds { (table_bytes ≤ length table.old) × (scratch_bytes ≤ length scratch.old) × (line_room ≤ length out.old) }
-    ensures { Progress input.now (Place.Task task steps) equations.now lengths.now bounds.now table.new scratch.new out.new result }
+    ensures { Progress input.now (Place.Task task steps) rows.now.equations.now rows.now.lengths.now bounds.now table.new scratch.new out.new result }
 {
     if task == opened.known.tasks {
         let bytes = put_total(steps, out, 0);
         return moved(opened, Place::End, bytes);
     }
-    let listed = list_task(
-        input, opened, task, equations, lengths, bounds, table, scratch, out,
-    );
+    let listed = list_task(input, opened, task, rows, bounds, table, scratch, out);
     let next = Place::Task {
         task: task + 1,
         steps: steps + listed.steps,

@@ -9,6 +9,7 @@ ghost use Rattle.solve_equation.specs.ForContracts.Reports.{Leaves};
 ghost use Rattle.rules.specs.ForContracts.Rows.{RuleIs, HasRuleIn};
 ghost use Rattle.rules.specs.ForContracts.Walks.{RuleKeptAs};
 
+use crate::rows::Rows;
 use format::limits::Limits;
 use format::refusal::Refusal;
 use kept_lines::trimmed::keep_lines;
@@ -17,18 +18,17 @@ use solve_equation::solve::walk_direction;
 use terms::direction::Direction;
 
 // Walks a rule. The records of its lines stand first in scratch.
-pub fn walk_rule(equations: &[u8], lengths: &[u8], rule: usize, scratch: &mut [u8],
-) -> Result<Solved, Refusal>
-    requires { HasRuleIn equations.now lengths.now rule × (memory_bytes ≤ length scratch.old) }
-    ensures by_index { (arities : List ℕ) (i : ℕ) (e : Equation) (d : Direction) → RuleIs equations.now lengths.now arities rule i e d → Leaves (solve e d) scratch.new result }
+pub fn walk_rule(rows: &Rows, rule: usize, scratch: &mut [u8]) -> Result<Solved, Refusal>
+    requires { HasRuleIn rows.now.equations.now rows.now.lengths.now rule × (memory_bytes ≤ length scratch.old) }
+    ensures by_index { (arities : List ℕ) (i : ℕ) (e : Equation) (d : Direction) → RuleIs rows.now.equations.now rows.now.lengths.now arities rule i e d → Leaves (solve e d) scratch.new result }
     ensures scratch_unchanged { drop memory_bytes scratch.new ≡ drop memory_bytes scratch.old }
 {
     let row = rule / 2 * Limits::POSITIONS;
-    let right = row + usize::from(lengths[row]);
-    let end = right + usize::from(lengths[right]);
+    let right = row + usize::from(rows.lengths[row]);
+    let end = right + usize::from(rows.lengths[right]);
     walk_direction(
-        &equations[row..end],
-        &lengths[row..end],
+        &rows.equations[row..end],
+        &rows.lengths[row..end],
         Direction::of_rule(rule),
         &mut scratch[..MEMORY],
     )
@@ -36,18 +36,17 @@ pub fn walk_rule(equations: &[u8], lengths: &[u8], rule: usize, scratch: &mut [u
 
 // Walks a rule, and keeps its lines from `start` on: where they end, or none if there is no room for them.
 pub fn keep_rule(
-    equations: &[u8],
-    lengths: &[u8],
+    rows: &Rows,
     rule: usize,
     table: &mut [u8],
     start: usize,
     scratch: &mut [u8],
 ) -> Result<Option<usize>, Refusal>
-    requires has_rule_in { HasRuleIn equations.now lengths.now rule × (memory_bytes ≤ length scratch.old) }
+    requires has_rule_in { HasRuleIn rows.now.equations.now rows.now.lengths.now rule × (memory_bytes ≤ length scratch.old) }
     requires start_le_table_bytes { (start ≤ table_bytes) × (table_bytes ≤ length table.old) }
-    ensures by_index { (arities : List ℕ) (i : ℕ) (e : Equation) (d : Direction) → RuleIs equations.now lengths.now arities rule i e d → RuleKeptAs e d start table.old table.new result }
+    ensures by_index { (arities : List ℕ) (i : ℕ) (e : Equation) (d : Direction) → RuleIs rows.now.equations.now rows.now.lengths.now arities rule i e d → RuleKeptAs e d start table.old table.new result }
     ensures scratch_unchanged { drop memory_bytes scratch.new ≡ drop memory_bytes scratch.old }
 {
-    let solved = walk_rule(equations, lengths, rule, scratch)?;
+    let solved = walk_rule(rows, rule, scratch)?;
     Ok(keep_lines(scratch, solved.lines, table, start))
 }

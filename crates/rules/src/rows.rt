@@ -19,6 +19,13 @@ pub fn stated()
     ensures { ROWS ≡ row_bytes }
 {}
 
+// The rows as they are lent once they are stored.
+#[derive(Clone, Copy)]
+pub struct Rows<'a> {
+    pub equations: &'a [u8],
+    pub lengths: &'a [u8],
+}
+
 // Stores every equation of an accepted sheet.
 pub fn store_equations(sheet: &[u8], known: Known, equations: &mut [u8], lengths: &mut [u8])
     requires { Accepts sheet.now known × (length equations.old ≡ row_bytes) × (length lengths.old ≡ row_bytes) }

@@ -7,6 +7,7 @@ ghost use Rattle.rules.specs.ForContracts.Rows.{RowsAre, HasRows, bound_count};
 ghost use Rattle.rules.specs.ForContracts.Walks.{WalksAs};
 
 use crate::keep::keep_rule;
+use crate::rows::Rows;
 use format::limits::Limits;
 use format::refusal::Refusal;
 
@@ -23,16 +24,15 @@ pub struct RefusedWalk {
 // Walks every rule of the `count` equations in order, and keeps their lines, one behind the other. Tells whether they fit together; where they do not, only those of the last
 // rule are kept.
 pub fn keep_rules(
-    equations: &[u8],
-    lengths: &[u8],
+    rows: &Rows,
     count: usize,
     bounds: &mut [usize],
     table: &mut [u8],
     scratch: &mut [u8],
 ) -> Result<bool, RefusedWalk>
-    requires has_rows { HasRows equations.now lengths.now count × (length bounds.old ≡ bound_count) }
+    requires has_rows { HasRows rows.now.equations.now rows.now.lengths.now count × (length bounds.old ≡ bound_count) }
     requires table_bytes_in_bounds { (table_bytes ≤ length table.old) × (memory_bytes ≤ length scratch.old) }
-    ensures by_index { (arities : List ℕ) (es : List Equation) → RowsAre equations.now lengths.now arities es → count ≡ length es → WalksAs es bounds.new table.new result }
+    ensures by_index { (arities : List ℕ) (es : List Equation) → RowsAre rows.now.equations.now rows.now.lengths.now arities es → count ≡ length es → WalksAs es bounds.new table.new result }
     ensures table_unchanged { drop table_bytes table.new ≡ drop table_bytes table.old }
     ensures scratch_unchanged { drop memory_bytes scratch.new ≡ drop memory_bytes scratch.old }
 {
@@ -41,7 +41,7 @@ pub fn keep_rules(
     let mut fits = true;
     let mut start = 0;
     for rule in 0..rules {
-        match keep_rule(equations, lengths, rule, table, start, scratch) {
+        match keep_rule(rows, rule, table, start, scratch) {
             Err(why) => {
                 let equation = rule / 2;
                 return Err(RefusedWalk { why, equation });

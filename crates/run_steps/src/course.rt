@@ -8,6 +8,7 @@ ghost use Rattle.run_steps.specs.ForContracts.Course.{CourseIs};
 
 use format::limits::Limits;
 use reducing::ending::Ending;
+use rules::rows::Rows;
 use step_by_position::positions::{FoundStep, Search};
 use step_search::seek::find_step;
 use step_take::step::{put_step, take_step};
@@ -51,6 +52,7 @@ pub fn run_steps(
     ensures table_unchanged_2 { drop table_bytes table.new ≡ drop table_bytes table.old }
     ensures scratch_unchanged { drop scratch_bytes scratch.new ≡ drop scratch_bytes scratch.old }
 {
+    let rows = Rows { equations, lengths };
     let limit = start.limit;
     let mut nodes = start.nodes;
     let mut sizes = start.sizes;
@@ -63,7 +65,7 @@ pub fn run_steps(
             size,
         };
         let found = find_step(
-            equations, lengths, search, bounds, next, table, &mut nodes, &mut sizes, scratch,
+            &rows, search, bounds, next, table, &mut nodes, &mut sizes, scratch,
         );
         let Some(FoundStep { rule, node }) = found else {
             return Course {
@@ -81,9 +83,7 @@ pub fn run_steps(
                 nodes,
             };
         }
-        let replaced = take_step(
-            equations, lengths, rule, arities, &mut nodes, &mut sizes, node, size,
-        );
+        let replaced = take_step(&rows, rule, arities, &mut nodes, &mut sizes, node, size);
         let Some(now) = replaced else {
             return Course {
                 steps,

@@ -13,7 +13,7 @@ use outcomes::buffer::fill;
 use outcomes::number::refusal_number;
 use reading::seek::{TaskHead, find_task};
 use rules::opened::Opened;
-use rules::rows::{ROWS, store_equations};
+use rules::rows::{ROWS, Rows, store_equations};
 use rules::walks::{BOUNDS, keep_rules};
 use run_term::term::{RunAsked, course_number, run_course};
 use scanning::known::Known;
@@ -38,14 +38,11 @@ fn run_found(
     let mut lengths = [0u8; ROWS];
     store_equations(sheet, known, &mut equations, &mut lengths);
     let mut bounds = [0usize; BOUNDS];
-    let walked = keep_rules(
-        &equations,
-        &lengths,
-        known.equations,
-        &mut bounds,
-        table,
-        scratch,
-    );
+    let rows = Rows {
+        equations: &equations,
+        lengths: &lengths,
+    };
+    let walked = keep_rules(&rows, known.equations, &mut bounds, table, scratch);
     let number = match walked {
         Err(stopped) => refusal_number(stopped.why, stopped.equation + Limits::FIRST_EQUATION_LINE),
         Ok(fits) => {

@@ -16,26 +16,26 @@ use format::limits::Limits;
 use outcomes::number::fields_number;
 use reading::load::load_terms;
 use rules::opened::Opened;
+use rules::rows::Rows;
 use run_steps::course::{Course, Start, run_steps};
 use scanning::text::Span;
 use step_by_position::next::{NEXT, fill_next};
 
 // The table of next rules, where the search goes by positions.
 fn prepare_next(
-    equations: &[u8],
-    lengths: &[u8],
+    rows: &Rows,
     rules: usize,
     bounds: &[usize],
     fits: bool,
     table: &[u8],
     next: &mut [u8],
 )
-    requires has_rules_kept { fits ≡ true → HasRulesKept equations.now lengths.now rules bounds.now table.now }
+    requires has_rules_kept { fits ≡ true → HasRulesKept rows.now.equations.now rows.now.lengths.now rules bounds.now table.now }
     requires next_len { length next.old ≡ next_bytes }
-    ensures { fits ≡ true → (arities : List ℕ) (es : List Equation) → RulesKept equations.now lengths.now rules bounds.now table.now arities es → NextIs next.new rules es }
+    ensures { fits ≡ true → (arities : List ℕ) (es : List Equation) → RulesKept rows.now.equations.now rows.now.lengths.now rules bounds.now table.now arities es → NextIs next.new rules es }
 {
     if fits {
-        fill_next(equations, lengths, rules, bounds, table, next);
+        fill_next(rows, rules, bounds, table, next);
     }
 }
 
@@ -66,10 +66,11 @@ pub fn run_course(
     ensures table_unchanged_2 { drop table_bytes table.new ≡ drop table_bytes table.old }
     ensures scratch_unchanged { drop scratch_bytes scratch.new ≡ drop scratch_bytes scratch.old }
 {
+    let rows = Rows { equations, lengths };
     let Opened { known, fits } = asked.opened;
     let rules = known.equations + known.equations;
     let mut next = [0u8; NEXT];
-    prepare_next(equations, lengths, rules, bounds, fits, table, &mut next);
+    prepare_next(&rows, rules, bounds, fits, table, &mut next);
     let mut nodes = [0u8; Limits::NODES];
     let mut sizes = [0u8; Limits::NODES];
     let arities = known.symbol_arities();

@@ -6,6 +6,7 @@ ghost use Rattle.terms.specs.Equation.{Equation};
 ghost use Rattle.step_by_position.specs.ForContracts.Next.{next_bytes, NextIs, RulesKept, HasRulesKept, NextPut};
 
 use format::limits::Limits;
+use rules::rows::Rows;
 use rules::sides::sides_of;
 use rules::walks::BOUNDS;
 
@@ -37,25 +38,18 @@ fn put_entries(next: &mut [u8], rule: usize, top: u8, live: bool)
 }
 
 // The rows of all symbols, over rules whose lines are kept.
-pub fn fill_next(
-    equations: &[u8],
-    lengths: &[u8],
-    rules: usize,
-    bounds: &[usize],
-    table: &[u8],
-    next: &mut [u8],
-)
-    requires { HasRulesKept equations.now lengths.now rules bounds.now table.now × (length next.old ≡ next_bytes) }
-    ensures { (arities : List ℕ) (es : List Equation) → RulesKept equations.now lengths.now rules bounds.now table.now arities es → NextIs next.new rules es }
+pub fn fill_next(rows: &Rows, rules: usize, bounds: &[usize], table: &[u8], next: &mut [u8])
+    requires { HasRulesKept rows.now.equations.now rows.now.lengths.now rules bounds.now table.now × (length next.old ≡ next_bytes) }
+    ensures { (arities : List ℕ) (es : List Equation) → RulesKept rows.now.equations.now rows.now.lengths.now rules bounds.now table.now arities es → NextIs next.new rules es }
 {
     for f in 0..Limits::SYMBOLS {
         next[f * BOUNDS + rules] = rules as u8;
     }
     for rule in (0..rules).rev() {
-        let sides = sides_of(lengths, rule);
+        let sides = sides_of(rows.lengths, rule);
         let source = sides.source;
         let from = source.from;
-        let top = equations[from];
+        let top = rows.equations[from];
         let live = bounds[rule] < bounds[rule + 1];
         put_entries(next, rule, top, live);
     }

@@ -9,6 +9,7 @@ ghost use Rattle.step_by_position.specs.ForContracts.Next.{SearchIs, HasSearch};
 
 use format::limits::Limits;
 use kept_lines::trimmed::KeptLines;
+use rules::rows::Rows;
 use rules::walks::BOUNDS;
 use step_try::applies::{KeptRule, applies};
 
@@ -29,8 +30,7 @@ pub struct Search {
 
 // "positions of the subject ascending", at each "equations ascending, direction 00 before 01": the first step, where the lines of all rules are kept.
 pub fn find_by_positions(
-    equations: &[u8],
-    lengths: &[u8],
+    rows: &Rows,
     search: Search,
     bounds: &[usize],
     next: &[u8],
@@ -39,8 +39,8 @@ pub fn find_by_positions(
     sizes: &mut [u8],
     cells: &mut [u8],
 ) -> Option<FoundStep>
-    requires { HasSearch equations.now lengths.now search.rules bounds.now next.now table.now nodes.old sizes.old search.size × (length cells.old ≡ cell_count) }
-    ensures by_index { (arities : List ℕ) (es : List Equation) (subject : Term) → SearchIs equations.now lengths.now search.rules bounds.now next.now table.now nodes.old sizes.old arities es subject → FoundIs arities es subject result }
+    requires { HasSearch rows.now.equations.now rows.now.lengths.now search.rules bounds.now next.now table.now nodes.old sizes.old search.size × (length cells.old ≡ cell_count) }
+    ensures by_index { (arities : List ℕ) (es : List Equation) (subject : Term) → SearchIs rows.now.equations.now rows.now.lengths.now search.rules bounds.now next.now table.now nodes.old sizes.old arities es subject → FoundIs arities es subject result }
     ensures by_index_2 { (arities : List ℕ) (subject : Term) → SubjectIs nodes.old sizes.old arities subject → SubjectIs nodes.new sizes.new arities subject }
 {
     let mut ready = [0u8; Limits::NODES];
@@ -55,9 +55,7 @@ pub fn find_by_positions(
                 end: bounds[rule + 1],
             };
             let kept = KeptRule { rule, lines };
-            if applies(
-                equations, lengths, kept, table, nodes, sizes, &mut ready, cells, node,
-            ) {
+            if applies(rows, kept, table, nodes, sizes, &mut ready, cells, node) {
                 return Some(FoundStep { rule, node });
             }
             rule = usize::from(next[row + rule + 1]);

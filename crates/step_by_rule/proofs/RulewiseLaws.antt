@@ -339,19 +339,22 @@ module _ {equations lengths : List ℕ} {rules : ℕ} {nodes₀ sizes₀ : List 
           let (p, t, x, y) = (first_of s o.number o.equation o.direction o.numbered o.is).can b in
           record {
             none_before = none_yet s node_within;
-            here = (refl, record {
-              number = o.number;
-              equation = o.equation;
-              direction = o.direction;
-              position = p;
-              this = t;
-              rule_is = o.is;
-              node_is = x;
-              inside = omega (arith, k.within, s.size_is);
-              numbered = o.numbered;
-              possible = y;
-              none_earlier = λ j e c z q. (k.so_far arities es subject s).none_before p j e c (omega arith) z q;
-            });
+            here = (
+              refl,
+              record {
+                number = o.number;
+                equation = o.equation;
+                direction = o.direction;
+                position = p;
+                this = t;
+                rule_is = o.is;
+                node_is = x;
+                inside = omega (arith, k.within, s.size_is);
+                numbered = o.numbered;
+                possible = y;
+                none_earlier = λ j e c z q. (k.so_far arities es subject s).none_before p j e c (omega arith) z q;
+              },
+            );
           };
     }
 

@@ -12,6 +12,7 @@ ghost use Rattle.step_by_rule.specs.ForContracts.Rulewise.{FirstMatch, HasSource
 use format::limits::Limits;
 use kept_lines::trimmed::KeptLines;
 use rules::keep::keep_rule;
+use rules::rows::Rows;
 use rules::sides::sides_of;
 use step_by_position::positions::FoundStep;
 use step_match::side::match_side;
@@ -40,8 +41,7 @@ fn first_match(
 
 // The first node from `from` to `end` at which the rule, whose lines are kept, can step. It cannot before `from`.
 fn first_applying(
-    equations: &[u8],
-    lengths: &[u8],
+    rows: &Rows,
     kept: KeptRule,
     table: &[u8],
     nodes: &mut [u8],
@@ -50,15 +50,13 @@ fn first_applying(
     from: usize,
     end: usize,
 ) -> Option<usize>
-    requires { HasKeptTry equations.now lengths.now kept.rule table.now kept.lines nodes.old sizes.old from end × (length cells.old ≡ cell_count) }
-    ensures by_index { (arities : List ℕ) (i : ℕ) (e : Equation) (d : Direction) (subject : Term) → KeptTry equations.now lengths.now kept.rule table.now kept.lines nodes.old sizes.old from end arities i e d subject → FirstStep arities subject i e d end result }
+    requires { HasKeptTry rows.now.equations.now rows.now.lengths.now kept.rule table.now kept.lines nodes.old sizes.old from end × (length cells.old ≡ cell_count) }
+    ensures by_index { (arities : List ℕ) (i : ℕ) (e : Equation) (d : Direction) (subject : Term) → KeptTry rows.now.equations.now rows.now.lengths.now kept.rule table.now kept.lines nodes.old sizes.old from end arities i e d subject → FirstStep arities subject i e d end result }
     ensures by_index_2 { (arities : List ℕ) (subject : Term) → SubjectIs nodes.old sizes.old arities subject → SubjectIs nodes.new sizes.new arities subject }
 {
     let mut ready = [0u8; Limits::NODES];
     for node in from..end {
-        if applies(
-            equations, lengths, kept, table, nodes, sizes, &mut ready, cells, node,
-        ) {
+        if applies(rows, kept, table, nodes, sizes, &mut ready, cells, node) {
             return Some(node);
         }
     }
@@ -67,8 +65,7 @@ fn first_applying(
 
 // The first node before `end` at which the rule can step.
 fn first_node(
-    equations: &[u8],
-    lengths: &[u8],
+    rows: &Rows,
     rule: usize,
     table: &mut [u8],
     nodes: &mut [u8],
@@ -76,25 +73,24 @@ fn first_node(
     scratch: &mut [u8],
     end: usize,
 ) -> Option<usize>
-    requires has_unkept_try { HasUnkeptTry equations.now lengths.now rule nodes.old sizes.old end }
+    requires has_unkept_try { HasUnkeptTry rows.now.equations.now rows.now.lengths.now rule nodes.old sizes.old end }
     requires table_bytes_in_bounds { (table_bytes ≤ length table.old) × (scratch_bytes ≤ length scratch.old) }
-    ensures by_index { (arities : List ℕ) (i : ℕ) (e : Equation) (d : Direction) (subject : Term) → UnkeptTry equations.now lengths.now rule nodes.old sizes.old end arities i e d subject → FirstStep arities subject i e d end result }
+    ensures by_index { (arities : List ℕ) (i : ℕ) (e : Equation) (d : Direction) (subject : Term) → UnkeptTry rows.now.equations.now rows.now.lengths.now rule nodes.old sizes.old end arities i e d subject → FirstStep arities subject i e d end result }
     ensures by_index_2 { (arities : List ℕ) (subject : Term) → SubjectIs nodes.old sizes.old arities subject → SubjectIs nodes.new sizes.new arities subject }
     ensures table_unchanged { drop table_bytes table.new ≡ drop table_bytes table.old }
     ensures scratch_unchanged { drop scratch_bytes scratch.new ≡ drop scratch_bytes scratch.old }
 {
-    let sides = sides_of(lengths, rule);
-    let from = first_match(equations, sides.source, nodes, sizes, end)?;
+    let sides = sides_of(rows.lengths, rule);
+    let from = first_match(rows.equations, sides.source, nodes, sizes, end)?;
     // Every rule solves, and the table has room for the lines of one.
-    let Ok(kept) = keep_rule(equations, lengths, rule, table, 0, scratch) else {
+    let Ok(kept) = keep_rule(rows, rule, table, 0, scratch) else {
         return None;
     };
     let last = kept?;
     let lines = KeptLines { from: 0, end: last };
     let kept_rule = KeptRule { rule, lines };
     first_applying(
-        equations,
-        lengths,
+        rows,
         kept_rule,
         table,
         nodes,
@@ -107,8 +103,7 @@ fn first_node(
 
 // The first step of a subject of `n` nodes, where every rule solves.
 pub fn find_by_rules(
-    equations: &[u8],
-    lengths: &[u8],
+    rows: &Rows,
     rules: usize,
     table: &mut [u8],
     nodes: &mut [u8],
@@ -116,9 +111,9 @@ pub fn find_by_rules(
     scratch: &mut [u8],
     n: usize,
 ) -> Option<FoundStep>
-    requires has_all_solve { HasAllSolve equations.now lengths.now rules nodes.old sizes.old n }
+    requires has_all_solve { HasAllSolve rows.now.equations.now rows.now.lengths.now rules nodes.old sizes.old n }
     requires table_bytes_in_bounds { (table_bytes ≤ length table.old) × (scratch_bytes ≤ length scratch.old) }
-    ensures by_index { (arities : List ℕ) (es : List Equation) (subject : Term) → AllSolve equations.now lengths.now rules nodes.old sizes.old n arities es subject → FoundIs arities es subject result }
+    ensures by_index { (arities : List ℕ) (es : List Equation) (subject : Term) → AllSolve rows.now.equations.now rows.now.lengths.now rules nodes.old sizes.old n arities es subject → FoundIs arities es subject result }
     ensures by_index_2 { (arities : List ℕ) (subject : Term) → SubjectIs nodes.old sizes.old arities subject → SubjectIs nodes.new sizes.new arities subject }
     ensures table_unchanged { drop table_bytes table.new ≡ drop table_bytes table.old }
     ensures scratch_unchanged { drop scratch_bytes scratch.new ≡ drop scratch_bytes scratch.old }
@@ -126,7 +121,7 @@ pub fn find_by_rules(
     let mut best = Limits::SUBJECT + n;
     let mut found = None;
     for rule in 0..rules {
-        let first = first_node(equations, lengths, rule, table, nodes, sizes, scratch, best);
+        let first = first_node(rows, rule, table, nodes, sizes, scratch, best);
         if let Some(node) = first {
             best = node;
             found = Some(FoundStep { rule, node });

@@ -11,13 +11,13 @@ ghost use Rattle.step_take.specs.ForContracts.Stepping.{StepIs, HasStep};
 
 use crate::part::replace_part;
 use format::limits::Limits;
+use rules::rows::Rows;
 use rules::sides::sides_of;
 use step_match::side::match_side;
 
 // Takes a step that is possible: the rule at `node` of a subject of `n` nodes.
 pub fn take_step(
-    equations: &[u8],
-    lengths: &[u8],
+    rows: &Rows,
     rule: usize,
     arities: &[u8],
     nodes: &mut [u8],
@@ -25,17 +25,24 @@ pub fn take_step(
     node: usize,
     n: usize,
 ) -> Option<usize>
-    requires { HasStep equations.now lengths.now rule arities.now nodes.old sizes.old node n }
-    ensures { (i : ℕ) (e : Equation) (d : Direction) (subject : Term) (p : ℕ) (s : Step) → StepIs equations.now lengths.now rule arities.now nodes.old sizes.old node n i e d subject p s → ReplacedAs arities.now nodes.old sizes.old nodes.new sizes.new s.result result }
+    requires { HasStep rows.now.equations.now rows.now.lengths.now rule arities.now nodes.old sizes.old node n }
+    ensures { (i : ℕ) (e : Equation) (d : Direction) (subject : Term) (p : ℕ) (s : Step) → StepIs rows.now.equations.now rows.now.lengths.now rule arities.now nodes.old sizes.old node n i e d subject p s → ReplacedAs arities.now nodes.old sizes.old nodes.new sizes.new s.result result }
 {
     let mut values = [0u8; Limits::VARIABLES];
-    let sides = sides_of(lengths, rule);
+    let sides = sides_of(rows.lengths, rule);
     // The search has matched it before.
-    if !match_side(equations, sides.source, nodes, sizes, node, &mut values) {
+    if !match_side(
+        rows.equations,
+        sides.source,
+        nodes,
+        sizes,
+        node,
+        &mut values,
+    ) {
         return None;
     }
     replace_part(
-        equations,
+        rows.equations,
         sides.target,
         arities,
         nodes,

@@ -15,6 +15,7 @@ use comparing::comparison::Compared;
 use format::limits::Limits;
 use kept_lines::holding::first_holding;
 use kept_lines::trimmed::KeptLines;
+use rules::rows::Rows;
 use rules::sides::sides_of;
 use step_match::side::match_side;
 
@@ -35,8 +36,7 @@ fn load_row(from: &[u8], to: &mut [u8])
 
 // Whether one of the kept lines holds at the match. The equation's row is loaded before the subject, so that no row of cells of its nodes is ready; the cells of pairs of subject nodes stay settled.
 fn match_holds(
-    equations: &[u8],
-    lengths: &[u8],
+    rows: &Rows,
     kept: KeptRule,
     table: &[u8],
     nodes: &mut [u8],
@@ -45,15 +45,15 @@ fn match_holds(
     ready: &mut [u8; Limits::NODES],
     cells: &mut [u8],
 ) -> bool
-    requires has_matched_try { HasMatchedTry equations.now lengths.now kept.rule table.now kept.lines nodes.old sizes.old values.now }
+    requires has_matched_try { HasMatchedTry rows.now.equations.now rows.now.lengths.now kept.rule table.now kept.lines nodes.old sizes.old values.now }
     requires settled { Settled nodes.old sizes.old ready.old cells.old }
-    ensures by_index { (arities : List ℕ) (i : ℕ) (e : Equation) (d : Direction) (subject : Term) (m : Match) → MatchedTry equations.now lengths.now kept.rule table.now kept.lines nodes.old sizes.old values.now arities i e d subject m → LinesTell (filling arities) e d m result }
+    ensures by_index { (arities : List ℕ) (i : ℕ) (e : Equation) (d : Direction) (subject : Term) (m : Match) → MatchedTry rows.now.equations.now rows.now.lengths.now kept.rule table.now kept.lines nodes.old sizes.old values.now arities i e d subject m → LinesTell (filling arities) e d m result }
     ensures by_index_2 { (arities : List ℕ) (subject : Term) → SubjectIs nodes.old sizes.old arities subject → SubjectIs nodes.new sizes.new arities subject }
     ensures settled_2 { Settled nodes.new sizes.new ready.new cells.new }
 {
     let row = kept.rule / 2 * Limits::POSITIONS;
-    load_row(&equations[row..], nodes);
-    load_row(&lengths[row..], sizes);
+    load_row(&rows.equations[row..], nodes);
+    load_row(&rows.lengths[row..], sizes);
     clear(ready, 0, Limits::SUBJECT);
     let compared = Compared {
         nodes,
@@ -65,8 +65,7 @@ fn match_holds(
 
 // Whether the rule, whose lines are kept, can step at `node`.
 pub fn applies(
-    equations: &[u8],
-    lengths: &[u8],
+    rows: &Rows,
     kept: KeptRule,
     table: &[u8],
     nodes: &mut [u8],
@@ -75,16 +74,20 @@ pub fn applies(
     cells: &mut [u8],
     node: usize,
 ) -> bool
-    requires has_try { HasTry equations.now lengths.now kept.rule table.now kept.lines nodes.old sizes.old node }
+    requires has_try { HasTry rows.now.equations.now rows.now.lengths.now kept.rule table.now kept.lines nodes.old sizes.old node }
     requires settled { Settled nodes.old sizes.old ready.old cells.old }
-    ensures by_index { (arities : List ℕ) (i : ℕ) (e : Equation) (d : Direction) (subject : Term) (p : ℕ) → TryIs equations.now lengths.now kept.rule table.now kept.lines nodes.old sizes.old node arities i e d subject p → Applies (filling arities) subject p i e d result }
+    ensures by_index { (arities : List ℕ) (i : ℕ) (e : Equation) (d : Direction) (subject : Term) (p : ℕ) → TryIs rows.now.equations.now rows.now.lengths.now kept.rule table.now kept.lines nodes.old sizes.old node arities i e d subject p → Applies (filling arities) subject p i e d result }
     ensures by_index_2 { (arities : List ℕ) (subject : Term) → SubjectIs nodes.old sizes.old arities subject → SubjectIs nodes.new sizes.new arities subject }
     ensures settled_2 { Settled nodes.new sizes.new ready.new cells.new }
 {
     let mut values = [0u8; Limits::VARIABLES];
-    let sides = sides_of(lengths, kept.rule);
-    match_side(equations, sides.source, nodes, sizes, node, &mut values)
-        && match_holds(
-            equations, lengths, kept, table, nodes, sizes, &values, ready, cells,
-        )
+    let sides = sides_of(rows.lengths, kept.rule);
+    match_side(
+        rows.equations,
+        sides.source,
+        nodes,
+        sizes,
+        node,
+        &mut values,
+    ) && match_holds(rows, kept, table, nodes, sizes, &values, ready, cells)
 }

@@ -16,6 +16,7 @@ use format::limits::Limits;
 use frames::fixed::put_table;
 use frames::line::{LINE_ROOM, put_line};
 use rules::keep::walk_rule;
+use rules::rows::Rows;
 
 // "for each equation and direction '11'": walks the rule, whose lines come next.
 pub fn list_table(
@@ -28,7 +29,7 @@ pub fn list_table(
     requires { HasRuleIn equations.now lengths.now rule × (memory_bytes ≤ length scratch.old) × (table_room ≤ length out.old) }
     ensures { (arities : List ℕ) (es : List Equation) → RowsAre equations.now lengths.now arities es → EverySolves es → rule < 2 * length es → TableGiven es rule scratch.new out.old out.new result }
 {
-    match walk_rule(equations, lengths, rule, scratch) {
+    match walk_rule(&Rows { equations, lengths }, rule, scratch) {
         Ok(walked) => {
             let bytes = put_table(rule, walked.lines, walked.turns, out, 0);
             Listed {
@@ -52,25 +53,24 @@ pub fn list_table(
 fn list_line(
     rule: usize,
     line: usize,
-    equations: &[u8],
-    lengths: &[u8],
+    rows: &Rows,
     scratch: &[u8],
     out: &mut [u8],
     at: usize,
 ) -> usize
-    requires { HasLine equations.now lengths.now rule line scratch.now × (at + line_room ≤ length out.old) }
-    ensures by_index { (arities : List ℕ) (es : List Equation) (lines : ℕ) → RowsAre equations.now lengths.now arities es → LinesThere es rule lines scratch.now → line < lines → Appended out.old at (printed (get_or (rule_frames 0 es rule) (suc line) [] ∷ [])) out.new result }
+    requires { HasLine rows.now.equations.now rows.now.lengths.now rule line scratch.now × (at + line_room ≤ length out.old) }
+    ensures by_index { (arities : List ℕ) (es : List Equation) (lines : ℕ) → RowsAre rows.now.equations.now rows.now.lengths.now arities es → LinesThere es rule lines scratch.now → line < lines → Appended out.old at (printed (get_or (rule_frames 0 es rule) (suc line) [] ∷ [])) out.new result }
     ensures upper_bound { result ≤ at + line_room }
 {
     let row = rule / 2 * Limits::POSITIONS;
-    let right = row + usize::from(lengths[row]);
-    let end = right + usize::from(lengths[right]);
+    let right = row + usize::from(rows.lengths[row]);
+    let end = right + usize::from(rows.lengths[right]);
     let from = line * Limits::RECORD;
     let next = from + Limits::RECORD;
     put_line(
         &scratch[from..next],
-        &equations[row..end],
-        &lengths[row..end],
+        &rows.equations[row..end],
+        &rows.lengths[row..end],
         out,
         at,
     )
@@ -81,13 +81,12 @@ pub fn list_lines(
     rule: usize,
     first: usize,
     lines: usize,
-    equations: &[u8],
-    lengths: &[u8],
+    rows: &Rows,
     scratch: &[u8],
     out: &mut [u8],
 ) -> Listed<usize>
-    requires { HasLines equations.now lengths.now rule lines scratch.now × (first < lines) × (line_room ≤ length out.old) }
-    ensures { (arities : List ℕ) (es : List Equation) → RowsAre equations.now lengths.now arities es → LinesThere es rule lines scratch.now → LinesGiven es rule first lines out.old out.new result }
+    requires { HasLines rows.now.equations.now rows.now.lengths.now rule lines scratch.now × (first < lines) × (line_room ≤ length out.old) }
+    ensures { (arities : List ℕ) (es : List Equation) → RowsAre rows.now.equations.now rows.now.lengths.now arities es → LinesThere es rule lines scratch.now → LinesGiven es rule first lines out.old out.new result }
 {
     let mut at = 0;
     for line in first..lines {
@@ -97,7 +96,7 @@ pub fn list_lines(
                 bytes: at,
             };
         }
-        at = list_line(rule, line, equations, lengths, scratch, out, at);
+        at = list_line(rule, line, rows, scratch, out, at);
     }
     Listed {
         next: lines,

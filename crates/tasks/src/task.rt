@@ -26,6 +26,7 @@ use kept_lines::trimmed::keep_lines;
 use reading::seek::{TaskHead, find_task};
 use rules::keep::walk_rule;
 use rules::opened::Opened;
+use rules::rows::Rows;
 use run_term::term::{RunAsked, run_course};
 use scanning::known::Known;
 use scanning::text::Span;
@@ -43,17 +44,16 @@ fn list_judgement(
     known: Known,
     rule: usize,
     digits: Span,
-    equations: &[u8],
-    lengths: &[u8],
+    rows: &Rows,
     scratch: &mut [u8],
     out: &mut [u8],
 ) -> usize
-    requires has_judgement_at { HasJudgementAt sheet.now known digits.from digits.end equations.now lengths.now rule }
+    requires has_judgement_at { HasJudgementAt sheet.now known digits.from digits.end rows.now.equations.now rows.now.lengths.now rule }
     requires scratch_bytes_in_bounds { (scratch_bytes ≤ length scratch.old) × (judgement_room ≤ length out.old) }
-    ensures { (i : ℕ) (e : Equation) (d : Direction) (ts : Terms) → JudgementAt sheet.now known digits.from digits.end equations.now lengths.now rule i e d ts → Appended out.old 0 (printed (judgement_frame (holding_line e d (given_values ts)) ∷ [])) out.new result }
+    ensures { (i : ℕ) (e : Equation) (d : Direction) (ts : Terms) → JudgementAt sheet.now known digits.from digits.end rows.now.equations.now rows.now.lengths.now rule i e d ts → Appended out.old 0 (printed (judgement_frame (holding_line e d (given_values ts)) ∷ [])) out.new result }
 {
     // Not met: every direction of a sheet that is listed solves.
-    let Ok(walked) = walk_rule(equations, lengths, rule, scratch) else {
+    let Ok(walked) = walk_rule(rows, rule, scratch) else {
         return 0;
     };
     let mut lines = [0u8; Limits::TABLE];
@@ -62,7 +62,15 @@ fn list_judgement(
         return 0;
     };
     let holding = judge_values(
-        sheet, known, digits, equations, lengths, rule, &lines, filled, scratch,
+        sheet,
+        known,
+        digits,
+        rows.equations,
+        rows.lengths,
+        rule,
+        &lines,
+        filled,
+        scratch,
     );
     put_judgement(holding, out, 0)
 }
@@ -71,22 +79,29 @@ fn list_judgement(
 fn list_run(
     sheet: &[u8],
     asked: RunAsked,
-    equations: &[u8],
-    lengths: &[u8],
+    rows: &Rows,
     bounds: &[usize],
     table: &mut [u8],
     scratch: &mut [u8],
     out: &mut [u8],
 ) -> TaskListed
-    requires has_run_term { HasRunTerm sheet.now asked.opened.known asked.digits.from asked.digits.end equations.now lengths.now bounds.now asked.opened.fits table.old × (asked.limit ≤ max_steps) }
+    requires has_run_term { HasRunTerm sheet.now asked.opened.known asked.digits.from asked.digits.end rows.now.equations.now rows.now.lengths.now bounds.now asked.opened.fits table.old × (asked.limit ≤ max_steps) }
     requires table_bytes_in_bounds { (table_bytes ≤ length table.old) × (scratch_bytes ≤ length scratch.old) × (task_room ≤ length out.old) }
-    ensures task_given { (es : List Equation) (subject : Term) → RunTermIs sheet.now asked.opened.known asked.digits.from asked.digits.end equations.now lengths.now bounds.now es subject → LinesReady asked.opened.fits bounds.now table.old es → TaskGiven (known_arities asked.opened.known) es (run asked.limit subject) out.old out.new result }
+    ensures task_given { (es : List Equation) (subject : Term) → RunTermIs sheet.now asked.opened.known asked.digits.from asked.digits.end rows.now.equations.now rows.now.lengths.now bounds.now es subject → LinesReady asked.opened.fits bounds.now table.old es → TaskGiven (known_arities asked.opened.known) es (run asked.limit subject) out.old out.new result }
     ensures lines_ready { (es : List Equation) → EverySolves es → LinesReady asked.opened.fits bounds.now table.old es → LinesReady asked.opened.fits bounds.now table.new es }
 {
     let mut term = [0u8; Limits::TERM];
     let mut log = [0u8; Limits::LOG];
     let course = run_course(
-        sheet, asked, equations, lengths, bounds, table, scratch, &mut term, &mut log,
+        sheet,
+        asked,
+        rows.equations,
+        rows.lengths,
+        bounds,
+        table,
+        scratch,
+        &mut term,
+        &mut log,
     );
     let steps = course.steps;
     let behind = put_steps(&log, steps, out, 0);
@@ -100,16 +115,15 @@ pub fn list_task(
     sheet: &[u8],
     opened: Opened,
     task: usize,
-    equations: &[u8],
-    lengths: &[u8],
+    rows: &Rows,
     bounds: &[usize],
     table: &mut [u8],
     scratch: &mut [u8],
     out: &mut [u8],
 ) -> TaskListed
-    requires has_task { HasTask sheet.now opened.known task equations.now lengths.now bounds.now opened.fits table.old }
+    requires has_task { HasTask sheet.now opened.known task rows.now.equations.now rows.now.lengths.now bounds.now opened.fits table.old }
     requires table_bytes_in_bounds { (table_bytes ≤ length table.old) × (scratch_bytes ≤ length scratch.old) × (task_room ≤ length out.old) }
-    ensures task_given { (s : Sheet) (t : Task) → Ready sheet.now opened.known opened.fits equations.now lengths.now bounds.now table.old s → entry s.tasks task ≡ some t → TaskGiven s.arities s.equations t out.old out.new result }
+    ensures task_given { (s : Sheet) (t : Task) → Ready sheet.now opened.known opened.fits rows.now.equations.now rows.now.lengths.now bounds.now table.old s → entry s.tasks task ≡ some t → TaskGiven s.arities s.equations t out.old out.new result }
     ensures lines_ready { (es : List Equation) → EverySolves es → LinesReady opened.fits bounds.now table.old es → LinesReady opened.fits bounds.now table.new es }
 {
     let known = opened.known;
@@ -122,18 +136,14 @@ pub fn list_task(
                 limit,
                 digits,
             };
-            list_run(
-                sheet, asked, equations, lengths, bounds, table, scratch, out,
-            )
+            list_run(sheet, asked, rows, bounds, table, scratch, out)
         }
         TaskHead::Judgement {
             equation,
             direction,
         } => {
             let rule = equation + equation + direction;
-            let bytes = list_judgement(
-                sheet, known, rule, digits, equations, lengths, scratch, out,
-            );
+            let bytes = list_judgement(sheet, known, rule, digits, rows, scratch, out);
             TaskListed { bytes, steps: 0 }
         }
         TaskHead::Comparison => {

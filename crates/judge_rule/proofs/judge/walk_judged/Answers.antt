@@ -43,7 +43,7 @@ loop-rule-preserved c =
     let solves = c.in-Ok.is in
     let after = c.walk_rule.new.scratch in
     let length-kept = c.walk_rule.auto.scratch in
-    let Next : List ℕ → ℕ → Type 0 = λ table end. Judging c.args.equations.now c.args.lengths.now c.args.count c.args.judged c.args.table.now c.args.scratch.now table after end (c.loop-rule.rule + 1) in
+    let Next : List ℕ → ℕ → Type 0 = λ table end. Judging c.args.rows.now.equations.now c.args.rows.now.lengths.now c.args.count c.args.judged c.args.table.now c.args.scratch.now table after end (c.loop-rule.rule + 1) in
     elim c.if-rule-judged.branch [
       | then-rule-judged+in-Some w ↦
           subst (λ t. Next t c.if-rule-judged.end) (sym w.table-is) (subst (Next w.keep_lines-kept.new.table) (sym w.end-is)

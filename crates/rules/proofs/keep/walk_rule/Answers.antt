@@ -15,14 +15,14 @@ use Rattle.rules.proofs.keep.walk_rule.Goals as goal
 pub overflow_mul-row : goal.overflow_mul-row
 overflow_mul-row c = let is = c.requires.0.is in omega (arith, row_low is, is.row.lengths_length)
 
-pub bounds-lengths-row : goal.bounds-lengths-row
-bounds-lengths-row c = omega (arith, row_low c.requires.0.is)
+pub bounds-rows-row : goal.bounds-rows-row
+bounds-rows-row c = omega (arith, row_low c.requires.0.is)
 
 pub overflow_add-right : goal.overflow_add-right
-overflow_add-right c = let is = c.requires.0.is in omega (arith, row_low is, is.row.lengths_length, c.from.ensures, c.type_inv.lengths (c.args.rule / 2 * 64))
+overflow_add-right c = let is = c.requires.0.is in omega (arith, second_low is c.from.ensures, is.row.lengths_length)
 
-pub bounds-lengths-right : goal.bounds-lengths-right
-bounds-lengths-right c = second_low c.requires.0.is c.from.ensures
+pub bounds-rows-right : goal.bounds-rows-right
+bounds-rows-right c = second_low c.requires.0.is c.from.ensures
 
 pub overflow_add-end : goal.overflow_add-end
 overflow_add-end c = let is = c.requires.0.is in omega (arith, row_end is c.from.ensures c.from-2.ensures, row_room is.row)

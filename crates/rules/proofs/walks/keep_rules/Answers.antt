@@ -16,7 +16,7 @@ keep_rule-requires c =
     record { has_rule_in = (rule_there c.requires.has_rows.0 c.loop-rule-test.true, omega (arith, k.scratch_length, c.requires.table_bytes_in_bounds.1)); start_le_table_bytes = (k.within, omega (arith, k.table_length, c.requires.table_bytes_in_bounds.0)) }
 
 -- What is known behind the walk of a rule.
-turn_at : (c : After-keep_rule) → Turn c.args.equations.now c.args.lengths.now c.args.count c.args.table.now c.args.scratch.now c.loop-rule.bounds c.loop-rule.table c.loop-rule.scratch c.loop-rule.fits c.loop-rule.start c.loop-rule.rule c.keep_rule.result c.keep_rule.new.table c.keep_rule.new.scratch
+turn_at : (c : After-keep_rule) → Turn c.args.rows.now.equations.now c.args.rows.now.lengths.now c.args.count c.args.table.now c.args.scratch.now c.loop-rule.bounds c.loop-rule.table c.loop-rule.scratch c.loop-rule.fits c.loop-rule.start c.loop-rule.rule c.keep_rule.result c.keep_rule.new.table c.keep_rule.new.scratch
 turn_at c =
     record {
       has = c.requires.has_rows.0;

@@ -13,8 +13,8 @@ loop-rule-init c = filling_start c.loop-f-test.false c.loop-f.invariant
 pub sides_of-sides-requires : goal.sides_of-sides-requires
 sides_of-sides-requires c = rule_there c.loop-rule.invariant c.loop-rule-test.true c.requires.0
 
-pub bounds-equations-from : goal.bounds-equations-from
-bounds-equations-from c = top_there c.loop-rule.invariant c.loop-rule-test.true (λ equations arities i e d r. (c.sides_of-sides.ensures equations arities i e d r).0) c.requires.0
+pub bounds-rows-from : goal.bounds-rows-from
+bounds-rows-from c = top_there c.loop-rule.invariant c.loop-rule-test.true (λ equations arities i e d r. (c.sides_of-sides.ensures equations arities i e d r).0) c.requires.0
 
 pub loop-rule-preserved : goal.loop-rule-preserved
 loop-rule-preserved c =

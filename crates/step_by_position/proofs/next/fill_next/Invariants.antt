@@ -8,4 +8,4 @@ abbrev pub invariant-loop-f : goal.invariant-loop-f
 invariant-loop-f l = Ended l.rules l.next l.f
 
 abbrev pub invariant-loop-rule : goal.invariant-loop-rule
-invariant-loop-rule l = Filling l.equations l.lengths l.rules l.bounds l.table l.next l.rule
+invariant-loop-rule l = Filling l.rows.equations.now l.rows.lengths.now l.rules l.bounds l.table l.next l.rule

@@ -6,7 +6,7 @@ use Rattle.step_by_position.proofs.positions.find_by_positions.Given as goal
 
 abbrev pub invariant-loop-rule : goal.invariant-loop-rule
 invariant-loop-rule l =
-    Seeking l.equations l.lengths l.rules l.bounds l.next l.table l.initial.nodes l.initial.sizes l.node l.nodes l.sizes l.ready l.cells l.rule
+    Seeking l.rows.equations.now l.rows.lengths.now l.rules l.bounds l.next l.table l.initial.nodes l.initial.sizes l.node l.nodes l.sizes l.ready l.cells l.rule
 
 abbrev pub decreases-loop-rule : goal.decreases-loop-rule
 decreases-loop-rule l =
@@ -14,4 +14,4 @@ decreases-loop-rule l =
 
 abbrev pub invariant-loop-node : goal.invariant-loop-node
 invariant-loop-node l =
-    Finding l.equations l.lengths l.rules l.bounds l.next l.table l.initial.nodes l.initial.sizes l.nodes l.sizes l.ready l.cells l.node
+    Finding l.rows.equations.now l.rows.lengths.now l.rules l.bounds l.next l.table l.initial.nodes l.initial.sizes l.nodes l.sizes l.ready l.cells l.node

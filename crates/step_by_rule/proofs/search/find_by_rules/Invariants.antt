@@ -4,4 +4,4 @@ use Rattle.step_by_rule.proofs.search.find_by_rules.Given as goal
 
 abbrev pub invariant-loop-rule : goal.invariant-loop-rule
 invariant-loop-rule l =
-    Finding l.equations l.lengths l.rules l.initial.nodes l.initial.sizes l.n l.initial.table l.initial.scratch l.table l.nodes l.sizes l.scratch l.best l.found l.rule
+    Finding l.rows.equations.now l.rows.lengths.now l.rules l.initial.nodes l.initial.sizes l.n l.initial.table l.initial.scratch l.table l.nodes l.sizes l.scratch l.best l.found l.rule

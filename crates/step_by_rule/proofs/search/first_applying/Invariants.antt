@@ -4,4 +4,4 @@ use Rattle.step_by_rule.proofs.search.first_applying.Given as goal
 
 abbrev pub invariant-loop-node : goal.invariant-loop-node
 invariant-loop-node l =
-    Trying l.equations l.lengths l.kept.rule l.table l.kept.lines l.initial.nodes l.initial.sizes l.from l.end l.nodes l.sizes l.ready l.cells l.node
+    Trying l.rows.equations.now l.rows.lengths.now l.kept.rule l.table l.kept.lines l.initial.nodes l.initial.sizes l.from l.end l.nodes l.sizes l.ready l.cells l.node

@@ -12,19 +12,19 @@ use Rattle.step_by_rule.proofs.search.first_node.Goals as goal
 pub sides_of-sides-requires : goal.sides_of-sides-requires
 sides_of-sides-requires c =
     let has = c.requires.has_unkept_try in
-    record { equations = c.args.equations.now; arities = has.arities; number = has.number; equation = has.equation; direction = has.direction; is = has.is.rule_is }
+    record { equations = c.args.rows.now.equations.now; arities = has.arities; number = has.number; equation = has.equation; direction = has.direction; is = has.is.rule_is }
 
 pub first_match-requires : goal.first_match-requires
 first_match-requires c =
     let has = c.requires.has_unkept_try in
-    let (s, t) = c.sides_of-sides.ensures c.args.equations.now has.arities has.number has.equation has.direction has.is.rule_is in
+    let (s, t) = c.sides_of-sides.ensures c.args.rows.now.equations.now has.arities has.number has.equation has.direction has.is.rule_is in
     record { arities = has.arities; pattern = _; subject = has.subject; is = source_there has.is s }
 
 pub returns-in_err-from : goal.returns-in_err-from
 returns-in_err-from c =
     record {
       by_index = λ arities i e d subject u.
-          let (s, t) = c.sides_of-sides.ensures c.args.equations.now arities i e d u.rule_is in
+          let (s, t) = c.sides_of-sides.ensures c.args.rows.now.equations.now arities i e d u.rule_is in
           let m = matched_nowhere (c.first_match.ensures arities _ subject (source_there u s)) c.in_err-from.was in
           no_step u c.from_residual.ensures (none_for u (λ p l. none_matches (filling arities) subject p i e d (m.none_before p l)));
       by_index_2 = (λ arities subject s. s);
@@ -57,7 +57,7 @@ slice_bounds-first_applying-end-2 c = sym (length-take-le cell_count c.keep_rule
 pub first_applying-requires : goal.first_applying-requires
 first_applying-requires c =
     let has = c.requires.has_unkept_try in
-    let (s, t) = c.sides_of-sides.ensures c.args.equations.now has.arities has.number has.equation has.direction has.is.rule_is in
+    let (s, t) = c.sides_of-sides.ensures c.args.rows.now.equations.now has.arities has.number has.equation has.direction has.is.rule_is in
     let matches = c.first_match.ensures has.arities _ has.subject (source_there has.is s) in (
       record {
         arities = has.arities;
@@ -88,7 +88,7 @@ returns c =
     let has = c.requires.has_unkept_try in
     let cells = c.first_applying.auto.cells ∙ length-take-le cell_count c.keep_rule.new.scratch (omega (arith, c.keep_rule.auto.scratch, c.requires.table_bytes_in_bounds.1)) in record {
       by_index = λ arities i e d subject u.
-          let (s, t) = c.sides_of-sides.ensures c.args.equations.now arities i e d u.rule_is in
+          let (s, t) = c.sides_of-sides.ensures c.args.rows.now.equations.now arities i e d u.rule_is in
           let matches = c.first_match.ensures arities _ subject (source_there u s) in
           c.first_applying.ensures.by_index arities i e d subject (kept_at_front u c.args.table.now c.keep_rule.new.table c.requires.table_bytes_in_bounds.0 (c.keep_rule.ensures.by_index arities i e d u.rule_is) (c.in-Ok.is ∙ ap Ok c.in_ok-last.was) (matched_from matches c.in_ok-from.was));
       by_index_2 = c.first_applying.ensures.by_index_2;

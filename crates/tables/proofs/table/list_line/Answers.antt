@@ -5,11 +5,11 @@ use Rattle.rules.specs.Theory.Rows.{row_low, second_low}
 use Rattle.rules.specs.Theory.Kept.{end_in_equations, end_in_lengths}
 use Rattle.tables.proofs.table.list_line.Goals as goal
 
-pub bounds-lengths-row : goal.bounds-lengths-row
-bounds-lengths-row c = let h = c.requires.0 in omega (arith, row_low (its_rule h.rows h.records_there h.low))
+pub bounds-rows-row : goal.bounds-rows-row
+bounds-rows-row c = let h = c.requires.0 in omega (arith, row_low (its_rule h.rows h.records_there h.low))
 
-pub bounds-lengths-right : goal.bounds-lengths-right
-bounds-lengths-right c = let h = c.requires.0 in second_low (its_rule h.rows h.records_there h.low) c.from.ensures
+pub bounds-rows-right : goal.bounds-rows-right
+bounds-rows-right c = let h = c.requires.0 in second_low (its_rule h.rows h.records_there h.low) c.from.ensures
 
 pub slice_bounds-put_line-end : goal.slice_bounds-put_line-end
 slice_bounds-put_line-end c = let h = c.requires.0 in omega (arith, record_room h.rows h.records_there h.low)

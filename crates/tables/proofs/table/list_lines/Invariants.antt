@@ -3,4 +3,4 @@ use Rattle.tables.proofs.TableLaws.{LinesPassed}
 use Rattle.tables.proofs.table.list_lines.Given as goal
 
 abbrev pub invariant-loop-line : goal.invariant-loop-line
-invariant-loop-line l = LinesPassed l.equations l.lengths l.rule l.first l.lines l.scratch l.initial.out l.out l.at l.line
+invariant-loop-line l = LinesPassed l.rows.equations.now l.rows.lengths.now l.rule l.first l.lines l.scratch l.initial.out l.out l.at l.line
