@@ -2,14 +2,13 @@
 use Prim.Native.Nat.{ℕ, ◌≤◌, ◌<◌}
 use mathlib.Core.Path.{◌≡◌, refl, sym, ap, subst, ◌∙◌}
 use mathlib.Core.Bool.{Bool, false}
-use mathlib.Core.Option.{some}
 use mathlib.Core.List.{List, ◌++◌}
 use lib.ListN.{length, get_or, take, drop}
 use lib.Seq.{slice, take_all, take_at, length-take-le}
 use native.Mathlib.Omega.{arith}
 use Rattle.format.specs.Limits.{variable_count, position_count, max_turns}
 use Rattle.terms.specs.Term.{size}
-use Rattle.terms.specs.Equation.{Equation, direction_of, source_position, target_position, view}
+use Rattle.terms.specs.Equation.{Equation, source_position, target_position, view}
 use Rattle.terms.specs.declared.direction.Direction.{Direction}
 use Rattle.terms.specs.declared.direction.Direction.TheVariants.{LeftRight as left_right, RightLeft as right_left}
 use Rattle.terms.specs.Prefix.{equation_bytes}

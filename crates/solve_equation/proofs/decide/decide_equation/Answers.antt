@@ -25,10 +25,6 @@ slice_bounds-sizes-end-2 c = omega (arith, bytes_few c.requires.0.is, c.measure.
 pub slice_bounds-decide_positions-end : goal.slice_bounds-decide_positions-end
 slice_bounds-decide_positions-end c = sizes_room c.requires.0.is _ c.measure.auto.sizes
 
-pub slice_bounds-decide_positions-end-3 : goal.slice_bounds-decide_positions-end-3
-slice_bounds-decide_positions-end-3 c =
-    walk_room c.args.scratch.now c.requires.1
-
 pub decide_positions-requires : goal.decide_positions-requires
 decide_positions-requires c =
     let are = sides_are c.requires.0.is _ _ c.measure.ensures in

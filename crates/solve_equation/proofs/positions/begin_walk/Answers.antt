@@ -1,15 +1,8 @@
 -- `begin_walk` meets its contract.
 use mathlib.Core.Path.{refl, ap, ◌∙◌}
-use native.Mathlib.Omega.{arith}
 use Rattle.line_bytes.specs.ForContracts.Resting.{resting_bytes}
 use Rattle.solve_equation.proofs.Begin.{opening_walks}
 use Rattle.solve_equation.proofs.positions.begin_walk.Goals as goal
-
-pub overflow_cast-source : goal.overflow_cast-source
-overflow_cast-source c = omega (arith, c.requires.in_prefix_form.1, c.requires.in_prefix_form.0.few)
-
-pub overflow_cast-target : goal.overflow_cast-target
-overflow_cast-target c = omega (arith, c.requires.in_prefix_form.2, c.requires.in_prefix_form.0.few)
 
 pub returns : goal.returns
 returns c =

@@ -18,9 +18,6 @@ slice_bounds-sizes-end c = omega (arith, bytes_few c.requires.has_equation.is, c
 pub slice_bounds-walk_direction-end : goal.slice_bounds-walk_direction-end
 slice_bounds-walk_direction-end c = sizes_room c.requires.has_equation.is _ c.measure.auto.sizes
 
-pub slice_bounds-walk_direction-end-3 : goal.slice_bounds-walk_direction-end-3
-slice_bounds-walk_direction-end-3 c = walk_room c.args.scratch.now c.requires.table_bytes_in_bounds.1
-
 pub walk_direction-requires : goal.walk_direction-requires
 walk_direction-requires c =
     (record { equation = c.requires.has_equation.equation; are = sides_are c.requires.has_equation.is _ _ c.measure.ensures }, sym (walk_room c.args.scratch.now c.requires.table_bytes_in_bounds.1))

@@ -3,11 +3,8 @@ use Prim.Native.Nat.{◌*◌}
 use mathlib.Core.Path.{subst}
 use Rattle.line_bytes.specs.ForContracts.Layout.{line_bytes}
 use Rattle.stopping.specs.ForContracts.Empty.{EmptyAt}
-use Rattle.stopping.proofs.Looking.{looking_start, looking_found, looking_next, looking_done}
+use Rattle.stopping.proofs.Looking.{looking_found, looking_next, looking_done}
 use Rattle.stopping.proofs.empty.any_empty.Goals as goal
-
-pub loop-i-init : goal.loop-i-init
-loop-i-init c = looking_start _ _ _
 
 pub returns-then-empty_at : goal.returns-then-empty_at
 returns-then-empty_at c =

@@ -3,11 +3,8 @@ use Prim.Native.Nat.{◌+◌, ◌*◌}
 use mathlib.Core.Path.{◌∙◌}
 use native.Mathlib.Omega.{arith}
 use Rattle.line_bytes.specs.ForContracts.Layout.{line_bytes}
-use Rattle.treating.proofs.Arguments.{arguments_room, arguments_size, pushing_start, pushing_next, pushing_done}
+use Rattle.treating.proofs.Arguments.{arguments_room, pushing_next, pushing_done}
 use Rattle.treating.proofs.choices.push_arguments.Goals as goal
-
-pub loop-s-init : goal.loop-s-init
-loop-s-init c = pushing_start _ _ _ _ _ c.requires
 
 pub store_with-requires : goal.store_with-requires
 store_with-requires c = (omega (arith, arguments_room _ _ _ _ _ c.loop-s.invariant.fits c.loop-s-test.true), c.loop-s.invariant.fits.whole, c.loop-s.invariant.fits.place)
@@ -16,18 +13,10 @@ pub store_with-requires-in-loop-s : goal.store_with-requires-in-loop-s
 store_with-requires-in-loop-s c =
     (omega (arith, arguments_room _ _ _ _ _ c.loop-s.invariant.fits c.loop-s-test.true, c.store_with.auto.records), c.loop-s.invariant.fits.whole, c.loop-s.invariant.fits.place)
 
-pub loop-s-smaller : goal.loop-s-smaller
-loop-s-smaller c =
-    let e = arguments_size _ _ _ _ _ c.loop-s.invariant.fits c.loop-s-test.true in
-    omega (arith, c.from-s.ensures, c.loop-s-test.true)
-
 pub loop-s-preserved : goal.loop-s-preserved
 loop-s-preserved c =
     pushing_next _ _ _ _ _ c.from-s.result (c.loop-s.next + 2 * line_bytes) c.store_with.new.records c.store_with-in-loop-s.new.records c.loop-s.invariant c.loop-s-test.true
     c.store_with.ensures c.store_with-in-loop-s.ensures (c.store_with-in-loop-s.auto.records ∙ c.store_with.auto.records) c.from-s.ensures (omega arith)
-
-pub shape_of-records : goal.shape_of-records
-shape_of-records c = c.loop-s.invariant.kept
 
 pub returns : goal.returns
 returns c = pushing_done _ _ _ _ _ c.loop-s.invariant c.loop-s-test.false

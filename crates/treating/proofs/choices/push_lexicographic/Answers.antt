@@ -3,7 +3,7 @@ use Prim.Native.Nat.{◌+◌}
 use mathlib.Core.Path.{◌∙◌}
 use native.Mathlib.Omega.{arith}
 use Rattle.line_bytes.specs.ForContracts.Layout.{line_bytes}
-use Rattle.treating.proofs.Lexicographic.{lexicographic_room, lexicographic_sizes, pushing_start, pushing_whole, pushing_marks, pushing_next, pushing_left_done, pushing_right_done}
+use Rattle.treating.proofs.Lexicographic.{lexicographic_room, pushing_start, pushing_whole, pushing_marks, pushing_next, pushing_left_done, pushing_right_done}
 use Rattle.treating.proofs.choices.push_lexicographic.Goals as goal
 
 pub loop-s-init : goal.loop-s-init
@@ -16,11 +16,6 @@ store_with-requires c =
 
 pub mark_equal-requires : goal.mark_equal-requires
 mark_equal-requires c = pushing_marks _ _ _ c.loop-s.invariant c.loop-s-test.true c.if-t-right.true _ c.store_with.auto.records
-
-pub loop-s-smaller : goal.loop-s-smaller
-loop-s-smaller c =
-    let e = lexicographic_sizes _ _ _ c.loop-s.invariant.fits c.loop-s-test.true c.if-t-right.true in
-    omega (arith, c.from-s.ensures, c.loop-s-test.true)
 
 pub loop-s-preserved : goal.loop-s-preserved
 loop-s-preserved c =

@@ -8,17 +8,8 @@ use Rattle.treating.proofs.Splitting.{positive, room_for, line_long, arguments_f
 use Rattle.treating.proofs.split.push_choices.Goals as goal
 use Rattle.treating.proofs.split.push_choices.Goals.{After-fill_exceeding}
 
-pub overflow_cast-line : goal.overflow_cast-line
-overflow_cast-line c = omega (arith, c.requires.facts.at_is, c.requires.facts.few)
-
 pub bounds-line-93 : goal.bounds-line-93
 bounds-line-93 c = omega (arith, line_long c.requires.facts)
-
-pub overflow_mul-place : goal.overflow_mul-place
-overflow_mul-place c = omega (arith, c.requires.facts.at_is, c.requires.facts.few)
-
-pub overflow_add-place : goal.overflow_add-place
-overflow_add-place c = omega (arith, c.requires.facts.at_is, c.requires.facts.few)
 
 pub push_arguments-next-requires : goal.push_arguments-next-requires
 push_arguments-next-requires c =
@@ -57,9 +48,6 @@ store-requires c =
     let place = 2 * choices.at + first_element in
     (one_more_fits c.requires.facts line₁ c.make_room.new.line c.fill_exceeding.new.line c.args.memory.now c.push_arguments-next.new.records c.args.to place c.push_arguments-next.result refl refl (positive c.if-choices-eq0.false) c.requires.room c.push_arguments-next.ensures c.make_room.ensures c.fill_exceeding.ensures, line_kept (goal.at.store-requires c).After-fill_exceeding ∙ line_long c.requires.facts)
 
-pub shape_of-line-then-choices : goal.shape_of-line-then-choices
-shape_of-line-then-choices c = line_kept (goal.at.shape_of-line-then-choices c).After-fill_exceeding
-
 pub returns-then-choices : goal.returns-then-choices
 returns-then-choices c =
     let choices = c.args.choices in
@@ -73,9 +61,6 @@ push_lexicographic-requires c =
     let line₁ = set c.args.line.now reduced_place choices.at in
     let place = 2 * choices.at + first_element in
     lexicographic_fits c.requires.facts line₁ c.make_room.new.line c.fill_exceeding.new.line c.args.memory.now c.push_arguments-next.new.records c.args.to place c.push_arguments-next.result refl refl (positive c.if-choices-eq0.false) c.requires.room c.push_arguments-next.ensures c.make_room.ensures c.fill_exceeding.ensures c.if-choices.false (line_kept (goal.at.push_lexicographic-requires c).After-fill_exceeding ∙ line_long c.requires.facts)
-
-pub shape_of-line : goal.shape_of-line
-shape_of-line c = line_kept (goal.at.shape_of-line c).After-fill_exceeding
 
 pub returns : goal.returns
 returns c =

@@ -1,7 +1,7 @@
 -- `inequality_treatment` meets its contract, by what stands at the positions reached.
 use mathlib.Core.Path.{sym, ◌∙◌}
 use Rattle.unifying.specs.Theory.Unify.{variable_free}
-use Rattle.treating.proofs.Treatment.{left_drops, left_reduced, right_drops, right_reduced, splits}
+use Rattle.treating.proofs.Treatment.{left_drops, left_reduced, right_drops, right_reduced}
 use Rattle.treating.proofs.treat.inequality_treatment.Goals as goal
 
 pub occurs_at-requires : goal.occurs_at-requires
@@ -35,8 +35,3 @@ pub returns-then-g-ge-FIRST_VARIABLE : goal.returns-then-g-ge-FIRST_VARIABLE
 returns-then-g-ge-FIRST_VARIABLE c =
     let sides = c.args.sides in
     right_reduced c.args.equation.now.nodes.now c.args.equation.now.sizes.now c.args.bindings.now sides.left sides.right c.reached-s.result c.reached-s.ensures.value c.reached-t.result c.reached-t.ensures.value c.reached-s.ensures.upper_bound c.if-f-ge-FIRST_VARIABLE.false c.reached-t.ensures.upper_bound c.if-g-ge-FIRST_VARIABLE.true c.from-then-g-ge-FIRST_VARIABLE.result c.from-then-g-ge-FIRST_VARIABLE.ensures (sym c.if-occurs_at-2.false ∙ c.occurs_at-then-g-ge-FIRST_VARIABLE.ensures)
-
-pub returns : goal.returns
-returns c =
-    let sides = c.args.sides in
-    splits c.args.equation.now.nodes.now c.args.equation.now.sizes.now c.args.bindings.now sides.left sides.right c.reached-s.result c.reached-s.ensures.value c.reached-t.result c.reached-t.ensures.value c.reached-s.ensures.upper_bound c.if-f-ge-FIRST_VARIABLE.false c.reached-t.ensures.upper_bound c.if-g-ge-FIRST_VARIABLE.false

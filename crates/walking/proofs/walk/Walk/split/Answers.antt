@@ -1,15 +1,12 @@
 -- `split` meets its contract: the limits are looked at before a line is put.
 use mathlib.Core.Path.{refl}
 use native.Mathlib.Omega.{arith}
-use Rattle.walking.proofs.Treating.{treating_top, treating_place, few_elements}
+use Rattle.walking.proofs.Treating.{treating_top, few_elements}
 use Rattle.walking.proofs.SplitTurn.{count_elements, has_choices, choices_few, right_few, split_too_long, split_too_many, split_fits, split_goes_on}
 use Rattle.walking.proofs.walk.Walk.split.Goals as goal
 
 pub choices_of-choices-requires : goal.choices_of-choices-requires
 choices_of-choices-requires c = has_choices c.requires
-
-pub overflow_sub-count : goal.overflow_sub-count
-overflow_sub-count c = omega (arith, count_elements c.requires)
 
 pub overflow_add-count : goal.overflow_add-count
 overflow_add-count c = omega (arith, count_elements c.requires, few_elements c.requires.treating, right_few c.requires c.choices_of-choices.result c.choices_of-choices.ensures)
@@ -33,29 +30,9 @@ pub returns-then-self-number : goal.returns-then-self-number
 returns-then-self-number c =
     record { outcome = split_too_many c.requires c.choices_of-choices.result c.choices_of-choices.ensures (c.too_long.ensures.fits c.if-too_long.false) c.if-self-number.true }
 
-pub overflow_add-first : goal.overflow_add-first
-overflow_add-first c =
-    omega (arith, treating_top c.requires.treating)
-
-pub overflow_mul-self : goal.overflow_mul-self
-overflow_mul-self c =
-    omega (arith, treating_top c.requires.treating)
-
-pub load-requires : goal.load-requires
-load-requires c =
-    (treating_place c.requires.treating, refl)
-
-pub overflow_mul-first : goal.overflow_mul-first
-overflow_mul-first c =
-    omega (arith, treating_top c.requires.treating)
-
 pub push_choices-requires : goal.push_choices-requires
 push_choices-requires c =
     split_fits c.requires c.choices_of-choices.result c.choices_of-choices.ensures (c.too_long.ensures.fits c.if-too_long.false) c.load.new.line c.load.ensures c.if-self-number.false _ refl
-
-pub turned-requires : goal.turned-requires
-turned-requires c =
-    c.requires.turns_below
 
 pub returns : goal.returns
 returns c =

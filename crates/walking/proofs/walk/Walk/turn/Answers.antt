@@ -1,32 +1,11 @@
 -- Goals of `turn`.
-use mathlib.Core.Path.{ap, ◌∙◌}
-use lib.ListN.{length}
-use mathlib.Core.Path.{refl}
 use native.Mathlib.Omega.{arith}
-use Rattle.walking.proofs.Searching.{filling_start, filling_next, searching_start, place_there, head_few, filled_readable, filled_few, head_within, head_next, head_treating, head_finishing}
+use Rattle.walking.proofs.Searching.{filling_next, place_there, head_few, filled_readable, filled_few, head_within, head_next, head_treating, head_finishing}
 use Rattle.walking.proofs.walk.Walk.turn.Goals as goal
-
-pub head-line-requires : goal.head-line-requires
-head-line-requires c = place_there c.requires.0 c.requires.1
-
-pub loop-i-init : goal.loop-i-init
-loop-i-init c = filling_start _ _ _ c.head-line.ensures.places
-
-pub overflow_mul-i : goal.overflow_mul-i
-overflow_mul-i c =
-    omega (arith, head_few c.requires.0 c.requires.1 c.head-line.ensures)
-
-pub overflow_add-place-in-loop-i : goal.overflow_add-place-in-loop-i
-overflow_add-place-in-loop-i c =
-    omega (arith, head_few c.requires.0 c.requires.1 c.head-line.ensures, place_there c.requires.0 c.requires.1)
 
 pub element_at-requires : goal.element_at-requires
 element_at-requires c =
     omega (arith, head_few c.requires.0 c.requires.1 c.head-line.ensures, place_there c.requires.0 c.requires.1)
-
-pub offset_bounds-line-i : goal.offset_bounds-line-i
-offset_bounds-line-i c =
-    omega (arith, head_few c.requires.0 c.requires.1 c.head-line.ensures)
 
 pub bounds-line-i : goal.bounds-line-i
 bounds-line-i c =
@@ -35,13 +14,6 @@ bounds-line-i c =
 pub loop-i-preserved : goal.loop-i-preserved
 loop-i-preserved c =
     filling_next c.loop-i.invariant (omega (arith, head_few c.requires.0 c.requires.1 c.head-line.ensures)) _ c.element_at.ensures
-
-pub loop-at-init : goal.loop-at-init
-loop-at-init c = (refl, searching_start _ _ _ _ _)
-
-pub offset_bounds-line-at : goal.offset_bounds-line-at
-offset_bounds-line-at c =
-    omega (arith, filled_few c.requires.0 c.requires.1 c.head-line.ensures c.loop-i.invariant c.loop-i-test.false c.loop-at.invariant.1, c.loop-at-test.true)
 
 pub bounds-line-at : goal.bounds-line-at
 bounds-line-at c =
@@ -59,12 +31,6 @@ treat-requires c =
     let full = c.loop-i-test.false in
     (head_treating c.requires.0 c.requires.1 c.head-line.ensures filled full c.loop-at.invariant.1 c.loop-at-test.true c.treatment_of-treatment.result c.treatment_of-treatment.ensures _ c.loop-at.invariant.0, c.in_default.not-Reduced, c.requires.2)
 
-pub shape_of-memory-in_default : goal.shape_of-memory-in_default
-shape_of-memory-in_default c = c.treat.auto.memory ∙ ap length c.loop-at.invariant.0
-
-pub returns-in_default : goal.returns-in_default
-returns-in_default c = c.treat.ensures
-
 pub loop-at-preserved : goal.loop-at-preserved
 loop-at-preserved c =
     let filled = c.loop-i.invariant in
@@ -76,9 +42,3 @@ finish-requires c =
     let filled = c.loop-i.invariant in
     let full = c.loop-i-test.false in
     head_finishing c.requires.0 c.requires.1 c.head-line.ensures filled full c.loop-at.invariant.1 c.loop-at-test.false _ c.loop-at.invariant.0
-
-pub shape_of-memory : goal.shape_of-memory
-shape_of-memory c = c.finish.auto.memory ∙ ap length c.loop-at.invariant.0
-
-pub returns : goal.returns
-returns c = record { outcome = c.finish.ensures }

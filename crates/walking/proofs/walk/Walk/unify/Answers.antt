@@ -1,12 +1,8 @@
 -- `unify` meets its contract: failure deletes the line, success the element, and other bindings are put back.
 use mathlib.Core.Path.{refl, ◌∙◌}
-use native.Mathlib.Omega.{arith}
-use Rattle.walking.proofs.Treating.{treating_top, treating_place, removal_fits, equal_within, line_readable, unify_failed, unify_kept, unify_changed}
+use Rattle.walking.proofs.Treating.{removal_fits, equal_within, line_readable, unify_failed, unify_kept, unify_changed}
 use Rattle.walking.proofs.walk.Walk.unify.Goals as goal
 use Rattle.walking.proofs.walk.Walk.unify.Goals.{then-changed, else-changed}
-
-pub overflow_mul-place : goal.overflow_mul-place
-overflow_mul-place c = omega (arith, treating_top c.requires.0.treating)
 
 pub unify_positions-unifier-requires : goal.unify_positions-unifier-requires
 unify_positions-unifier-requires c = record { readable = (line_readable c.requires.0 c.requires.1 _ refl, c.requires.2); p_in_bounds = equal_within c.requires.0 c.requires.1 _ refl }
@@ -15,17 +11,9 @@ pub returns-in_default : goal.returns-in_default
 returns-in_default c =
     rw c.turned.ensures (unify_failed c.requires.0 c.requires.1 _ refl c.unify_positions-unifier.result c.unify_positions-unifier.ensures c.in_default.is)
 
-pub differ-changed-requires : goal.differ-changed-requires
-differ-changed-requires c =
-    (omega (arith, treating_place c.requires.0.treating), c.unify_positions-unifier.ensures.whole)
-
 pub put_without-requires : goal.put_without-requires
 put_without-requires c =
     removal_fits c.requires.0
-
-pub rebind-requires : goal.rebind-requires
-rebind-requires c =
-    (omega (arith, treating_place c.requires.0.treating, c.put_without.auto.memory), c.unify_positions-unifier.ensures.whole)
 
 pub returns : goal.returns
 returns c =
