@@ -7,7 +7,7 @@ ghost use Rattle.reading.specs.ForContracts.Loading.{TermsIn, HasTermsIn, Loaded
 
 use crate::seek::decode;
 use format::limits::Limits;
-use scanning::text::Span;
+use scanning::text::{SheetPart, Span};
 use terms::measure::measure;
 
 // Stores the terms that the digits write, with their sizes; how many nodes they have.
@@ -22,7 +22,11 @@ pub fn load_terms(
     requires nodes_len { (length nodes.old ≡ node_count) × (length sizes.old ≡ node_count) × AllSymbols nodes.old }
     ensures { (ts : Terms) → TermsIn sheet.now arities.now digits.from digits.end ts → Loaded arities.now nodes.new sizes.new ts result }
 {
-    let n = decode(sheet, digits, &mut nodes[Limits::SUBJECT..]);
+    let written = SheetPart {
+        sheet,
+        span: digits,
+    };
+    let n = decode(written, &mut nodes[Limits::SUBJECT..]);
     measure(nodes, arities, sizes, Limits::SUBJECT, Limits::SUBJECT + n);
     n
 }

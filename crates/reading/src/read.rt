@@ -18,7 +18,7 @@ use reader::reader::Reader;
 use scanning::frame::equation_body;
 use scanning::known::Known;
 use scanning::task::task_body;
-use scanning::text::{Span, byte_at};
+use scanning::text::{SheetPart, byte_at};
 
 // One more equation, with as many variables up to its highest.
 fn with_equation(known: Known, width: usize) -> Known
@@ -42,56 +42,53 @@ fn with_task(known: Known) -> Known
 }
 
 // An equation's frame, behind its kind.
-fn equation_frame(known: Known, s: &[u8], span: Span) -> Result<Known, Refusal>
-    requires { FrameReady s.now span known × ((sheet : Sheet) × KnowsSheet known sheet) }
-    ensures { (sheet : Sheet) → KnowsSheet known sheet → FrameRead (read_kind (within sheet) FrameKind.Equation (span_bytes s.now span)) result }
+fn equation_frame(known: Known, part: SheetPart) -> Result<Known, Refusal>
+    requires { FrameReady part.sheet.now part.span known × ((sheet : Sheet) × KnowsSheet known sheet) }
+    ensures { (sheet : Sheet) → KnowsSheet known sheet → FrameRead (read_kind (within sheet) FrameKind.Equation (span_bytes part.entry.sheet.now part.entry.span)) result }
 {
     if 0 < known.tasks || Limits::EQUATIONS <= known.equations {
         return Err(Refusal::FrameOrder);
     }
-    let width = equation_body(known, s, span)?;
+    let width = equation_body(known, part)?;
     Ok(with_equation(known, width))
 }
 
 // A frame of any other kind, behind the symbols'.
-fn task_frame(known: Known, s: &[u8], span: Span, kind: FrameKind) -> Result<Known, Refusal>
-    requires { FrameReady s.now span known × ((sheet : Sheet) × KnowsSheet known sheet) × (kind ≡ FrameKind.Equation → ⊥) }
-    ensures { (sheet : Sheet) → KnowsSheet known sheet → FrameRead (read_kind (within sheet) kind (span_bytes s.now span)) result }
+fn task_frame(known: Known, part: SheetPart, kind: FrameKind) -> Result<Known, Refusal>
+    requires { FrameReady part.sheet.now part.span known × ((sheet : Sheet) × KnowsSheet known sheet) × (kind ≡ FrameKind.Equation → ⊥) }
+    ensures { (sheet : Sheet) → KnowsSheet known sheet → FrameRead (read_kind (within sheet) kind (span_bytes part.entry.sheet.now part.entry.span)) result }
 {
     if known.equations == 0 || Limits::TASKS <= known.tasks {
         return Err(Refusal::FrameOrder);
     }
-    task_body(known, s, span, kind)?;
+    task_body(known, part, kind)?;
     Ok(with_task(known))
 }
 
 // The first frame: the symbols'.
-fn first_frame(s: &[u8], span: Span, kind: FrameKind) -> Result<Known, Refusal>
-    requires { SpanReady s.now span }
-    ensures { FrameRead (read_kind start kind (span_bytes s.now span)) result }
+fn first_frame(part: SheetPart, kind: FrameKind) -> Result<Known, Refusal>
+    requires { SpanReady part.sheet.now part.span }
+    ensures { FrameRead (read_kind start kind (span_bytes part.entry.sheet.now part.entry.span)) result }
 {
     match kind {
-        FrameKind::Symbols => symbols_body(s, span),
+        FrameKind::Symbols => symbols_body(part),
         _ => Err(Refusal::FrameOrder),
     }
 }
 
 // One frame: what is known behind it.
-pub fn read_frame(known: Known, s: &[u8], span: Span) -> Result<Known, Refusal>
-    requires { SpanReady s.now span × (span.from < span.end) × ((state : State) × Knows known state) }
-    ensures { (state : State) → Knows known state → FrameRead (read_frame state (span_bytes s.now span)) result }
+pub fn read_frame(known: Known, part: SheetPart) -> Result<Known, Refusal>
+    requires { SpanReady part.sheet.now part.span × (part.span.from < part.span.end) × ((state : State) × Knows known state) }
+    ensures { (state : State) → Knows known state → FrameRead (read_frame state (span_bytes part.entry.sheet.now part.entry.span)) result }
 {
-    let kind = FrameKind::from(byte_at(s, span.from) as u8);
-    let body = Span {
-        from: span.from + 2,
-        ..span
-    };
+    let kind = FrameKind::from(byte_at(part.sheet, part.span.from) as u8);
+    let body = part.tail(part.span.from + 2);
     if known.symbols == 0 {
-        return first_frame(s, body, kind);
+        return first_frame(body, kind);
     }
     match kind {
-        FrameKind::Equation => equation_frame(known, s, body),
-        _ => task_frame(known, s, body, kind),
+        FrameKind::Equation => equation_frame(known, body),
+        _ => task_frame(known, body, kind),
     }
 }
 
@@ -136,7 +133,11 @@ fn read_lines(s: &[u8]) -> Result<Known, RefusedAt>
     let mut lines = 0;
     for line in Reader::new(s) {
         let FrameLine { number, digits } = line?;
-        known = read_frame(known, s, digits).map_err(|why| RefusedAt { why, line: number })?;
+        let part = SheetPart {
+            sheet: s,
+            span: digits,
+        };
+        known = read_frame(known, part).map_err(|why| RefusedAt { why, line: number })?;
         lines = number;
     }
     if known.equations == 0 {

@@ -10,7 +10,7 @@ ghost use Rattle.reading.specs.ForContracts.Seek.{Accepts, AllFrames, FrameIn, E
 use format::kind::FrameKind;
 use reader::reader::Reader;
 use scanning::known::Known;
-use scanning::text::{Span, byte_at};
+use scanning::text::{SheetPart, Span, byte_at};
 
 // The digits of line `n`, counted from 0, where all lines are frames.
 fn frame_at(s: &[u8], n: usize) -> Span
@@ -23,13 +23,13 @@ fn frame_at(s: &[u8], n: usize) -> Span
 }
 
 // The bytes that the digits write, to the front of `out`; how many.
-pub fn decode(s: &[u8], digits: Span, out: &mut [u8]) -> usize
-    requires { (bs : List ℕ) × Spans s.now digits.from digits.end bs × (length bs ≤ length out.old) }
-    ensures { (bs : List ℕ) → Spans s.now digits.from digits.end bs → Decoded bs out.old out.new result }
+pub fn decode(part: SheetPart, out: &mut [u8]) -> usize
+    requires { (bs : List ℕ) × Spans part.sheet.now part.span.from part.span.end bs × (length bs ≤ length out.old) }
+    ensures { (bs : List ℕ) → Spans part.entry.sheet.now part.entry.span.from part.entry.span.end bs → Decoded bs out.old out.new result }
 {
-    let count = (digits.end - digits.from) / 2;
+    let count = (part.span.end - part.span.from) / 2;
     for n in 0..count {
-        out[n] = byte_at(s, digits.from + 2 * n) as u8;
+        out[n] = byte_at(part.sheet, part.span.from + 2 * n) as u8;
     }
     count
 }
@@ -40,11 +40,14 @@ pub fn equation_at(s: &[u8], known: Known, e: usize, out: &mut [u8]) -> usize
     ensures { (q : Equation) → EquationIn s.now e q → Decoded (equation_bytes q) out.old out.new result }
 {
     let frame = frame_at(s, e + 1);
-    let sides = Span {
-        from: frame.from + 2,
-        ..frame
+    let sides = SheetPart {
+        sheet: s,
+        span: Span {
+            from: frame.from + 2,
+            ..frame
+        },
     };
-    decode(s, sides, out)
+    decode(sides, out)
 }
 
 // What a task asks for besides its terms.
@@ -68,20 +71,24 @@ pub fn find_task(s: &[u8], known: Known, k: usize) -> TaskFound
     ensures { (t : Task) → TaskIn s.now k t → TaskAt s.now t result }
 {
     let frame = frame_at(s, known.equations + k + 1);
-    task_head(s, frame)
+    task_head(SheetPart {
+        sheet: s,
+        span: frame,
+    })
 }
 
 // The frame of a task taken apart.
-fn task_head(s: &[u8], span: Span) -> TaskFound
-    requires { (t : Task) × Spans s.now span.from span.end (task_frame t) }
-    ensures { (t : Task) → Spans s.now span.from span.end (task_frame t) → TaskAt s.now t result }
+fn task_head(part: SheetPart) -> TaskFound
+    requires { (t : Task) × Spans part.sheet.now part.span.from part.span.end (task_frame t) }
+    ensures { (t : Task) → Spans part.entry.sheet.now part.entry.span.from part.entry.span.end (task_frame t) → TaskAt part.entry.sheet.now t result }
 {
+    let SheetPart { sheet, span } = part;
     let from = span.from;
-    let kind = FrameKind::from(byte_at(s, from) as u8);
+    let kind = FrameKind::from(byte_at(sheet, from) as u8);
     match kind {
         FrameKind::Run => TaskFound {
             head: TaskHead::Run {
-                limit: byte_at(s, from + 2),
+                limit: byte_at(sheet, from + 2),
             },
             terms: Span {
                 from: from + 4,
@@ -90,8 +97,8 @@ fn task_head(s: &[u8], span: Span) -> TaskFound
         },
         FrameKind::Judgement => TaskFound {
             head: TaskHead::Judgement {
-                equation: byte_at(s, from + 2),
-                direction: byte_at(s, from + 4),
+                equation: byte_at(sheet, from + 2),
+                direction: byte_at(sheet, from + 4),
             },
             terms: Span {
                 from: from + 6,

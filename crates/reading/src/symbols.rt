@@ -6,23 +6,24 @@ ghost use Rattle.reading.specs.ForContracts.Symbols.{AritiesReady, SymbolsRead, 
 use format::limits::Limits;
 use format::refusal::Refusal;
 use scanning::known::Known;
-use scanning::text::{Span, byte_at};
+use scanning::text::{SheetPart, byte_at};
 
 // What is known behind it.
-pub fn symbols_body(s: &[u8], span: Span) -> Result<Known, Refusal>
-    requires { SpanReady s.now span }
-    ensures { SymbolsRead (span_bytes s.now span) result }
+pub fn symbols_body(part: SheetPart) -> Result<Known, Refusal>
+    requires { SpanReady part.sheet.now part.span }
+    ensures { SymbolsRead (span_bytes part.entry.sheet.now part.entry.span) result }
 {
+    let SheetPart { sheet, span } = part;
     let from = span.from;
     if from == span.end {
         return Err(Refusal::SymbolFrame);
     }
-    let n = byte_at(s, from);
+    let n = byte_at(sheet, from);
     let at = from + 2;
     if n == 0 || Limits::SYMBOLS < n || span.end - at != 2 * n {
         return Err(Refusal::SymbolFrame);
     }
-    arities(s, at, n)
+    arities(sheet, at, n)
 }
 
 // `n` arities from `from` on, 0 among them.

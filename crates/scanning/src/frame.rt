@@ -7,17 +7,17 @@ ghost use Rattle.scanning.specs.ForContracts.Scan.{known_arities, ScanReady, Fra
 
 use crate::known::Known;
 use crate::scan::{Wanted, scan};
-use crate::text::Span;
+use crate::text::SheetPart;
 use format::limits::Limits;
 use format::refusal::Refusal;
 
 // What is wanted and nothing behind it: how many variables there are up to the highest met.
-fn whole_scan(known: Known, s: &[u8], span: Span, wanted: Wanted) -> Result<usize, Refusal>
-    requires { ScanReady s.now span known.symbols wanted }
-    ensures { WholeScan (known_arities known) (span_bytes s.now span) wanted result }
+fn whole_scan(known: Known, part: SheetPart, wanted: Wanted) -> Result<usize, Refusal>
+    requires { ScanReady part.sheet.now part.span known.symbols wanted }
+    ensures { WholeScan (known_arities known) (span_bytes part.entry.sheet.now part.entry.span) wanted result }
 {
-    let scanned = scan(known, s, span, wanted)?;
-    if scanned.at == span.end {
+    let scanned = scan(known, part, wanted)?;
+    if scanned.at == part.span.end {
         Ok(scanned.width)
     } else {
         Err(Refusal::FrameBytes)
@@ -25,9 +25,9 @@ fn whole_scan(known: Known, s: &[u8], span: Span, wanted: Wanted) -> Result<usiz
 }
 
 // Ground terms and nothing behind them.
-pub fn ground_terms(known: Known, s: &[u8], span: Span, terms: usize) -> Result<(), Refusal>
-    requires { FrameReady s.now span known × (terms ≤ variable_count) }
-    ensures { Matches (ground_terms (known_arities known) terms (span_bytes s.now span)) result }
+pub fn ground_terms(known: Known, part: SheetPart, terms: usize) -> Result<(), Refusal>
+    requires { FrameReady part.sheet.now part.span known × (terms ≤ variable_count) }
+    ensures { Matches (ground_terms (known_arities known) terms (span_bytes part.entry.sheet.now part.entry.span)) result }
 {
     let wanted = Wanted {
         terms,
@@ -35,7 +35,7 @@ pub fn ground_terms(known: Known, s: &[u8], span: Span, terms: usize) -> Result<
         is_ground: true,
         width: 0,
     };
-    whole_scan(known, s, span, wanted)?;
+    whole_scan(known, part, wanted)?;
     Ok(())
 }
 
@@ -52,14 +52,10 @@ fn side(width: usize) -> Wanted
 }
 
 // An equation: how many variables there are up to its highest.
-pub fn equation_body(known: Known, s: &[u8], span: Span) -> Result<usize, Refusal>
-    requires { FrameReady s.now span known }
-    ensures { EquationGiven (known_arities known) (span_bytes s.now span) result }
+pub fn equation_body(known: Known, part: SheetPart) -> Result<usize, Refusal>
+    requires { FrameReady part.sheet.now part.span known }
+    ensures { EquationGiven (known_arities known) (span_bytes part.entry.sheet.now part.entry.span) result }
 {
-    let left = scan(known, s, span, side(0))?;
-    let behind = Span {
-        from: left.at,
-        ..span
-    };
-    whole_scan(known, s, behind, side(left.width))
+    let left = scan(known, part, side(0))?;
+    whole_scan(known, part.tail(left.at), side(left.width))
 }

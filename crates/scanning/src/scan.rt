@@ -3,7 +3,7 @@ ghost use Rattle.std.specs.Prelude.{ℕ, ◌≤◌, List, length};
 ghost use Rattle.scanning.specs.ForContracts.Scan.{known_arities, OtherRead, ScanReady, ScanRead};
 
 use crate::known::Known;
-use crate::text::{Span, byte_at};
+use crate::text::{SheetPart, byte_at};
 use format::byte::Class;
 use format::refusal::Refusal;
 
@@ -35,13 +35,14 @@ pub struct Wanted {
     pub width: usize,
 }
 
-pub fn scan(known: Known, s: &[u8], span: Span, wanted: Wanted) -> Result<Scanned, Refusal>
-    requires { ScanReady s.now span known.symbols wanted }
-    ensures { ScanRead s.now span (known_arities known) wanted result }
+pub fn scan(known: Known, part: SheetPart, wanted: Wanted) -> Result<Scanned, Refusal>
+    requires { ScanReady part.sheet.now part.span known.symbols wanted }
+    ensures { ScanRead part.entry.sheet.now part.entry.span (known_arities known) wanted result }
 {
     // Of what is known the arities alone are copied.
     let symbols = known.symbols;
     let arities = known.arities;
+    let SheetPart { sheet, span } = part;
     let mut at = span.from;
     let mut need = wanted.terms;
     let mut room = wanted.nodes;
@@ -55,7 +56,7 @@ pub fn scan(known: Known, s: &[u8], span: Span, wanted: Wanted) -> Result<Scanne
         if room == 0 {
             return Err(Refusal::FrameBytes);
         }
-        let b = byte_at(s, at);
+        let b = byte_at(sheet, at);
         need -= 1;
         room -= 1;
         at += 2;

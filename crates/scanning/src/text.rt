@@ -19,6 +19,28 @@ pub struct Span {
     pub end: usize,
 }
 
+// A sheet, and the digits of it that a frame or a part of one takes.
+#[derive(Clone, Copy)]
+pub struct SheetPart<'a> {
+    pub sheet: &'a [u8],
+    pub span: Span,
+}
+
+impl<'a> SheetPart<'a> {
+    // The digits of it from `at` on.
+    pub fn tail(self, at: usize) -> SheetPart<'a>
+        ensures { result ≡ record { sheet = self.entry.sheet; span = record { from = at; end = self.entry.span.end } } }
+    {
+        SheetPart {
+            span: Span {
+                from: at,
+                ..self.span
+            },
+            ..self
+        }
+    }
+}
+
 // The value of a digit, or the base for any other character.
 pub fn digit_value(c: u8) -> usize
     ensures { result ≡ digit_number c }

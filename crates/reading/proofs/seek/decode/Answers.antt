@@ -13,7 +13,7 @@ pub bounds-out-n : goal.bounds-out-n
 bounds-out-n c = decoding_place _ _ _ _ _ _ _ c.loop-n.invariant (omega (arith, c.loop-n.invariant.ready.even))
 
 pub loop-n-preserved : goal.loop-n-preserved
-loop-n-preserved c = subst (λ at. Decoding c.args.s.now c.args.digits.from c.args.digits.end c.args.out.now (set c.loop-n.out c.loop-n.n c.byte_at.result) at (c.loop-n.n + 1)) (omega arith) (decoding_next _ _ _ _ _ _ _ c.loop-n.invariant (omega (arith, c.loop-n.invariant.ready.even)) c.byte_at.ensures)
+loop-n-preserved c = subst (λ at. Decoding c.args.part.sheet.now c.args.part.span.from c.args.part.span.end c.args.out.now (set c.loop-n.out c.loop-n.n c.byte_at.result) at (c.loop-n.n + 1)) (omega arith) (decoding_next _ _ _ _ _ _ _ c.loop-n.invariant (omega (arith, c.loop-n.invariant.ready.even)) c.byte_at.ensures)
 
 pub returns : goal.returns
 returns c = λ bs spans.

@@ -10,4 +10,4 @@ returns-in_err-left c =
 
 pub returns : goal.returns
 returns c =
-    equation_read _ _ c.args.known c.requires c.side.ensures c.in_ok-left.left c.in_ok-left.ensures c.side-2.ensures c.whole_scan.result c.whole_scan.ensures
+    equation_read _ _ c.args.known c.requires c.side.ensures c.in_ok-left.left c.in_ok-left.ensures c.side-2.ensures c.whole_scan.result (rw c.tail.ensures at c.whole_scan.ensures)

@@ -8,9 +8,9 @@ returns-in_err-scanned c =
     let p = err_from_is_err_and c.from_residual.result c.from_residual.ensures.1 in
     rw (p.1, p.2) (refused_read _ _ _ c.args.wanted c.in_err-scanned.ensures)
 
-pub returns-then-scanned-span : goal.returns-then-scanned-span
-returns-then-scanned-span c =
-    (done_whole _ _ _ _ _ c.in_ok-scanned.ensures c.if-scanned-span.true, done_width _ _ _ _ _ c.in_ok-scanned.ensures c.if-scanned-span.true)
+pub returns-then-scanned-part : goal.returns-then-scanned-part
+returns-then-scanned-part c =
+    (done_whole _ _ _ _ _ c.in_ok-scanned.ensures c.if-scanned-part.true, done_width _ _ _ _ _ c.in_ok-scanned.ensures c.if-scanned-part.true)
 
-pub returns-else-scanned-span : goal.returns-else-scanned-span
-returns-else-scanned-span c = left_over _ _ _ _ _ c.in_ok-scanned.ensures c.if-scanned-span.false
+pub returns-else-scanned-part : goal.returns-else-scanned-part
+returns-else-scanned-part c = left_over _ _ _ _ _ c.in_ok-scanned.ensures c.if-scanned-part.false

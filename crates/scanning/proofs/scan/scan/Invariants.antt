@@ -4,7 +4,7 @@ use Rattle.scanning.proofs.Scanning.{Scanning}
 use Rattle.scanning.proofs.scan.scan.Given as goal
 
 abbrev pub invariant-loop-need : goal.invariant-loop-need
-invariant-loop-need l = Scanning l.s l.span (listed l.symbols l.arities) l.wanted l.at l.need l.room l.width
+invariant-loop-need l = Scanning l.part.sheet.now l.part.span (listed l.symbols l.arities) l.wanted l.at l.need l.room l.width
 
 abbrev pub decreases-loop-need : goal.decreases-loop-need
 decreases-loop-need l = l.room
