@@ -1,5 +1,4 @@
 -- `walk_rule` walks one direction of the equation whose bytes and sizes stand in the rule's row.
-use Prim.Native.Nat.{◌*◌, ◌/◌}
 use mathlib.Core.Path.{subst, sym, ◌∙◌}
 use native.Mathlib.Omega.{arith}
 use lib.ListN.{drop}
