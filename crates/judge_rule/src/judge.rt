@@ -64,7 +64,8 @@ pub fn judge_lines(
     first_holding(table, lines, &compared, &mut ready, cells)
 }
 
-// Walks every rule of the `count` equations in order, and keeps the lines of the one that is judged: where they end.
+// Walks every rule of the `count` equations in order, and keeps the lines of the one that is judged: where they end. Not by `keep_rules`, which keeps those
+// of all: the lines of one rule always have room.
 pub fn walk_judged(
     rows: &Rows,
     count: usize,

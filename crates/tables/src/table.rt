@@ -18,7 +18,8 @@ use frames::line::{LINE_ROOM, put_line};
 use rules::keep::walk_rule;
 use rules::rows::Rows;
 
-// "for each equation and direction '11'": walks the rule, whose lines come next.
+// "for each equation and direction '11'": walks the rule, whose lines come next. No `Rows` are taken, since docs/DEMANDS.md names this function with what it
+// takes.
 pub fn list_table(
     rule: usize,
     equations: &[u8],

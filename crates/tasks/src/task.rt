@@ -38,7 +38,8 @@ pub struct TaskListed {
     pub steps: usize,
 }
 
-// "judgement, '15', yes 01 or no 00, holding line or 00": walks its own rule, and keeps its lines.
+// "judgement, '15', yes 01 or no 00, holding line or 00": walks its own rule, and keeps its lines: not by `keep_rule`, whose clause does not
+// say that what is kept are the lines of the walk.
 fn list_judgement(
     sheet: &[u8],
     known: Known,
