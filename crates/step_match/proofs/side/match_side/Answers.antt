@@ -51,11 +51,6 @@ bounds-sizes-at c =
     let (b, h) = byte_read c.args.bytes.now c.args.side.from c.args.side.end c.loop-byte.byte-index c.loop-byte-test.true in
     (standing (part_there (of_some c.requires.0 c.loop-byte.invariant) h)).in_lengths
 
-pub overflow_add-at-else-byte-lt-FIRST_VARIABLE : goal.overflow_add-at-else-byte-lt-FIRST_VARIABLE
-overflow_add-at-else-byte-lt-FIRST_VARIABLE c =
-    let (b, h) = byte_read c.args.bytes.now c.args.side.from c.args.side.end c.loop-byte.byte-index c.loop-byte-test.true in
-    omega (arith, c.from-at.ensures, (standing (part_there (of_some c.requires.0 c.loop-byte.invariant) h)).within)
-
 pub loop-byte-preserved : goal.loop-byte-preserved
 loop-byte-preserved c =
     λ arities s t p.
