@@ -1,4 +1,4 @@
-// The terms of an equation in bytes, seen through the bindings: following them, and the occurs test.
+// The terms of an equation in bytes, seen through the bindings: following them, the occurs test, and sets of variables.
 #![tactic(auto)]
 
 pub mod count;

@@ -233,7 +233,7 @@ impl Compared<'_> {
         let difference = self.first_difference(ready, cells, i, j);
         match difference.verdict {
             Verdict::Equal => Verdict::Equal,
-            // L1 is left, and t exceeds the arguments of s before these.
+            // L1 is left, and the term at j exceeds the arguments of the one at i before these.
             Verdict::Smaller => {
                 let row = difference.first;
                 greater_if(self.argument_reaches(ready, cells, row, j))

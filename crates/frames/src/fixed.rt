@@ -1,5 +1,5 @@
-// Frames of a fixed number of bytes. Each is appended to what stands first in a buffer: `at` bytes stand there before, and the number that is given stands there after. The buffer
-// is lent by the caller and there is no heap, so that it and the count stay beside one another.
+// Frames of a fixed number of bytes. Each is appended to what stands first in a buffer: `at` bytes stand there before, and the number that is given stands there after. The two
+// are no struct: in each contract it would have to say that the buffer that the struct refers to stays the same one.
 ghost use Rattle.std.specs.Prelude.{◌≡◌, ℕ, [], ◌∷◌, ◌+◌, ◌*◌, ◌/◌, ◌%◌, ◌≤◌, ◌<◌, length};
 ghost use Rattle.format.specs.Limits.{max_text, max_equations, max_lines, max_tasks, max_steps};
 ghost use Rattle.solving.specs.ForContracts.Told.{LineTold};

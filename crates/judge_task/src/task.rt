@@ -24,8 +24,7 @@ use rules::walks::RefusedWalk;
 use scanning::known::Known;
 use scanning::text::Span;
 
-// The first line that holds at the values that the digits write, over the kept lines of the judged rule, counted from 1. No `Rows` are taken, since docs/DECISIONS.md
-// names this function with what it takes.
+// The first line that holds at the values that the digits write, over the kept lines of the judged rule, counted from 1.
 pub fn judge_values(
     sheet: &[u8],
     known: Known,

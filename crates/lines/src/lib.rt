@@ -1,4 +1,4 @@
-// Lines: their elements, a line by its named parts, and the bytes of lines in the memory of the walk.
+// A line by its named parts.
 #![tactic(auto)]
 
 pub mod line;

@@ -34,7 +34,6 @@ pub struct Course {
 }
 
 // "Before each step: none found, ending 00; k steps done, ending 01; result above 160 nodes, ending 02; else the step."
-// No `Rows` are taken, since docs/DEMANDS.md names this function with what it takes.
 pub fn run_steps(
     equations: &[u8],
     lengths: &[u8],

@@ -48,7 +48,6 @@ pub struct RunAsked {
 }
 
 // The run of a term, over rules that all solve: its steps and ending, the last term and the log. Lines that are kept stay.
-// No `Rows` are taken, since docs/DECISIONS.md names this function with what it takes.
 pub fn run_course(
     sheet: &[u8],
     asked: RunAsked,

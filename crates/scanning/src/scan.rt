@@ -49,7 +49,7 @@ pub fn scan(known: Known, part: SheetPart, wanted: Wanted) -> Result<Scanned, Re
     let mut width = wanted.width;
     // No `for`: how many bytes are read depends on the arities that are met.
     while 0 < need {
-        // Two tests: joined by `||` they take both results into registers, and a long sheet 1.05 times as long.
+        // Two tests: joined by `||`, both results are put into registers, and the check of a long sheet takes 1.05 times as long.
         if at == span.end {
             return Err(Refusal::FrameBytes);
         }

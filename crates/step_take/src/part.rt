@@ -12,7 +12,7 @@ use format::limits::Limits;
 use terms::arguments::Arguments;
 use terms::measure::measure;
 
-// The subject with the side's instance in the place of the part at `node`, to the front of `result`, which has room for it.
+// The subject with the side's instance in the place of the part at `node`, to the front of `res`, which has room for it.
 fn put_result(
     bytes: &[u8],
     side: Arguments,

@@ -18,8 +18,7 @@ use frames::line::{LINE_ROOM, put_line};
 use rules::keep::walk_rule;
 use rules::rows::Rows;
 
-// "for each equation and direction '11'": walks the rule, whose lines come next. No `Rows` are taken, since docs/DEMANDS.md names this function with what it
-// takes.
+// "for each equation and direction '11'": walks the rule, whose lines come next.
 pub fn list_table(
     rule: usize,
     equations: &[u8],

@@ -1,4 +1,4 @@
-// Unification over an equation's bytes: sets of variables, terms seen through bindings, the occurs test, the unifier.
+// Unification over an equation's bytes: the links between positions, and the unifier.
 #![tactic(auto)]
 
 pub mod links;

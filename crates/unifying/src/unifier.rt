@@ -8,7 +8,7 @@ use crate::unify::unify_terms;
 use bindings::equation::EquationTerms;
 use format::limits::Limits;
 
-// Whether there is a unifier, and beside it the bindings that give it.
+// Whether there is a unifier, and the bindings that give it: the form that document 01 names, an answer, and the bindings in a struct beside it.
 #[derive(Clone, Copy)]
 pub struct Unifier {
     pub answer: Option<()>,

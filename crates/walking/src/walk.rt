@@ -9,7 +9,7 @@
 //     +-------+-- ... --+-------------------------+----------+-- ... --+----------+
 //      finished, in the table's order                unfinished, in the table's order
 //
-// A place holds a line as `lines::layout` lays it out: bindings, count, pairs of positions, filler, and last the count of elements known to be fully reduced.
+// A place holds a line as `line_bytes::layout` lays it out: bindings, count, pairs of positions, filler, and last the count of elements known to be fully reduced.
 // A record is the line without that last byte, so that the records of finished lines never reach an unfinished one.
 ghost use Rattle.std.specs.Prelude.{◌≡◌, ◌+◌, ◌<◌};
 ghost use Rattle.format.specs.Limits.{max_lines, max_turns};
