@@ -51,12 +51,7 @@ fn compare_stored(nodes: &[u8], sizes: &[u8], scratch: &mut [u8]) -> Decision
 }
 
 // The decision on the two terms that the digits write.
-pub fn compare_terms(
-    sheet: &[u8],
-    known: Known,
-    digits: Span,
-    scratch: &mut [u8],
-) -> Decision
+pub fn compare_terms(sheet: &[u8], known: Known, digits: Span, scratch: &mut [u8]) -> Decision
     requires pair_in { (s : Term) × (t : Term) × PairIn sheet.now (known_arities known) digits.from digits.end s t }
     requires roomy { Roomy known × (scratch_bytes ≤ length scratch.old) }
     ensures value { (s t : Term) → PairIn sheet.now (known_arities known) digits.from digits.end s t → result ≡ decision s t }
