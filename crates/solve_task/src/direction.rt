@@ -78,12 +78,5 @@ pub fn direction_named<C: DirectedCall>(
     let Some(direction) = Direction::from_number(direction) else {
         return refusal_number(Refusal::AbsentArgument, 0);
     };
-    direction_found::<C>(
-        sheet,
-        known,
-        equation as usize,
-        direction,
-        table,
-        scratch,
-    )
+    direction_found::<C>(sheet, known, equation as usize, direction, table, scratch)
 }
