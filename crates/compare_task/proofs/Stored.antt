@@ -14,14 +14,10 @@ use Rattle.cells.specs.ForContracts.Cells.{BothGround, SettledCells}
 use Rattle.cells.specs.Theory.Nodes.{ground_denotes}
 use Rattle.cells.specs.Theory.Stored.{ground_row_denotes}
 use Rattle.cells.specs.Theory.Cells.{none_ready, zero_bytes}
-use Rattle.scanning.specs.declared.known.Known.{Known}
-use Rattle.scanning.specs.ForContracts.Scan.{known_arities}
-use Rattle.scanning.specs.ForContracts.Known.{Roomy}
-use Rattle.scanning.specs.Theory.Arities.{arities_taken}
 use Rattle.reading.specs.ForContracts.Loading.{Loaded}
 use Rattle.outcomes.specs.Buffer.{filled, cleared}
 use Rattle.outcomes.specs.Theory.Fill.{cleared_behind}
-use Rattle.compare_task.specs.ForContracts.Comparison.{PairIn, PairLoaded}
+use Rattle.compare_task.specs.ForContracts.Comparison.{PairLoaded}
 
 -- Two terms stand, the first at the subject's first node and the second at `second`, whatever the variables stand for.
 pub record TwoAt (nodes sizes : List ℕ) (s t : Term) (second : ℕ) : Type 0 where

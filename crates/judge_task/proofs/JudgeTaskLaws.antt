@@ -8,7 +8,6 @@ use lib.ListN.{length, take, drop}
 use native.Mathlib.Omega.{arith}
 use Rattle.format.specs.Limits.{no_position, max_text, max_equations, table_bytes, scratch_bytes}
 use Rattle.format.specs.Lists.{entry}
-use Rattle.format.specs.declared.refusal.Refusal.{Refusal}
 use Rattle.format.specs.declared.refusal.Refusal.TheVariants.{AbsentArgument as absent_argument}
 use Rattle.format.specs.Theory.Lists.{entry_none, every_entry}
 use Rattle.format.specs.Theory.Behind.{behind_more}

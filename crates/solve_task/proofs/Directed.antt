@@ -1,5 +1,5 @@
 -- Calls that ask for an equation in a direction: the equation that is found, what such a call earns, and what a walk leaves in scratch.
-use Prim.Native.Nat.{ℕ, zero, suc, ◌≤◌, ◌<◌}
+use Prim.Native.Nat.{ℕ, ◌≤◌, ◌<◌}
 use mathlib.Core.Path.{◌≡◌, refl, sym, ap, subst, ◌∙◌}
 use mathlib.Core.Option.{Option, none, some}
 use mathlib.Core.List.{List}
@@ -28,7 +28,6 @@ use Rattle.outcomes.specs.Asked.{found, find, asked, Directed, directed_in, dire
 use Rattle.outcomes.specs.Outcome.{TableOutcome, directed_answer}
 use Rattle.outcomes.specs.Theory.Outcomes.{table_outcome, directed_answered}
 use Rattle.outcomes.specs.Theory.Fill.{cleared_behind}
-use Rattle.solve_equation.specs.Theory.Equation.{some_direction}
 use Rattle.solve_equation.specs.ForContracts.Equation.{EquationIs, HasEquation}
 use Rattle.walking.specs.ForContracts.Walking.{memory_bytes}
 

@@ -3,7 +3,6 @@ use mathlib.Core.Path.{refl}
 use Rattle.format.specs.Limits.{node_count}
 use Rattle.cells.specs.Theory.Cells.{symbols_zero}
 use Rattle.scanning.specs.Theory.Arities.{symbols_room}
-use Rattle.compare_task.proofs.Stored.{pair_loaded}
 use Rattle.compare_task.proofs.compare.compare_terms.Goals as goal
 
 pub symbol_arities-requires : goal.symbol_arities-requires
@@ -13,14 +12,3 @@ pub load_terms-requires : goal.load_terms-requires
 load_terms-requires c =
     let (s, t, p) = c.requires.pair_in in
     rw c.symbol_arities.ensures (record { has_terms_in = record { terms = _; are = p }; nodes_len = (refl, refl, symbols_zero node_count) })
-
-pub compare_stored-requires : goal.compare_stored-requires
-compare_stored-requires c =
-    let (s, t, p) = c.requires.pair_in in
-    let loaded = rw c.symbol_arities.ensures at c.load_terms.ensures in
-    record { pair_loaded = (s, t, pair_loaded (loaded _ p)); scratch_bytes_in_bounds = c.requires.roomy.1 }
-
-pub returns : goal.returns
-returns c =
-    let loaded = rw c.symbol_arities.ensures at c.load_terms.ensures in
-    record { value = λ s t p. c.compare_stored.ensures.value s t (pair_loaded (loaded _ p)); scratch_after = c.compare_stored.ensures.scratch_after }

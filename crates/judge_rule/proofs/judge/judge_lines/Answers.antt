@@ -10,9 +10,6 @@ use Rattle.rules.specs.Theory.Rows.{rule_row}
 use Rattle.step_try.specs.Theory.Front.{equations_room, lengths_room, nodes_fronted, sizes_fronted}
 use Rattle.judge_rule.proofs.judge.judge_lines.Goals as goal
 
-pub overflow_add-n : goal.overflow_add-n
-overflow_add-n c = let l = c.requires.0.is.loaded in omega (arith, l.counted, l.few_nodes)
-
 pub place_values-requires : goal.place_values-requires
 place_values-requires c = (has_values c.requires.0.is (position_count + c.args.n) refl, refl)
 

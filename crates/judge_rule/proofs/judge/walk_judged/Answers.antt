@@ -3,25 +3,13 @@ use Prim.Native.Nat.{ℕ, ◌+◌}
 use mathlib.Core.Path.{sym, subst, ◌∙◌}
 use mathlib.Core.List.{List}
 use native.Mathlib.Omega.{arith}
-use Rattle.judge_rule.proofs.JudgeLaws.{Judging, judging_start, judging_done, judging_refused, judging_records, judging_passed, judging_kept, never_full}
+use Rattle.judge_rule.proofs.JudgeLaws.{Judging, judging_done, judging_refused, judging_records, judging_passed, judging_kept, never_full}
 use Rattle.rules.specs.Theory.Rows.{rule_there}
 use Rattle.judge_rule.proofs.judge.walk_judged.Goals as goal
 use Rattle.judge_rule.proofs.judge.walk_judged.Goals.{then-rule-judged+in-Some, then-rule-judged+in_default, else-rule-judged}
 
-pub overflow_add-rules : goal.overflow_add-rules
-overflow_add-rules c = let has = c.requires.0 in omega (arith, has.counted, has.are.few)
-
-pub loop-rule-init : goal.loop-rule-init
-loop-rule-init c = judging_start _ _ _ _ _ _
-
 pub walk_rule-requires : goal.walk_rule-requires
 walk_rule-requires c = let k = c.loop-rule.invariant in (rule_there c.requires.0 c.loop-rule-test.true, omega (arith, k.scratch_length, c.requires.2))
-
-pub shape_of-table-in-Err : goal.shape_of-table-in-Err
-shape_of-table-in-Err c = c.loop-rule.invariant.table_length
-
-pub shape_of-scratch-in-Err : goal.shape_of-scratch-in-Err
-shape_of-scratch-in-Err c = c.walk_rule.auto.scratch ∙ c.loop-rule.invariant.scratch_length
 
 pub returns-in-Err : goal.returns-in-Err
 returns-in-Err c =
@@ -54,12 +42,6 @@ loop-rule-preserved c =
           subst (λ t. Next t c.if-rule-judged.end) (sym w.table-is) (subst (Next c.loop-rule.table) (sym w.end-is)
           (judging_passed k c.requires.0 there c.walk_rule.ensures.by_index solves length-kept c.walk_rule.ensures.scratch_unchanged w.if-rule-judged.false))
     ]
-
-pub shape_of-table : goal.shape_of-table
-shape_of-table c = c.loop-rule.invariant.table_length
-
-pub shape_of-scratch : goal.shape_of-scratch
-shape_of-scratch c = c.loop-rule.invariant.scratch_length
 
 pub returns : goal.returns
 returns c = let k = c.loop-rule.invariant in record { by_index = judging_done k c.loop-rule-test.false; table_unchanged = k.table_behind; scratch_unchanged = k.scratch_behind }

@@ -1,26 +1,14 @@
 -- `judge_found` walks every rule, judges the values by the lines of one, and leaves the lent buffers blank.
 use mathlib.Core.Path.{◌∙◌}
 use native.Mathlib.Omega.{arith}
-use Rattle.judge_task.proofs.JudgeTaskLaws.{walk_behind, left_over, rows_has, judged_has, judgement_told}
+use Rattle.judge_task.proofs.JudgeTaskLaws.{walk_behind, left_over, judged_has, judgement_told}
 use Rattle.judge_task.proofs.task.judge_found.Goals as goal
-
-pub walk_judged-judged-requires : goal.walk_judged-judged-requires
-walk_judged-judged-requires c =
-    (rows_has c.requires.0.is c.store_equations.new.equations c.store_equations.new.lengths c.store_equations.ensures, c.requires.1, omega (arith, c.requires.2))
 
 pub judge_walked-number-requires : goal.judge_walked-number-requires
 judge_walked-number-requires c = (
   judged_has c.requires.0.is c.store_equations.new.equations c.store_equations.new.lengths c.store_equations.ensures c.walk_judged-judged.new.table c.walk_judged-judged.result c.walk_judged-judged.ensures.by_index,
   omega (arith, c.walk_judged-judged.auto.scratch, c.requires.2),
 )
-
-pub fill-requires : goal.fill-requires
-fill-requires c =
-    omega (arith, c.walk_judged-judged.auto.table, c.requires.1)
-
-pub fill-requires-2 : goal.fill-requires-2
-fill-requires-2 c =
-    omega (arith, c.judge_walked-number.auto.scratch, c.walk_judged-judged.auto.scratch, c.requires.2)
 
 pub returns : goal.returns
 returns c task j =

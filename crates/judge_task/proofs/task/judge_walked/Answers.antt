@@ -1,7 +1,7 @@
 -- `judge_walked` gives the number that judge returns, by what the walks gave.
 use mathlib.Core.Path.{refl}
 use native.Mathlib.Omega.{arith}
-use Rattle.judge_task.proofs.JudgeTaskLaws.{refused_fits, refused_told, values_has, line_low, none_told, some_told}
+use Rattle.judge_task.proofs.JudgeTaskLaws.{refused_fits, refused_told, line_low, none_told, some_told}
 use Rattle.judge_task.proofs.task.judge_walked.Goals as goal
 
 pub overflow_add-stopped : goal.overflow_add-stopped
@@ -9,9 +9,6 @@ overflow_add-stopped c = let low = refused_fits c.requires.0.are c.in-Err.is in 
 
 pub refusal_number-requires : goal.refusal_number-requires
 refusal_number-requires c = refused_fits c.requires.0.are c.in-Err.is
-
-pub judge_values-requires : goal.judge_values-requires
-judge_values-requires c = (values_has c.requires.0.are c.in-Ok.is, c.requires.1)
 
 pub overflow_cast-line : goal.overflow_cast-line
 overflow_cast-line c = omega (arith, line_low c.requires.0.are c.in-Ok.is c.judge_values.ensures.by_index c.in-Some.is)

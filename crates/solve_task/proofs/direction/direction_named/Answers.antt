@@ -7,6 +7,3 @@ returns-then-known-equation g c = equation_absent _ _ _ _ _ _ _ c.requires.accep
 
 pub returns-in_default : goal.returns-in_default
 returns-in_default g c = direction_absent _ _ _ _ _ _ _ c.requires.accepts c.if-known-equation.false (rw c.in_default.is at c.from_number.ensures) c.refusal_number-in_default.ensures
-
-pub returns : goal.returns
-returns g c = c.direction_found.ensures c.args.direction (rw c.in-Some.is at c.from_number.ensures)

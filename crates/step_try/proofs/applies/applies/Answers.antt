@@ -9,9 +9,6 @@ use Rattle.step_try.proofs.TryLaws.{applies_told, applies_not}
 use Rattle.step_try.specs.Theory.Parts.{side_part}
 use Rattle.step_try.proofs.applies.applies.Goals as goal
 
-pub sides_of-sides-requires : goal.sides_of-sides-requires
-sides_of-sides-requires c = let has = c.requires.has_try in record { equations = _; arities = _; number = _; equation = _; direction = _; is = has.is.rule_is }
-
 pub match_side-requires : goal.match_side-requires
 match_side-requires c =
     let has = c.requires.has_try in
