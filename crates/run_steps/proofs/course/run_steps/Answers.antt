@@ -103,16 +103,6 @@ put_step-requires c =
     let room : 3 * c.loop-rule.steps + 3 ≤ length c.loop-rule.log = omega (arith, inv.within, inv.log_length, c.requires.table_bytes_in_bounds.2, c.requires.table_bytes_in_bounds.3, c.if-steps-limit.false) in
     (omega (arith, room), omega (arith, rule_byte h next), omega (arith, (position_byte h next).1))
 
-pub overflow_add-steps : goal.overflow_add-steps
-overflow_add-steps c =
-    let inv = c.loop-rule.invariant in
-    omega (arith, inv.within, c.requires.table_bytes_in_bounds.3)
-
-pub loop-rule-smaller : goal.loop-rule-smaller
-loop-rule-smaller c =
-    let inv = c.loop-rule.invariant in
-    omega (arith, inv.within, c.if-steps-limit.false)
-
 pub loop-rule-preserved : goal.loop-rule-preserved
 loop-rule-preserved c =
     let inv = c.loop-rule.invariant in

@@ -3,13 +3,8 @@ use mathlib.Core.Path.{refl, sym}
 use native.Mathlib.Omega.{arith}
 use Rattle.format.specs.Limits.{node_count}
 use Rattle.cells.specs.Theory.Cells.{symbols_zero}
-use Rattle.run_term.proofs.RunTermLaws.{term_symbols_room, rules_have, terms_have, loaded_fits, run_is, course_known, course_small, course_front, course_ran}
+use Rattle.run_term.proofs.RunTermLaws.{term_symbols_room, terms_have, run_is, course_known, course_small, course_front, course_ran}
 use Rattle.run_term.proofs.term.run_course.Goals as goal
-
-pub prepare_next-requires : goal.prepare_next-requires
-prepare_next-requires c =
-    let has = c.requires.has_run_term.0 in
-    record { has_rules_kept = λ e. rules_have has.is refl c.args.asked.opened.fits c.args.table.now has.ready e; next_len = refl }
 
 pub symbol_arities-arities-requires : goal.symbol_arities-arities-requires
 symbol_arities-arities-requires c = term_symbols_room c.requires.has_run_term.0.is refl
@@ -18,10 +13,6 @@ pub load_terms-size-requires : goal.load_terms-size-requires
 load_terms-size-requires c =
     record { has_terms_in = terms_have c.requires.has_run_term.0.is (sym c.symbol_arities-arities.ensures); nodes_len = (refl, refl, symbols_zero node_count) }
 
-pub put_filling-requires : goal.put_filling-requires
-put_filling-requires c =
-    loaded_fits c.requires.has_run_term.0.is (sym c.symbol_arities-arities.ensures) c.load_terms-size.ensures
-
 pub run_steps-course-requires : goal.run_steps-course-requires
 run_steps-course-requires c =
     let has = c.requires.has_run_term.0 in
@@ -29,12 +20,6 @@ run_steps-course-requires c =
       run_is = (has.those, has.subject, run_is has.is (sym c.symbol_arities-arities.ensures) _ _ _ _ _ _ _ _ has.ready c.prepare_next.ensures c.load_terms-size.ensures c.put_filling.ensures);
       table_bytes_in_bounds = (c.requires.table_bytes_in_bounds.0, c.requires.table_bytes_in_bounds.1, c.requires.table_bytes_in_bounds.3, c.requires.has_run_term.1);
     }
-
-pub slice_bounds-copy_front-end : goal.slice_bounds-copy_front-end
-slice_bounds-copy_front-end c =
-    let has = c.requires.has_run_term.0 in
-    let course = c.run_steps-course.ensures.course_is has.those has.subject (run_is has.is (sym c.symbol_arities-arities.ensures) _ _ _ _ _ _ _ _ has.ready c.prepare_next.ensures c.load_terms-size.ensures c.put_filling.ensures) in
-    omega (arith, course.last_is.nodes_length)
 
 pub copy_front-requires : goal.copy_front-requires
 copy_front-requires c =

@@ -89,10 +89,5 @@ loop-i-preserved c =
           (value_put p c.loop-i-test.true w.if-byte-lt-FIRST_VARIABLE.false w.from-node.result w.from-size.result w.copy_front.new.to (rw (← w.from.ensures) w.from-node.ensures) w.from-size.ensures w.copy_front.ensures)
     ]
 
-pub shape_of-out : goal.shape_of-out
-shape_of-out c =
-    let (arities, t, ρ, is, room) = c.requires in
-    put_length (c.loop-i.invariant arities t ρ is) room
-
 pub returns : goal.returns
 returns c = λ arities t ρ s. all_put (c.loop-i.invariant arities t ρ s) c.loop-i-test.false

@@ -9,9 +9,6 @@ use Rattle.step_take.proofs.Written.{end_room}
 use Rattle.step_take.proofs.Result.{bounds, result_size, instance_room, result_put}
 use Rattle.step_take.proofs.part.put_result.Goals as goal
 
-pub overflow_sub-p : goal.overflow_sub-p
-overflow_sub-p c = (bounds c.requires.5).low
-
 pub copy_front-requires : goal.copy_front-requires
 copy_front-requires c =
     let at = c.args.node - position_count in
@@ -27,12 +24,6 @@ slice_bounds-put_instance-start c = slice_bounds-put_instance-count c
 pub put_instance-new-requires : goal.put_instance-new-requires
 put_instance-new-requires c =
     (c.requires.0, c.requires.2, c.requires.3, c.requires.5.instance_is, end_room c.copy_front.new.to (c.args.node - position_count) (size (inst c.requires.3 c.requires.2)) (omega (arith, c.copy_front.auto.to, instance_room c.requires.5, c.requires.6)))
-
-pub bounds-sizes-node : goal.bounds-sizes-node
-bounds-sizes-node c = let b = bounds c.requires.5 in omega (arith, b.low, b.inside, b.few, b.sizes_length)
-
-pub overflow_add-node : goal.overflow_add-node
-overflow_add-node c = let b = bounds c.requires.5 in omega (arith, b.inside, b.few, c.from-old.ensures, c.type_inv.sizes c.args.node)
 
 pub slice_bounds-copy_front-count-2 : goal.slice_bounds-copy_front-count-2
 slice_bounds-copy_front-count-2 c = let b = bounds c.requires.5 in omega (arith, b.low, b.inside, b.few, b.nodes_length, c.from-old.ensures)
@@ -51,9 +42,6 @@ slice_bounds-copy_front-count-3 c =
 
 pub slice_bounds-copy_front-start-3 : goal.slice_bounds-copy_front-start-3
 slice_bounds-copy_front-start-3 c = slice_bounds-copy_front-count-3 c
-
-pub overflow_sub-n : goal.overflow_sub-n
-overflow_sub-n c = omega (arith, (bounds c.requires.5).inside)
 
 pub overflow_sub-n-2 : goal.overflow_sub-n-2
 overflow_sub-n-2 c = omega (arith, (bounds c.requires.5).inside, c.from-old.ensures)

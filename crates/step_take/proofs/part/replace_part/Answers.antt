@@ -2,25 +2,14 @@
 use Prim.Native.Nat.{◌+◌, ◌-◌}
 use mathlib.Core.Path.{◌≡◌, refl}
 use native.Mathlib.Omega.{arith}
-use Rattle.format.specs.Limits.{position_count}
 use Rattle.terms.specs.Term.{size as width, inst}
 use Rattle.terms.specs.Position.{replace}
-use Rattle.step_take.proofs.Written.{end_room}
 use Rattle.step_take.proofs.Result.{bounds, result_size}
 use Rattle.step_take.proofs.Placing.{ground_result, result_measurable, result_subject}
 use Rattle.step_take.proofs.part.replace_part.Goals as goal
 
-pub bounds-sizes-node : goal.bounds-sizes-node
-bounds-sizes-node c = let b = bounds c.requires.is in omega (arith, b.low, b.inside, b.few, b.sizes_length)
-
-pub instance_size-new-requires : goal.instance_size-new-requires
-instance_size-new-requires c = record { arities = c.args.arities.now; term = c.requires.term; assigned = c.requires.assigned; is = c.requires.is.instance_is }
-
 pub overflow_sub-size : goal.overflow_sub-size
 overflow_sub-size c = omega (arith, (bounds c.requires.is).inside, c.from-old.ensures)
-
-pub overflow_add-size : goal.overflow_add-size
-overflow_add-size c = omega (arith, (bounds c.requires.is).few, c.instance_size-new.ensures.upper_bound)
 
 pub returns-then-size-gt-TASK_NODES : goal.returns-then-size-gt-TASK_NODES
 returns-then-size-gt-TASK_NODES c =
@@ -33,12 +22,6 @@ put_result-requires c =
     let old = c.from-old.ensures in
     let room = c.if-size-gt-TASK_NODES.false in
     (c.args.arities.now, c.requires.subject, c.requires.term, c.requires.assigned, c.requires.position, c.requires.is, omega (arith, c.instance_size-new.ensures.by_index _ _ _ c.requires.is.instance_is, result_size c.requires.is))
-
-pub copy_front-requires : goal.copy_front-requires
-copy_front-requires c =
-    let room = c.if-size-gt-TASK_NODES.false in
-    let b = bounds c.requires.is in
-    (omega (arith, c.put_result.auto.res), end_room c.args.nodes.now position_count (c.args.n - c.from-old.result + c.instance_size-new.result) (omega (arith, b.nodes_length)))
 
 pub measure-requires : goal.measure-requires
 measure-requires c =

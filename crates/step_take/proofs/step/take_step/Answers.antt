@@ -5,10 +5,6 @@ use Rattle.reducing.specs.ForContracts.Part.{part_at}
 use Rattle.step_take.proofs.StepLaws.{source_part, matches_again, replacement, step_replaced}
 use Rattle.step_take.proofs.step.take_step.Goals as goal
 
-pub sides_of-sides-requires : goal.sides_of-sides-requires
-sides_of-sides-requires c =
-    record { equations = c.args.rows.now.equations.now; arities = c.args.arities.now; number = c.requires.number; equation = c.requires.equation; direction = c.requires.direction; is = c.requires.is.rule_is }
-
 pub match_side-requires : goal.match_side-requires
 match_side-requires c =
     let (x, y) = c.sides_of-sides.ensures c.args.rows.now.equations.now c.args.arities.now c.requires.number c.requires.equation c.requires.direction c.requires.is.rule_is in
