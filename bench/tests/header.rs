@@ -142,14 +142,16 @@ fn upper(camel: &str) -> String {
     name
 }
 
-/// The refusals of the library, `Refusal::FrameOrder => 3,`, by the header's names.
+/// The refusals of the library, `FrameOrder = 3,`, by the header's names.
 fn library_refusals() -> Vec<(String, u64)> {
     let text = read("crates/format/src/refusal.rt");
-    let arms = text.lines().filter_map(|line| line.trim().strip_prefix("Refusal::")?.split_once(" => "));
+    let (_, variants) = text.split_once("pub enum Refusal {").expect("the enum");
+    let (variants, _) = variants.split_once('}').expect("its end");
+    let variants = variants.lines().filter_map(|line| line.trim().split_once(" = "));
     let named = |(name, number): (&str, &str)| {
         (format!("NEBLINARO_{}", upper(name)), number.trim_end_matches(',').parse().expect("a number"))
     };
-    arms.map(named).collect()
+    variants.map(named).collect()
 }
 
 #[test]
