@@ -7,5 +7,8 @@ pub fn copy_front(from: &[u8], to: &mut [u8], n: usize)
     requires { (n ≤ length from.now) × (n ≤ length to.old) }
     ensures { to.new ≡ written (take n from.now) to.old }
 {
-    to[..n].copy_from_slice(&from[..n]);
+    // Not `copy_from_slice`, whose raw pointers may overlap for all that the compiler knows: it then calls `memmove`.
+    for i in 0..n {
+        to[i] = from[i];
+    }
 }

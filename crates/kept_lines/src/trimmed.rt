@@ -29,7 +29,10 @@ fn copy_line(records: &[u8], from: usize, n: usize, table: &mut [u8], to: usize)
     requires { (from + n ≤ length records.now) × (to + n ≤ length table.old) }
     ensures { table.new ≡ placed to (slice from (from + n) records.now) table.old }
 {
-    table[to..to + n].copy_from_slice(&records[from..from + n]);
+    // Not `copy_from_slice`, for the reason that `copy_front` gives.
+    for i in 0..n {
+        table[to + i] = records[from + i];
+    }
 }
 
 // Keeps lines whose records stand first in `records`, from `start` on, and tells where they end; none where there is no room for them.

@@ -12,7 +12,10 @@ pub fn load(records: &[u8], at: usize, line: &mut [u8])
     requires { (at + line_bytes ≤ length records.now) × (length line.old ≡ line_bytes) }
     ensures { line.new ≡ slice at (at + line_bytes) records.now }
 {
-    line.copy_from_slice(&records[at..at + LINE]);
+    // Not `copy_from_slice`, for the reason that `copy_front` (format) gives.
+    for i in 0..LINE {
+        line[i] = records[at + i];
+    }
 }
 
 // Puts the line at `at`.
@@ -20,7 +23,10 @@ pub fn store(line: &[u8], records: &mut [u8], at: usize)
     requires { (at + line_bytes ≤ length records.old) × (length line.now ≡ line_bytes) }
     ensures { records.new ≡ placed at line.now records.old }
 {
-    records[at..at + LINE].copy_from_slice(line);
+    // Not `copy_from_slice`, for the reason that `copy_front` (format) gives.
+    for i in 0..LINE {
+        records[at + i] = line[i];
+    }
 }
 
 // Puts two bytes at `at`.

@@ -1,14 +1,16 @@
--- `copy_line` copies bytes.
-use Prim.Native.Nat.{◌+◌}
-use mathlib.Core.Path.{◌∙◌}
-use lib.Seq.{slice}
-use Rattle.std.proofs.lemmas.Slice.{between_is}
+-- Goals of `copy_line`.
 use native.Mathlib.Omega.{arith}
-use Rattle.line_bytes.specs.Theory.Placed.{part_placed}
-use Rattle.kept_lines.proofs.Parts.{length_part}
+use Rattle.line_bytes.specs.Theory.Placed.{storing_start, storing_next, storing_done, storing_length}
+use Rattle.kept_lines.proofs.Parts.{get_or_slice, length_part}
 use Rattle.kept_lines.proofs.trimmed.copy_line.Goals as goal
 
+pub bounds-table-to : goal.bounds-table-to
+bounds-table-to c = omega (arith, storing_length c.loop-i.invariant, c.loop-i.invariant.room)
+
+pub loop-i-preserved : goal.loop-i-preserved
+loop-i-preserved c =
+    let h = c.loop-i-test.true in
+    rw (← get_or_slice c.args.from c.args.n c.loop-i.i c.args.records.now h) (storing_next c.loop-i.invariant h)
+
 pub returns : goal.returns
-returns c =
-    let e = between_is c.args.records.now c.args.from (c.args.from + c.args.n) in
-    part_placed _ _ _ (slice c.args.from (c.args.from + c.args.n) c.args.records.now) _ (c.copy_from_slice.ensures.after ∙ e) (omega (arith, length_part c.args.from c.args.n c.args.records.now c.requires.0))
+returns c = storing_done c.loop-i.invariant c.loop-i-test.false

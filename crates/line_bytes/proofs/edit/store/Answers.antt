@@ -1,7 +1,13 @@
--- `store` puts a line into the memory.
-use Rattle.std.proofs.Common.{arith}
-use Rattle.line_bytes.specs.Theory.Placed.{part_placed}
+-- Goals of `store`.
+use native.Mathlib.Omega.{arith}
+use Rattle.line_bytes.specs.Theory.Placed.{storing_start, storing_next, storing_done, storing_length}
 use Rattle.line_bytes.proofs.edit.store.Goals as goal
 
+pub bounds-records-at : goal.bounds-records-at
+bounds-records-at c = omega (arith, storing_length c.loop-i.invariant, c.loop-i.invariant.room)
+
+pub loop-i-preserved : goal.loop-i-preserved
+loop-i-preserved c = storing_next c.loop-i.invariant c.loop-i-test.true
+
 pub returns : goal.returns
-returns c = part_placed _ _ _ _ _ c.copy_from_slice.ensures.after (omega (arith, c.requires.1))
+returns c = storing_done c.loop-i.invariant c.loop-i-test.false
