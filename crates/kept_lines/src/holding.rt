@@ -139,7 +139,8 @@ fn line_holds(
         && elements_hold(table, at + FIRST_ELEMENT, end, compared, ready, cells)
 }
 
-// The first of the kept lines that holds, counted from 1.
+// The first of the kept lines that holds, counted from 1. Compiled into its callers, which have the parts of `compared` at hand: a run tests lines at each match.
+#[inline(always)]
 pub fn first_holding(
     table: &[u8],
     lines: KeptLines,

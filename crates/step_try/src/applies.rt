@@ -12,6 +12,7 @@ ghost use Rattle.step_try.specs.ForContracts.Trying.{Settled, TryIs, HasTry, App
 
 use cells::settled::clear;
 use comparing::comparison::Compared;
+use format::copy::copy_front;
 use format::limits::Limits;
 use kept_lines::holding::first_holding;
 use kept_lines::trimmed::KeptLines;
@@ -26,12 +27,14 @@ pub struct KeptRule {
     pub lines: KeptLines,
 }
 
-// The first row of `from` stands first in `to`.
+// The first row of `from` stands first in `to`. It goes by way of an array that overlaps neither, so that the compiler need not copy byte by byte.
 fn load_row(from: &[u8], to: &mut [u8])
     requires { (position_count ≤ length from.now) × (position_count ≤ length to.old) }
     ensures { to.new ≡ written (take position_count from.now) to.old }
 {
-    to[..Limits::POSITIONS].copy_from_slice(&from[..Limits::POSITIONS]);
+    let mut row = [0u8; Limits::POSITIONS];
+    copy_front(from, &mut row, Limits::POSITIONS);
+    copy_front(&row, to, Limits::POSITIONS);
 }
 
 // Whether one of the kept lines holds at the match. The equation's row is loaded before the subject, so that no row of cells of its nodes is ready; the cells of pairs of subject nodes stay settled.
