@@ -18,7 +18,7 @@ use Rattle.scanning.specs.declared.known.Known.{Known}
 use Rattle.sheet.specs.Sheet.{width, widths, equation_width}
 use Rattle.sheet.specs.Frame.{scan, all_read, scan_sides, first_term, second_term, equation_body}
 use Rattle.scanning.specs.ForContracts.Digits.{bytes_between, span_bytes}
-use Rattle.scanning.specs.ForContracts.Scan.{known_arities, widest, FrameReady, ScanTo, WholeScan, EquationGiven}
+use Rattle.scanning.specs.ForContracts.Scan.{known_arities, widest, FrameReady, ScanRead, WholeScan, EquationGiven}
 use Rattle.scanning.specs.Theory.Listed.{length_listed}
 use Rattle.scanning.specs.Theory.Between.{between_end, first_byte}
 use Rattle.sheet.specs.Theory.Frame.{equation_given}
@@ -32,7 +32,7 @@ module _ (text : List ℕ) (d : Span) (arities : List ℕ) (w : Wanted) where
   unfolding all_read
   refused_read e ts = ap (all_read ts) e
 
-  module _ (r : Scanned) (g : ScanTo text d arities w r) where
+  module _ (r : Scanned) (g : ScanRead text d arities w (Ok r)) where
     pub done_whole : r.at ≡ d.end → scan_result ≡ give []
     done_whole h = g.given ∙ ap give (between_end text r.at d.end (omega arith))
 
@@ -106,7 +106,7 @@ abbrev pub one_side : ℕ → Wanted
 one_side width = record { terms = 1; nodes = max_side_nodes; is_ground = false; width = width }
 
 pub equation_read : (text : List ℕ) (d : Span) (k : Known) → FrameReady text d k → {v : Wanted} → v ≡ one_side 0 → (l : Scanned)
-    → ScanTo text d (known_arities k) v l
+    → ScanRead text d (known_arities k) v (Ok l)
     → {w : Wanted} → w ≡ one_side l.width → (r : Outcome ℕ Refusal) → WholeScan (known_arities k) (bytes_between text l.at d.end) w r
     → EquationGiven (known_arities k) (span_bytes text d) r
 equation_read text d k f {v} a l g {w} b r h = go r (subst (λ w. WholeScan (known_arities k) (bytes_between text l.at d.end) w r) b h)
@@ -114,8 +114,8 @@ equation_read text d k f {v} a l g {w} b r h = go r (subst (λ w. WholeScan (kno
     few : length (known_arities k) ≤ max_symbols
     few = omega (arith, length_listed k.symbols k.arities, f.few_symbols)
 
-    side : ScanTo text d (known_arities k) (one_side 0) l
-    side = subst (λ v. ScanTo text d (known_arities k) v l) a g
+    side : ScanRead text d (known_arities k) (one_side 0) (Ok l)
+    side = subst (λ v. ScanRead text d (known_arities k) v (Ok l)) a g
 
     go : (o : Outcome ℕ Refusal) → WholeScan (known_arities k) (bytes_between text l.at d.end) (one_side l.width) o
         → EquationGiven (known_arities k) (span_bytes text d) o

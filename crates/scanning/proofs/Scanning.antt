@@ -130,28 +130,23 @@ module _ (text : List ℕ) (d : Span) (arities : List ℕ) (w : Wanted) where
     behind = bytes_between text (at + 2) d.end
 
     abbrev Stops : Refusal → Type 0
-    Stops x = ScanRead text d arities w (Err x)
+    Stops x = ScanRead text d arities w (Err (record { why = x; read = record { at = at; width = highest } }))
 
     -- It stops with what the rest gives.
-    scanning_stop : (x : Refusal) → scan arities w.is_ground rest need room ≡ refuse x → Stops x
+    scanning_stop : (told : Result (List ℕ)) → scan arities w.is_ground rest need room ≡ told → ScanTo text d arities w told (record { at = at; width = highest })
     unfolding rest
-    scanning_stop x e = g.same ∙ e
+    scanning_stop told e = record { given = g.same ∙ e; behind = g.body; widths = g.widths; low_width = g.low }
 
-    pub stop_done : need ≤ 0 → ScanTo text d arities w (record { at = at; width = highest })
+    pub stop_done : need ≤ 0 → ScanRead text d arities w (Ok (record { at = at; width = highest }))
     unfolding rest
     stop_done h =
         let e : need ≡ 0 = omega arith in
-        record {
-          given = g.same ∙ ap (λ n. scan arities w.is_ground rest n room) e ∙ scan_none arities w.is_ground rest room;
-          behind = g.body;
-          widths = g.widths;
-          low_width = g.low;
-        }
+        scanning_stop (give rest) (ap (λ n. scan arities w.is_ground rest n room) e ∙ scan_none arities w.is_ground rest room)
 
     pub stop_early : at ≡ d.end → 0 < need → Stops FrameBytes
     unfolding rest
     stop_early e h =
-        scanning_stop FrameBytes
+        scanning_stop (refuse FrameBytes)
         (ap (λ bs. scan arities w.is_ground bs need room) (between_end text at d.end (omega arith)) ∙ scan_early arities w.is_ground need room h)
 
     module _ (more : at ≡ d.end → ⊥) where
@@ -167,12 +162,12 @@ module _ (text : List ℕ) (d : Span) (arities : List ℕ) (w : Wanted) where
 
       module _ (some_need : 0 < need) where
         pub stop_full : room ≡ 0 → Stops FrameBytes
-        stop_full e = scanning_stop FrameBytes (cc (is_cons, e, scan_full arities w.is_ground (pair_at text at) behind need some_need))
+        stop_full e = scanning_stop (refuse FrameBytes) (cc (is_cons, e, scan_full arities w.is_ground (pair_at text at) behind need some_need))
 
         module _ (some_room : room ≡ 0 → ⊥) where
           pub stop_refused : (x : Refusal) → after_node arities w.is_ground (class_of (pair_at text at)) (need - 1) ≡ refuse x → Stops x
           stop_refused x e =
-              scanning_stop x (cc (is_cons, scan_refused arities w.is_ground (pair_at text at) behind need room x some_need (omega arith) e))
+              scanning_stop (refuse x) (cc (is_cons, scan_refused arities w.is_ground (pair_at text at) behind need room x some_need (omega arith) e))
 
           pub scanning_next : (n : ℕ) → after_node arities w.is_ground (class_of (pair_at text at)) (need - 1) ≡ give n → n ≤ max_byte + (need - 1)
               → Scanning text d arities w (at + 2) n (room - 1) (max highest (node_width (class_of (pair_at text at))))
@@ -210,7 +205,8 @@ module _ (text : List ℕ) (d : Span) (symbols : ℕ) (xs : List ℕ) (w : Wante
   few : length (listed symbols xs) ≤ b
   few = omega (arith, length_listed symbols xs)
 
-  pub stop_other : {x : Refusal} → ((arities : List ℕ) (n : ℕ) → length arities ≤ b → OtherRead arities w.is_ground b n (Err x)) → ScanRead text d (listed symbols xs) w (Err x)
+  pub stop_other : {x : Refusal} → ((arities : List ℕ) (n : ℕ) → length arities ≤ b → OtherRead arities w.is_ground b n (Err x))
+      → ScanRead text d (listed symbols xs) w (Err (record { why = x; read = record { at = at; width = highest } }))
   stop_other {x} read =
       stop_refused text d (listed symbols xs) w at need room highest g more some_need some_room x
       (rw (← is_byte_lem) (read (listed symbols xs) (need - 1) few))

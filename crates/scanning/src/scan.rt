@@ -1,5 +1,5 @@
 // Terms in a row, byte by byte.
-ghost use Rattle.std.specs.Prelude.{ℕ, ◌≤◌, List, length};
+ghost use Rattle.std.specs.Prelude.{◌≡◌, ℕ, ◌≤◌, List, length};
 ghost use Rattle.scanning.specs.ForContracts.Scan.{known_arities, OtherRead, ScanReady, ScanRead};
 
 use crate::known::Known;
@@ -19,11 +19,26 @@ fn other_node(b: u8, is_ground: bool) -> Result<usize, Refusal>
     }
 }
 
-// Where the terms end, and how many variables there are up to the highest met.
+// Where what is read ends, and how many variables there are up to the highest met.
 #[derive(Clone, Copy)]
 pub struct Scanned {
     pub at: usize,
     pub width: usize,
+}
+
+// Why the terms are refused, and what was read before that.
+#[derive(Clone, Copy)]
+pub struct RefusedScan {
+    pub why: Refusal,
+    pub read: Scanned,
+}
+
+impl From<RefusedScan> for Refusal {
+    ghost from_gives = { λ refused refusal. refusal ≡ refused.why };
+
+    fn from(refused: RefusedScan) -> Refusal {
+        refused.why
+    }
 }
 
 // What is to be read: so many terms, of at most so many nodes together, and whether they are ground. `width` is that of the terms before them.
@@ -35,7 +50,7 @@ pub struct Wanted {
     pub width: usize,
 }
 
-pub fn scan(known: Known, part: SheetPart, wanted: Wanted) -> Result<Scanned, Refusal>
+pub fn scan(known: Known, part: SheetPart, wanted: Wanted) -> Result<Scanned, RefusedScan>
     requires { ScanReady part.sheet.now part.span known.symbols wanted }
     ensures { ScanRead part.entry.sheet.now part.entry.span (known_arities known) wanted result }
 {
@@ -49,12 +64,15 @@ pub fn scan(known: Known, part: SheetPart, wanted: Wanted) -> Result<Scanned, Re
     let mut width = wanted.width;
     // No `for`: how many bytes are read depends on the arities that are met.
     while 0 < need {
+        let read = Scanned { at, width };
         // Two tests: joined by `||`, both results are put into registers, and the check of a long sheet takes 1.05 times as long.
         if at == span.end {
-            return Err(Refusal::FrameBytes);
+            let why = Refusal::FrameBytes;
+            return Err(RefusedScan { why, read });
         }
         if room == 0 {
-            return Err(Refusal::FrameBytes);
+            let why = Refusal::FrameBytes;
+            return Err(RefusedScan { why, read });
         }
         let b = byte_at(sheet, at);
         need -= 1;
@@ -64,7 +82,10 @@ pub fn scan(known: Known, part: SheetPart, wanted: Wanted) -> Result<Scanned, Re
         if b < symbols {
             need += usize::from(arities[b]);
         } else {
-            width = width.max(other_node(b as u8, wanted.is_ground)?);
+            match other_node(b as u8, wanted.is_ground) {
+                Ok(other) => width = width.max(other),
+                Err(why) => return Err(RefusedScan { why, read }),
+            }
         }
     }
     Ok(Scanned { at, width })

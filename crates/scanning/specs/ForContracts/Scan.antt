@@ -11,6 +11,7 @@ use Rattle.format.specs.declared.byte.Class.{Class}
 use Rattle.format.specs.declared.byte.Class.TheVariants.{Symbol as symbol, Variable as variable, Foreign as foreign}
 use Rattle.format.specs.Byte.{class_of}
 use Rattle.scanning.specs.declared.known.Known.{Known}
+use Rattle.scanning.specs.declared.scan.RefusedScan.{RefusedScan}
 use Rattle.scanning.specs.declared.scan.Scanned.{Scanned}
 use Rattle.scanning.specs.declared.scan.Wanted.{Wanted}
 use Rattle.scanning.specs.declared.text.Span.{Span}
@@ -58,17 +59,17 @@ pub record ScanReady (text : List ℕ) (d : Span) (symbols : ℕ) (w : Wanted) :
   pub few_nodes : w.nodes ≤ max_task_nodes
   pub low_width : w.width ≤ variable_count
 
--- Where the scan stands, and the highest variable so far.
-pub record ScanTo (text : List ℕ) (d : Span) (arities : List ℕ) (w : Wanted) (r : Scanned) : Type 0 where
-  pub given : scan arities w.is_ground (span_bytes text d) w.terms w.nodes ≡ give (bytes_between text r.at d.end)
+-- What the scan tells, where it stands, and the highest variable so far.
+pub record ScanTo (text : List ℕ) (d : Span) (arities : List ℕ) (w : Wanted) (told : Result (List ℕ)) (r : Scanned) : Type 0 where
+  pub given : scan arities w.is_ground (span_bytes text d) w.terms w.nodes ≡ told
   pub behind : BodyReady text r.at d.end
   pub widths : max w.width (widest (span_bytes text d)) ≡ max r.width (widest (bytes_between text r.at d.end))
   pub low_width : r.width ≤ variable_count
 
 -- What the scan gives.
-abbrev pub ScanRead : List ℕ → Span → List ℕ → Wanted → Outcome Scanned Refusal → Type 0
-ScanRead text d arities w (Ok r) = ScanTo text d arities w r
-ScanRead text d arities w (Err x) = scan arities w.is_ground (span_bytes text d) w.terms w.nodes ≡ refuse x
+abbrev pub ScanRead : List ℕ → Span → List ℕ → Wanted → Outcome Scanned RefusedScan → Type 0
+ScanRead text d arities w (Ok r) = ScanTo text d arities w (give (bytes_between text r.at d.end)) r
+ScanRead text d arities w (Err r) = ScanTo text d arities w (refuse r.why) r.read
 
 -- The digits are the bytes of a frame's body.
 pub record FrameReady (text : List ℕ) (d : Span) (k : Known) : Type 0 where

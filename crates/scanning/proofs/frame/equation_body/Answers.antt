@@ -6,7 +6,7 @@ use Rattle.scanning.proofs.frame.equation_body.Goals as goal
 pub returns-in_err-left : goal.returns-in_err-left
 returns-in_err-left c =
     let p = err_from_is_err_and c.from_residual.result c.from_residual.ensures.1 in
-    rw (p.1, p.2) (sides_refused _ _ (rw c.side.ensures at c.in_err-left.ensures))
+    rw (p.1, p.2) (sides_refused _ _ (rw c.side.ensures at c.in_err-left.ensures).given)
 
 pub returns : goal.returns
 returns c =

@@ -6,7 +6,7 @@ use Rattle.scanning.proofs.frame.whole_scan.Goals as goal
 pub returns-in_err-scanned : goal.returns-in_err-scanned
 returns-in_err-scanned c =
     let p = err_from_is_err_and c.from_residual.result c.from_residual.ensures.1 in
-    rw (p.1, p.2) (refused_read _ _ _ c.args.wanted c.in_err-scanned.ensures)
+    rw (p.1, p.2) (refused_read _ _ _ c.args.wanted c.in_err-scanned.ensures.given)
 
 pub returns-then-scanned-part : goal.returns-then-scanned-part
 returns-then-scanned-part c =

@@ -1,6 +1,5 @@
 -- Goals of `scan`.
 use Rattle.std.proofs.Common.{arith}
-use Rattle.std.proofs.lemmas.Result.{err_from_is_err_and}
 use Rattle.scanning.proofs.Scanning.{stop_done, stop_early, stop_full, stop_other, next_small, scanning_variable, scanning_declared}
 use Rattle.scanning.proofs.scan.scan.Goals as goal
 
@@ -13,22 +12,20 @@ returns-then-room-eq0 c = stop_full _ _ _ _ c.loop-need.at c.loop-need.need c.lo
 pub loop-need-preserved-then-b-symbols : goal.loop-need-preserved-then-b-symbols
 loop-need-preserved-then-b-symbols c =
     scanning_declared _ _ _ _ _ c.loop-need.at c.loop-need.need c.loop-need.room c.loop-need.width c.loop-need.invariant c.if-at-span.false c.loop-need-test.true c.if-room-eq0.false
-    c.requires.few_symbols c.byte_at-b.ensures c.if-b-symbols.true c.from.ensures (omega arith)
+    c.requires.few_symbols c.byte_at-b.ensures c.if-b-symbols.true c.from-need.ensures (omega arith)
 
 pub overflow_cast-b : goal.overflow_cast-b
 overflow_cast-b c = omega (arith, c.byte_at-b.ensures, next_small _ _ _ _ c.loop-need.at c.loop-need.need c.loop-need.room c.loop-need.width c.loop-need.invariant c.if-at-span.false)
 
-pub returns-in_err-other_node : goal.returns-in_err-other_node
-returns-in_err-other_node c =
-    let p = err_from_is_err_and c.from_residual.result c.from_residual.ensures.1 in
-    rw (p.1, p.2)
-    (stop_other _ _ _ _ _ c.loop-need.at c.loop-need.need c.loop-need.room c.loop-need.width c.loop-need.invariant c.if-at-span.false c.loop-need-test.true c.if-room-eq0.false
-    c.byte_at-b.ensures c.if-b-symbols.false c.in_err-other_node.ensures)
+pub returns-in-Err : goal.returns-in-Err
+returns-in-Err c =
+    stop_other _ _ _ _ _ c.loop-need.at c.loop-need.need c.loop-need.room c.loop-need.width c.loop-need.invariant c.if-at-span.false c.loop-need-test.true c.if-room-eq0.false
+    c.byte_at-b.ensures c.if-b-symbols.false c.in-Err.ensures
 
 pub loop-need-preserved : goal.loop-need-preserved
 loop-need-preserved c =
     scanning_variable _ _ _ _ _ c.loop-need.at c.loop-need.need c.loop-need.room c.loop-need.width c.loop-need.invariant c.if-at-span.false c.loop-need-test.true c.if-room-eq0.false
-    c.byte_at-b.ensures c.if-b-symbols.false c.in_ok-other_node.ensures c.max-width.ensures
+    c.byte_at-b.ensures c.if-b-symbols.false c.in-Ok.ensures c.max-width.ensures
 
 pub returns : goal.returns
 returns c = stop_done _ _ _ _ c.loop-need.at c.loop-need.need c.loop-need.room c.loop-need.width c.loop-need.invariant c.loop-need-test.false
