@@ -48,7 +48,8 @@ fn print_listing<W: Write>(input: &[u8], writer: &mut W) {
         place: Place::Start,
         opened,
     };
-    while !is_end(cursor.place) {
+    // No `while`: that the first piece is asked for at a place that is not the end is proved at the call.
+    loop {
         let listed = next_piece(
             input,
             cursor,
@@ -63,6 +64,9 @@ fn print_listing<W: Write>(input: &[u8], writer: &mut W) {
             return;
         }
         cursor = listed.next;
+        if is_end(cursor.place) {
+            return;
+        }
     }
 }
 

@@ -1,11 +1,14 @@
 -- Goals of `print_listing`.
-use mathlib.Core.Path.{refl}
+use Prim.Native.Nat.{ℕ}
+use mathlib.Core.Path.{◌≡◌, refl}
+use native.Mathlib.Omega.{arith}
 use Rattle.cursor.specs.ForContracts.Stands.{at_start}
 use Rattle.examiner.proofs.print_listing.Goals as goal
 
 pub loop-equations-init : goal.loop-equations-init
 loop-equations-init g c = record {
   stands = at_start;
+  more = λ e. let z : ◌≡◌ {A = ℕ} 0 1 = cc in omega arith;
   equations_room = refl;
   lengths_room = refl;
   bounds_room = refl;
