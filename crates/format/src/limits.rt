@@ -2,6 +2,7 @@
 ghost use Rattle.std.specs.Prelude.{◌≡◌};
 ghost use Rattle.format.specs.Limits.{max_text, max_line_digits, max_symbols, max_arity, first_variable, variable_count, max_equations, max_tasks, max_side_nodes, position_count, max_task_nodes, filling_node, node_count, row_cells, cell_count, first_equation_line, max_steps, max_elements, max_lines, max_turns, no_position, record_bytes, table_bytes, scratch_bytes, term_bytes, log_bytes};
 
+#[derive(Clone, Copy)]
 pub struct Limits;
 
 impl Limits {

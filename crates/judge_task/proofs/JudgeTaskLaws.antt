@@ -81,11 +81,11 @@ module _ {sheet : List ℕ} {known : Known} {from end : ℕ} {equations lengths 
   holding_low h = omega (arith, holding_few v h)
 
 -- 3. The number, by what the walks gave.
-none_holds : {line n : ℕ} → line ≡ 0 → n ≡ 0 → n ≡ judge_fields line
+pub none_holds : {line n : ℕ} → line ≡ 0 → n ≡ 0 → n ≡ judge_fields line
 unfolding judge_fields fields
 none_holds h e = e ∙ sym (ap judge_fields h)
 
-some_holds : (line : ℕ) {n : ℕ} → (line ≡ 0 → ⊥) → n ≡ fields 1 line 0 → n ≡ judge_fields line
+pub some_holds : (line : ℕ) {n : ℕ} → (line ≡ 0 → ⊥) → n ≡ fields 1 line 0 → n ≡ judge_fields line
 unfolding judge_fields
 some_holds zero h e = absurd (h refl)
 some_holds (suc i) h e = e

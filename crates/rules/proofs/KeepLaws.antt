@@ -58,7 +58,7 @@ module _ {e : Equation} (w : WithinLimits e) (d : Direction) {memory : List ℕ}
   rule_lines = record { proper = walked_proper w d (ends w d l x).1; tests = holds_there }
 
   module _ (start : ℕ) (before after : List ℕ) (kept : Maybe ℕ) (k : (ls : List Line) → RecordsAre memory this.lines ls → KeptAs ls start before after kept) where
-    lines_kept : {end : ℕ} → kept ≡ Some end
+    pub lines_kept : {end : ℕ} → kept ≡ Some end
         → Solves e d × (ls : List Line) × RuleLines e d ls × (end ≡ start + length (trimmed_lines ls)) × (end ≤ table_bytes) × (after ≡ placed start (trimmed_lines ls) before)
     lines_kept y = let (ends_there, room, there) = subst (KeptAs (walked_lines w d l x) start before after) y (k (walked_lines w d l x) (records_there w d l x)) in (solves w d l x, walked_lines w d l x, rule_lines, ends_there, room, there)
 

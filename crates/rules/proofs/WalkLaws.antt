@@ -234,12 +234,12 @@ module _ {equations lengths : List ℕ} {count : ℕ} {table₀ scratch₀ bound
 -- All rules are walked.
 module _ {equations lengths : List ℕ} {count : ℕ} {table₀ scratch₀ bounds table scratch : List ℕ} {fits : Bool} {start rule : ℕ} (w : Walking equations lengths count table₀ scratch₀ bounds table scratch fits start rule)
     (all : count + count ≤ rule) (arities : List ℕ) (es : List Equation) (r : RowsAre equations lengths arities es) (c : count ≡ length es) where
-  all_solve : (first_refusal 0 es ≡ none) × EverySolves es
+  pub all_solve : (first_refusal 0 es ≡ none) × EverySolves es
   all_solve =
       let s : SolvedBefore es (2 * length es) = λ i e d x l. (w.so_far arities es r c).solve i e d x (omega arith) in
       let all = solved_all es s in (none_refused 0 es all, all)
 
-  all_kept : fits ≡ true → RulesAt bounds table es
+  pub all_kept : fits ≡ true → RulesAt bounds table es
   all_kept f i e d x = ((w.so_far arities es r c).kept f i e d x (omega (arith, rule_low i d (entry_length es i x)))).0
 
   pub all_walked : WalksAs es bounds table (Ok fits)

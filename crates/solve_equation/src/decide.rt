@@ -17,7 +17,7 @@ use terms::measure::measure;
 
 // Yes or no, with "the turns taken by then".
 #[derive(Clone, Copy)]
-pub struct Decision {
+pub struct Answer {
     pub yes: bool,
     pub turns: u16,
 }
@@ -29,7 +29,7 @@ fn decide_positions(
     source: usize,
     target: usize,
     memory: &mut [u8],
-) -> Result<Decision, Refusal>
+) -> Result<Answer, Refusal>
     requires in_prefix_form { InPrefixForm nodes.now sizes.now × (source < length nodes.now) × (target < length nodes.now) }
     requires memory_len { length memory.old ≡ memory_bytes }
     ensures { answered_as result ≡ decided nodes.now sizes.now source target }
@@ -37,7 +37,7 @@ fn decide_positions(
     let walk = walk_between(nodes, sizes, source, target, true, memory)?;
     // A line is left unfinished exactly if the walk has stopped.
     let yes = walk.top < Limits::LINES;
-    Ok(Decision {
+    Ok(Answer {
         yes,
         turns: walk.turns,
     })
@@ -49,7 +49,7 @@ pub fn decide_equation(
     arities: &[u8],
     direction: Direction,
     scratch: &mut [u8],
-) -> Result<Decision, Refusal>
+) -> Result<Answer, Refusal>
     requires { HasEquation bytes.now arities.now × (memory_bytes ≤ length scratch.old) }
     ensures result_value { (e : Equation) → EquationIs bytes.now arities.now e → answered_as result ≡ always e direction }
     ensures scratch_unchanged { drop memory_bytes scratch.new ≡ drop memory_bytes scratch.old }

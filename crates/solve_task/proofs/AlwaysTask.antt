@@ -13,7 +13,7 @@ use Rattle.outcomes.specs.Buffer.{fields, refusal_number, filled, cleared, blank
 use Rattle.outcomes.specs.Outcome.{table_unsolved, answer_number, always_answered}
 use Rattle.outcomes.specs.Theory.Outcomes.{table_outcome}
 use Rattle.std.specs.Prelude.{Result, Ok, Err}
-use Rattle.solve_equation.specs.declared.decide.Decision.{Decision}
+use Rattle.solve_equation.specs.declared.decide.Answer.{Answer}
 
 -- Part by part: to rewrite in the whole outcome takes seconds.
 same_outcome : {m n : ℕ} {table table₁ scratch scratch₁ : List ℕ} → n ≡ m → table₁ ≡ table → scratch₁ ≡ scratch → table_outcome m table scratch ≡ table_outcome n table₁ scratch₁
@@ -24,8 +24,8 @@ unfolding answer_number
 yes_number true = refl
 yes_number false = refl
 
-module _ (equation : ℕ) (table scratch : List ℕ) {a : Answered} {r : Result Decision Refusal} (told : answered_as r ≡ a) {n : ℕ} {blank last : List ℕ} (b : blank ≡ filled table_bytes no_position table) (c : last ≡ cleared scratch) where
-  pub always_decided : {d : Decision} → r ≡ Ok d → n ≡ fields (answer_number d.yes) d.turns 0 → always_answered equation table scratch a ≡ table_outcome n blank last
+module _ (equation : ℕ) (table scratch : List ℕ) {a : Answered} {r : Result Answer Refusal} (told : answered_as r ≡ a) {n : ℕ} {blank last : List ℕ} (b : blank ≡ filled table_bytes no_position table) (c : last ≡ cleared scratch) where
+  pub always_decided : {d : Answer} → r ≡ Ok d → n ≡ fields (answer_number d.yes) d.turns 0 → always_answered equation table scratch a ≡ table_outcome n blank last
   unfolding always_answered answered_as blanked
   always_decided x e = ap (always_answered equation table scratch) (sym told ∙ ap answered_as x) ∙ same_outcome e b c
 

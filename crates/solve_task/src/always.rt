@@ -8,6 +8,7 @@ use outcomes::number::{fields_number, refusal_number};
 use solve_equation::decide::decide_equation;
 use terms::direction::Direction;
 
+#[derive(Clone, Copy)]
 pub struct Always;
 
 impl DirectedCall for Always {

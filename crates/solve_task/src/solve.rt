@@ -8,6 +8,7 @@ use outcomes::number::{fields_number, refusal_number};
 use solve_equation::solve::solve_equation;
 use terms::direction::Direction;
 
+#[derive(Clone, Copy)]
 pub struct Solve;
 
 impl DirectedCall for Solve {

@@ -325,7 +325,7 @@ module _ {equations lengths : List ℕ} {rules : ℕ} {nodes₀ sizes₀ : List 
     abbrev Next : (best : ℕ) (found : Maybe FoundStep) → Type 0
     Next best' found' = Finding equations lengths rules nodes₀ sizes₀ n table₀ scratch₀ after_table after_nodes after_sizes after_scratch best' found' (rule + 1)
 
-    finding_better : node < best → Next node (Some (record { rule = rule; node = node }))
+    pub finding_better : node < best → Next node (Some (record { rule = rule; node = node }))
     finding_better b = record {
       table_length = same_table ∙ k.table_length;
       scratch_length = same_scratch ∙ k.scratch_length;
@@ -358,7 +358,7 @@ module _ {equations lengths : List ℕ} {rules : ℕ} {nodes₀ sizes₀ : List 
           };
     }
 
-    finding_same : best ≤ node → Next best found
+    pub finding_same : best ≤ node → Next best found
     finding_same b = record {
       table_length = same_table ∙ k.table_length;
       scratch_length = same_scratch ∙ k.scratch_length;
@@ -405,7 +405,7 @@ module _ {equations lengths : List ℕ} {rules : ℕ} {nodes₀ sizes₀ : List 
     none_at : (p j : ℕ) (e : Equation) (c : Direction) → position_count + p < best → entry es j ≡ some e → try (filling arities) line_test subject p (part_at subject p) j e c ≡ none
     none_at p j e c l x = (k.so_far arities es subject a).none_before p j e c l x (omega (arith, a.counted, rule_low j c (entry_length es j x)))
 
-    step_found : {rule' : ℕ} → FoundHere arities es subject best rule' → StepAt arities es subject rule' best
+    pub step_found : {rule' : ℕ} → FoundHere arities es subject best rule' → StepAt arities es subject rule' best
     step_found f =
         record {
           number = f.number;
@@ -427,7 +427,7 @@ module _ {equations lengths : List ℕ} {rules : ℕ} {nodes₀ sizes₀ : List 
           });
         }
 
-    nothing_found : position_count + size subject ≤ best → step (filling arities) line_test es subject ≡ none
+    pub nothing_found : position_count + size subject ≤ best → step (filling arities) line_test es subject ≡ none
     nothing_found l = step_none (filling arities) line_test subject es (λ p j c m e x. none_at p j e c (omega (arith, l)) x)
 
     pub all_tried : FoundIs arities es subject found

@@ -4,9 +4,9 @@ use Rattle.format.specs.declared.refusal.Refusal.{Refusal}
 use Rattle.solving.specs.Walk.{enough}
 use Rattle.solving.specs.Always.{always_walk, Answered, answered, unanswered, answer_of}
 use Rattle.bindings.specs.ForContracts.PrefixForm.{view_of}
-use Rattle.solve_equation.specs.declared.decide.Decision.{Decision}
+use Rattle.solve_equation.specs.declared.decide.Answer.{Answer}
 
-unfoldable pub answered_as : Result Decision Refusal → Answered
+unfoldable pub answered_as : Result Answer Refusal → Answered
 answered_as (Ok d) = answered d.yes d.turns
 answered_as (Err r) = unanswered r
 
