@@ -33,6 +33,8 @@ fn meet(nodes: &[u8], sizes: &[u8], v: usize, node: usize, values: &mut [u8]) ->
 }
 
 // Whether the side matches the term at `node`. If so, `values` has the node of the term that each variable met, and the filling's for those that met none.
+// Compiled into its callers: a run matches a side at each node and rule, and a call there took a fifth of its time.
+#[inline(always)]
 pub fn match_side(
     bytes: &[u8],
     side: Arguments,
