@@ -14,8 +14,8 @@ abbrev pub out_bytes : ℕ
 out_bytes = 65536
 
 pub record Printing (input equations lengths bounds table scratch out : List ℕ) (cursor : Cursor) : Type 0 where
-  pub stands : StandsAt input cursor.opened.known cursor.opened.fits equations lengths bounds table scratch cursor.place
   pub more : cursor.place ≡ End → ⊥
+  pub stands : StandsAt input cursor.opened.known cursor.opened.fits equations lengths bounds table scratch cursor.place
   pub equations_room : length equations ≡ row_bytes
   pub lengths_room : length lengths ≡ row_bytes
   pub bounds_room : length bounds ≡ bound_count

@@ -7,8 +7,8 @@ use Rattle.examiner.proofs.print_listing.Goals as goal
 
 pub loop-equations-init : goal.loop-equations-init
 loop-equations-init g c = record {
-  stands = at_start;
   more = λ e. let z : ◌≡◌ {A = ℕ} 0 1 = cc in omega arith;
+  stands = at_start;
   equations_room = refl;
   lengths_room = refl;
   bounds_room = refl;
